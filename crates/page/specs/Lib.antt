@@ -1,0 +1,12 @@
+pub mod Bytes
+pub mod Lines
+pub mod Fields
+pub mod Tables
+pub mod Cut
+pub mod Dates
+pub mod Header
+pub mod Marks
+pub mod Section
+pub mod Records
+pub mod Places
+pub mod Trailer

@@ -1,0 +1,75 @@
+-- A section's records: their values, whose the texts are, and the lines where they stand.
+use mathlib.Core.Bool.{Bool, true, false, not, _&&_}
+use mathlib.Core.List.{List, [], _∷_, map}
+use mathlib.Core.Option.{Option, none, some}
+use Prim.Native.Nat.{ℕ, suc, _+_}
+use lib.Dec.{eqb}
+use lib.ListN.{length, getD}
+use Rattle.page.specs.Bytes.{Bytes, pick, same}
+use Rattle.page.specs.Lines.{content, command, rest, Rec, Com}
+use Rattle.page.specs.Fields.{fields, numberOf}
+use Rattle.page.specs.Tables.{Named, standing, table-named}
+use Rattle.page.specs.Cut.{Section}
+use Rattle.page.specs.Marks.{remarkOf, owner-of}
+use Rattle.page.specs.Section.{record-text, amount, outcome}
+use Rattle.page.specs.declared.Owner.{Owner}
+use Rattle.page.specs.declared.Remark.{Remark}
+use Rattle.page.specs.declared.Remark.the-variants as R
+use Rattle.page.specs.declared.Column.{Column}
+
+-- a record's value: a number, or a text with its owner
+pub data Datum : Type 0 where
+  number : ℕ → Datum
+  words : Owner → Bytes → Datum
+
+abbrev pub Record : Type 0
+Record = List Datum
+
+-- a record and its line within the section, from 1
+pub record Entry : Type 0 where
+  pub line : ℕ
+  pub values : Record
+
+abbrev pub own-bytes : Option Bytes → Bytes
+own-bytes none = []
+own-bytes (some t) = t
+
+unfoldable pub datumOf : Owner → Column → Bytes → Datum
+datumOf o c f = pick (c .text) (words o (own-bytes (record-text f))) (number (amount (numberOf f)))
+
+-- the values of a record's fields, the first counted as i, where a mark of field m waits
+unfoldable pub valuesOf : ℕ → ℕ → List Named → List Bytes → Record
+valuesOf m i [] fs = []
+valuesOf m i (c ∷ cs) [] = []
+valuesOf m i (c ∷ cs) (f ∷ fs) = datumOf (owner-of m i) (c .column) f ∷ valuesOf m (suc i) cs fs
+
+-- the mark that waits after a `com` line: "It speaks of the next `rec`."
+abbrev pub waiting : ℕ → Remark → ℕ
+waiting m R.Comment = m
+waiting m R.Unreadable = m
+waiting m (R.Mark i) = i
+
+unfoldable pub waits : ℕ → Bytes → ℕ
+waits m c = pick (eqb (command c) Com) (waiting m (remarkOf (rest c))) m
+
+unfoldable pub record-in : ℕ → ℕ → Bytes → Record
+record-in t m c = valuesOf m 1 (standing t) (fields (rest c))
+
+-- the records of a sound section's lines; n lines have been read, and a mark of field m waits
+unfoldable pub entries : ℕ → ℕ → ℕ → List Bytes → List Entry
+entries t m n [] = []
+entries t m n (l ∷ ls) =
+    pick (eqb (command (content l)) Rec) (record { line = suc n; values = record-in t m (content l) } ∷ entries t 0 (suc n) ls)
+    (entries t (waits m (content l)) (suc n) ls)
+
+-- the table that a section's first line names, by its place in the list of tables
+unfoldable pub table-of : List Bytes → ℕ
+table-of [] = table-named []
+table-of (l ∷ ls) = table-named (getD (fields (rest (content l))) 0 [])
+
+-- "A refused section hands out no records."
+unfoldable pub entriesOf : Bool → List Bytes → List Entry
+entriesOf latin ls = pick (eqb (outcome latin ls .verdict) 0) (entries (table-of ls) 0 0 ls) []
+
+unfoldable pub recordsOf : Bool → List Bytes → List Record
+recordsOf latin ls = map (λ (e : Entry). e .values) (entriesOf latin ls)

@@ -1,0 +1,216 @@
+-- A section's verdict: a machine over its lines, which counts records. Its records stand in Records.
+use mathlib.Core.Bool.{Bool, true, false, not, _&&_, _||_}
+use mathlib.Core.List.{List, [], _∷_}
+use mathlib.Core.Option.{Option, none, some}
+use Prim.Native.Nat.{ℕ, suc, _+_, _-_}
+use Prim.Native.String.{String}
+use lib.Dec.{eqb, leb, ltb}
+use lib.ListN.{length, getD, take, drop}
+use Rattle.page.specs.Bytes.{Bytes, bytes, pick, same, until}
+use Rattle.page.specs.Lines.{content, blank, command, rest, clean, Tbl, Atr, Frm, Rec, End, Com, Unknown}
+use Rattle.page.specs.Fields.{fields, textOf, numberOf, digit, digits, value}
+use Rattle.page.specs.Tables.{Named, number-at, width, columns, standing, table-named, table-count, points-from}
+use Rattle.page.specs.Marks.{remarkOf, may-mark}
+use Rattle.page.specs.declared.Number.{Number}
+use Rattle.page.specs.declared.Number.the-variants as N
+use Rattle.page.specs.declared.Column.{Column}
+use Rattle.page.specs.declared.Field.{Field}
+use Rattle.page.specs.declared.Field.the-variants as F
+use Rattle.page.specs.declared.Remark.{Remark}
+use Rattle.page.specs.declared.Remark.the-variants as R
+use Rattle.page.specs.declared.Phase.{Phase}
+use Rattle.page.specs.declared.Phase.the-variants as P
+use Rattle.page.specs.declared.Step.{Step}
+use Rattle.page.specs.declared.Step.the-variants as S
+use Rattle.page.specs.declared.Outcome.{Outcome}
+
+-- which of two steps
+unfoldable pub choose : Bool → Step → Step → Step
+choose true x y = x
+choose false x y = y
+
+-- the first of two numbers that is one
+abbrev pub first-of : ℕ → ℕ → ℕ
+first-of v w = pick (eqb v 0) w v
+
+-- `tbl; name`: 10, 7
+unfoldable pub tbl-step : List Bytes → Step
+tbl-step fs =
+    choose (eqb (length fs) 1)
+    (choose (ltb (table-named (getD fs 0 [])) table-count) (S.Go (P.Atr (table-named (getD fs 0 [])))) (S.Stop 7)) (S.Stop 10)
+
+-- "`atr` with exactly the columns below in this order": 8
+unfoldable pub names-same : List Named → List Bytes → Bool
+names-same [] [] = true
+names-same [] (f ∷ fs) = false
+names-same (c ∷ cs) [] = false
+names-same (c ∷ cs) (f ∷ fs) = same f (bytes (c .name)) && names-same cs fs
+
+unfoldable pub atr-step : ℕ → List Bytes → Step
+atr-step t fs = choose (names-same (columns t) fs) (S.Go (P.Frm t)) (S.Stop 8)
+
+-- "A format is `num[n.0]` or `char[n]` as the column's kind asks, n from 1 to 255 without leading zeros": 9
+abbrev pub no-digit : ℕ → Bool
+no-digit b = not (digit b)
+
+unfoldable pub size-ok : Bytes → Bool
+size-ok w = digits w && not (eqb (getD w 0 0) 48) && leb (value 0 w) 255
+
+-- the name, the size, and the tail
+unfoldable pub formed : Bytes → Bytes → Bytes → Bool
+formed name tail w =
+    same (take (length name) w) name && size-ok (take (until no-digit (drop (length name) w)) (drop (length name) w))
+    && same (drop (length name + until no-digit (drop (length name) w)) w) tail
+
+unfoldable pub format-ok : Bool → Bytes → Bool
+format-ok true w = formed (bytes "char[") (bytes "]") w
+format-ok false w = formed (bytes "num[") (bytes ".0]") w
+
+-- "`frm` with one format a column"
+unfoldable pub formats-ok : List Named → List Bytes → Bool
+formats-ok [] [] = true
+formats-ok [] (f ∷ fs) = false
+formats-ok (c ∷ cs) [] = false
+formats-ok (c ∷ cs) (f ∷ fs) = format-ok (c .column .text) f && formats-ok cs fs
+
+unfoldable pub frm-step : ℕ → List Bytes → Step
+frm-step t fs = choose (formats-ok (standing t) fs) (S.Go (P.Rows t 0 0)) (S.Stop 9)
+
+-- the text of a record's field
+unfoldable pub record-text : Bytes → Option Bytes
+record-text f = textOf f
+
+-- "11 or 12, then 13": 13 is a number out of range, or a text over its size, a doubled quote counting once
+unfoldable pub text-field : ℕ → Bytes → Option Bytes → Field
+text-field size f none = F.Refused 11
+text-field size f (some t) = pick (leb (length t) size) (F.Text (record { from = 1; to = length f - 1 })) (F.Refused 13)
+
+unfoldable pub number-field : ℕ → ℕ → Number → Field
+number-field lo hi (N.Plus n) = pick (leb lo n && leb n hi) (F.Number n) (F.Refused 13)
+number-field lo hi (N.Minus n) = F.Refused 13
+number-field lo hi N.Nothing = F.Refused 12
+
+unfoldable pub fieldOf : Column → Bytes → Field
+fieldOf c f = pick (c .text) (text-field (c .hi) f (record-text f)) (number-field (c .lo) (c .hi) (numberOf f))
+
+-- the paper's number for what a field is read as
+unfoldable pub field-number : Field → ℕ
+field-number (F.Text sp) = 0
+field-number (F.Number n) = 0
+field-number (F.Refused v) = v
+
+-- "each field from the left"
+unfoldable pub first-wrong : List Named → List Bytes → ℕ
+first-wrong [] fs = 0
+first-wrong (c ∷ cs) [] = 0
+first-wrong (c ∷ cs) (f ∷ fs) = first-of (field-number (fieldOf (c .column) f)) (first-wrong cs fs)
+
+-- 14: "the two points, type and number together" are the same
+abbrev pub amount : Number → ℕ
+amount (N.Plus n) = n
+amount (N.Minus n) = 0
+amount N.Nothing = 0
+
+unfoldable pub amount-at : List Bytes → ℕ → ℕ
+amount-at fs k = amount (numberOf (getD fs k []))
+
+unfoldable pub points-same : List Bytes → ℕ → Bool
+points-same fs p = eqb (amount-at fs p) (amount-at fs (p + 2)) && eqb (amount-at fs (p + 1)) (amount-at fs (p + 3))
+
+unfoldable pub same-points : ℕ → List Bytes → Bool
+same-points t fs = not (eqb (points-from t) 0) && points-same fs (points-from t)
+
+-- 15: the text that is marked is empty
+abbrev pub no-bytes : Option Bytes → Bool
+no-bytes none = false
+no-bytes (some []) = true
+no-bytes (some (b ∷ bs)) = false
+
+unfoldable pub empty-marked : ℕ → List Bytes → Bool
+empty-marked m fs = leb 1 m && no-bytes (record-text (getD fs (m - 1) []))
+
+-- "`rec` 10, each field from the left, 14, 15 for a marked empty text"
+unfoldable pub rec-verdict : ℕ → ℕ → List Bytes → ℕ
+rec-verdict t m fs =
+    pick (eqb (length fs) (width t))
+    (first-of (first-wrong (standing t) fs) (pick (same-points t fs) 14 (pick (empty-marked m fs) 15 0))) 10
+
+unfoldable pub rec-step : ℕ → ℕ → ℕ → List Bytes → Step
+rec-step t m n fs = choose (eqb (rec-verdict t m fs) 0) (S.Go (P.Rows t 0 (n + 1))) (S.Stop (rec-verdict t m fs))
+
+-- "`end` 15 for a mark without record, 10, 12, 16": "The count equals the number of `rec` lines."
+unfoldable pub count-step : ℕ → ℕ → Number → Step
+count-step t n (N.Plus c) = choose (eqb c n) (S.Go (P.Ended t n)) (S.Stop 16)
+count-step t n (N.Minus c) = S.Stop 16
+count-step t n N.Nothing = S.Stop 12
+
+unfoldable pub end-step : ℕ → ℕ → ℕ → List Bytes → Step
+end-step t m n fs =
+    choose (eqb m 0) (choose (eqb (length fs) 1) (count-step t n (numberOf (getD fs 0 []))) (S.Stop 10)) (S.Stop 15)
+
+-- "A mark that is unreadable, not allowed, not rising, before `frm` or after `end` is 15 at its own line."
+unfoldable pub mark-step : Phase → ℕ → Step
+mark-step P.Tbl i = S.Stop 15
+mark-step (P.Atr t) i = S.Stop 15
+mark-step (P.Frm t) i = S.Stop 15
+mark-step (P.Rows t m n) i = choose (may-mark t i && ltb m i) (S.Go (P.Rows t i n)) (S.Stop 15)
+mark-step (P.Ended t n) i = S.Stop 15
+
+unfoldable pub com-step : Phase → Remark → Step
+com-step p R.Comment = S.Go p
+com-step p R.Unreadable = S.Stop 15
+com-step p (R.Mark i) = mark-step p i
+
+-- a line of a known command k, other than `com`, with w after its first `;`: "known command out of its order" is 6
+unfoldable pub line-step : Phase → ℕ → Bytes → Step
+line-step P.Tbl k w = choose (eqb k Tbl) (tbl-step (fields w)) (S.Stop 6)
+line-step (P.Atr t) k w = choose (eqb k Atr) (atr-step t (fields w)) (S.Stop 6)
+line-step (P.Frm t) k w = choose (eqb k Frm) (frm-step t (fields w)) (S.Stop 6)
+line-step (P.Rows t m n) k w =
+    choose (eqb k Rec) (rec-step t m n (fields w)) (choose (eqb k End) (end-step t m n (fields w)) (S.Stop 6))
+line-step (P.Ended t n) k w = S.Stop 6
+
+-- "in that line the first of 4, 5, 6, then" its command's own; c is the line's content
+unfoldable pub content-step : Bool → Phase → Bytes → Step
+content-step latin p c =
+    choose (clean latin c)
+    (choose (blank c) (S.Go p)
+    (choose (leb Unknown (command c)) (S.Stop 5)
+    (choose (eqb (command c) Com) (com-step p (remarkOf (rest c))) (line-step p (command c) (rest c)))))
+    (S.Stop 4)
+
+unfoldable pub step : Bool → Phase → Bytes → Step
+step latin p l = content-step latin p (content l)
+
+-- "Table number is 0 if the `tbl` line fails"
+unfoldable pub table-in : Phase → ℕ
+table-in P.Tbl = 0
+table-in (P.Atr t) = number-at t
+table-in (P.Frm t) = number-at t
+table-in (P.Rows t m n) = number-at t
+table-in (P.Ended t n) = number-at t
+
+-- "A refused section hands out no records, and its record count is 0."
+abbrev pub refused : ℕ → ℕ → ℕ → Outcome
+refused t v n = record { table = t; records = 0; verdict = v; line = n }
+
+-- "section ends without `end` (place: its last line; only if no line fails)": n lines have been read
+unfoldable pub finish : Phase → ℕ → Outcome
+finish P.Tbl n = refused 0 6 n
+finish (P.Atr t) n = refused (number-at t) 6 n
+finish (P.Frm t) n = refused (number-at t) 6 n
+finish (P.Rows t m k) n = refused (number-at t) 6 n
+finish (P.Ended t k) n = record { table = number-at t; records = k; verdict = 0; line = 0 }
+
+-- "A section gives its first failing line": what follows the step of line n
+unfoldable pub continue : Step → ℕ → ℕ → (Phase → Outcome) → Outcome
+continue (S.Go p) t n further = further p
+continue (S.Stop v) t n further = refused t v n
+
+unfoldable pub run : Bool → Phase → ℕ → List Bytes → Outcome
+run latin p n [] = finish p n
+run latin p n (l ∷ ls) = continue (step latin p l) (table-in p) (suc n) (λ q. run latin q (suc n) ls)
+
+-- a section's answer, of its lines
+unfoldable pub outcome : Bool → List Bytes → Outcome
+outcome latin ls = run latin P.Tbl 0 ls

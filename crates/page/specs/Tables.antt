@@ -1,0 +1,142 @@
+-- The eight tables: "The columns, kinds, ranges and keys stand once".
+use mathlib.Core.Bool.{Bool, true, false}
+use mathlib.Core.List.{List, [], _∷_, map}
+use Prim.Native.Nat.{ℕ}
+use Prim.Native.String.{String}
+use lib.ListN.{length, getD}
+use Rattle.page.specs.Bytes.{Bytes}
+use Rattle.page.specs.Lines.{find}
+use Rattle.page.specs.declared.Column.{Column}
+
+pub record Named : Type 0 where
+  pub name : String
+  pub column : Column
+
+-- a reference: the columns (from 0) that hold the primary key of a record of the named table
+pub record Reference : Type 0 where
+  pub columns : List ℕ
+  pub target : String
+
+pub record Table : Type 0 where
+  pub number : ℕ
+  pub name : String
+  pub columns : List Named
+  pub references : List Reference
+
+-- "P marks the primary key, C the second key"; F a text that may be marked and filled
+pub data Mark : Type 0 where
+  plain P C PC F : Mark
+
+abbrev pub in-primary : Mark → Bool
+in-primary plain = false
+in-primary P = true
+in-primary C = false
+in-primary PC = true
+in-primary F = false
+
+abbrev pub in-second : Mark → Bool
+in-second plain = false
+in-second P = false
+in-second C = true
+in-second PC = true
+in-second F = false
+
+abbrev pub may-fill : Mark → Bool
+may-fill plain = false
+may-fill P = false
+may-fill C = false
+may-fill PC = false
+may-fill F = true
+
+abbrev pub column-of : Bool → ℕ → ℕ → ℕ → Mark → Column
+column-of text lo hi size m =
+    record { text = text; lo = lo; hi = hi; size = size; primary = in-primary m; second = in-second m; fillable = may-fill m }
+
+-- a number from lo to hi, written with its 452 decimal size; a text of at most `size` bytes
+abbrev pub num : String → ℕ → ℕ → ℕ → Mark → Named
+num name lo hi size m = record { name = name; column = column-of false lo hi size m }
+
+abbrev pub char : String → ℕ → Mark → Named
+char name size m = record { name = name; column = column-of true 0 size size m }
+
+abbrev pub version : Mark → Named
+version m = num "BASIS_VERSION" 1 999999999 9 m
+
+abbrev pub day-type : Mark → Named
+day-type m = num "TAGESART_NR" 1 999 3 m
+
+-- the columns that 225 and 247 share
+abbrev pub region : Named
+region = num "BEREICH_NR" 0 252 3 P
+
+abbrev pub points : List Named → List Named
+points more =
+    num "ONR_TYP_NR" 1 2 2 P ∷ num "ORT_NR" 1 999999 6 P ∷ num "UEB_ZIEL_TYP" 1 2 2 P ∷ num "UEB_ZIEL" 1 999999 6 P ∷ more
+
+abbrev pub to : List ℕ → String → Reference
+to columns target = record { columns = columns; target = target }
+
+-- "(1) every table but 485 by V to 485"
+abbrev pub to-version : Reference
+to-version = to (0 ∷ []) "MENGE_BASIS_VERSIONEN"
+
+abbrev pub table : ℕ → String → List Named → List Reference → Table
+table number name columns references = record { number = number; name = name; columns = columns; references = references }
+
+unfoldable pub all-tables : List Table
+all-tables =
+    table 485 "MENGE_BASIS_VERSIONEN" (version P ∷ char "BASIS_VERSION_TEXT" 40 F ∷ []) [] ∷
+    table 993 "BASIS_VER_GUELTIGKEIT" (num "VER_GUELTIGKEIT" 1 99999999 8 P ∷ version plain ∷ []) (to (1 ∷ []) "MENGE_BASIS_VERSIONEN" ∷ []) ∷
+    table 348 "FIRMENKALENDER"
+    (version P ∷ num "BETRIEBSTAG" 1 99999999 8 P ∷ char "BETRIEBSTAG_TEXT" 40 F ∷ day-type plain ∷ [])
+    (to-version ∷ to (0 ∷ 3 ∷ []) "MENGE_TAGESART" ∷ []) ∷
+    table 290 "MENGE_TAGESART" (version P ∷ day-type P ∷ char "TAGESART_TEXT" 40 F ∷ []) (to-version ∷ []) ∷
+    table 998 "MENGE_ONR_TYP"
+    (version PC ∷ num "ONR_TYP_NR" 1 7 2 P ∷ char "STR_ONR_TYP" 6 C ∷ char "ONR_TYP_TEXT" 40 F ∷ [])
+    (to-version ∷ []) ∷
+    table 332 "MENGE_FAHRTART" (version PC ∷ num "FAHRTART_NR" 1 4 2 P ∷ char "STR_FAHRTART" 6 C ∷ []) (to-version ∷ []) ∷
+    table 225 "REC_UEB" (version P ∷ region ∷ points (num "UEB_LAENGE" 1 81890 6 plain ∷ []))
+    (to-version ∷ to (0 ∷ 2 ∷ []) "MENGE_ONR_TYP" ∷ to (0 ∷ 4 ∷ []) "MENGE_ONR_TYP" ∷ []) ∷
+    table 247 "UEB_FZT" (version P ∷ region ∷ num "FGR_NR" 1 999999999 9 P ∷ points (num "UEB_FAHRZEIT" 1 65532 6 plain ∷ []))
+    (to-version ∷ to (0 ∷ 1 ∷ 3 ∷ 4 ∷ 5 ∷ 6 ∷ []) "REC_UEB" ∷ []) ∷
+    []
+
+-- table t of the list, and its column k, from 0; past the end, nothing
+abbrev pub no-table : Table
+no-table = table 0 "" [] []
+
+abbrev pub no-column : Named
+no-column = num "" 0 0 0 plain
+
+unfoldable pub table-at : ℕ → Table
+table-at t = getD all-tables t no-table
+
+unfoldable pub number-at : ℕ → ℕ
+number-at t = table-at t .number
+
+unfoldable pub columns : ℕ → List Named
+columns t = table-at t .columns
+
+unfoldable pub width : ℕ → ℕ
+width t = length (columns t)
+
+unfoldable pub column-at : ℕ → ℕ → Column
+column-at t k = getD (columns t) k no-column .column
+
+unfoldable pub name-at : ℕ → ℕ → String
+name-at t k = getD (columns t) k no-column .name
+
+-- a table by its name: its place in the list, or one past the last
+unfoldable pub table-named : Bytes → ℕ
+table-named w = find 0 (map (λ (t : Table). t .name) all-tables) w
+
+abbrev pub table-count : ℕ
+table-count = 8
+
+-- "In 225 and 247 the two points, type and number together, differ": the column (from 0) where the four of them begin; 0: none
+unfoldable pub points-from : ℕ → ℕ
+points-from t = getD (0 ∷ 0 ∷ 0 ∷ 0 ∷ 0 ∷ 0 ∷ 2 ∷ 3 ∷ []) t 0
+
+-- "`atr` with exactly the columns below in this order": the columns of a section of table t, as they stand in its lines
+unfoldable pub standing : ℕ → List Named
+standing t = columns t
