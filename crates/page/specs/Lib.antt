@@ -10,3 +10,15 @@ pub mod Section
 pub mod Records
 pub mod Places
 pub mod Trailer
+pub mod Head
+pub mod Answers
+pub mod File
+pub mod Reading
+pub mod Model
+pub mod Form
+pub mod Writing
+pub mod Listing
+pub mod Open
+pub mod Cases
+pub mod Fourteen
+pub mod Sample
