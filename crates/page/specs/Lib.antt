@@ -22,3 +22,6 @@ pub mod Open
 pub mod Cases
 pub mod Fourteen
 pub mod Sample
+pub mod Grammar
+pub mod Rules
+pub mod Refusals
