@@ -25,3 +25,4 @@ pub mod Sample
 pub mod Grammar
 pub mod Rules
 pub mod Refusals
+pub mod Settled
