@@ -8,7 +8,7 @@ use std::fs;
 use std::path::PathBuf;
 
 use common::answer;
-use reader::listing;
+use reader::{check, listing, strip, write, Answer};
 
 fn folder() -> PathBuf {
     PathBuf::from(env!("CARGO_MANIFEST_DIR")).join("../../cases")
@@ -98,4 +98,48 @@ fn the_expected_output_is_every_name_and_listing() {
     }
     let stdout = fs::read(folder().join("stdout")).unwrap();
     assert!(stdout == expected, "stdout is not what is listed");
+}
+
+#[test]
+fn sound_cases_have_a_form_and_the_others_their_own_answer() {
+    for (name, file) in cases() {
+        let mut out = vec![7; 8192];
+        let written = write(&file, &mut out);
+        match check(&file) {
+            Answer::SOUND => {
+                let form = &out[..written.unwrap()];
+                let mut again = vec![0; form.len()];
+                assert_eq!(write(form, &mut again), Ok(form.len()), "{name}");
+                assert_eq!(again, form, "{name}");
+            }
+            refusal => {
+                assert_eq!(written, Err(refusal), "{name}");
+                assert_eq!(out, vec![7; 8192], "{name}");
+            }
+        }
+    }
+}
+
+#[test]
+fn stripping_twice_is_stripping_once() {
+    for (name, file) in cases() {
+        let mut once = vec![0; 8192];
+        let Ok(length) = strip(&file, &mut once) else {
+            continue;
+        };
+        let mut twice = vec![0; length];
+        assert_eq!(strip(&once[..length], &mut twice), Ok(length), "{name}");
+        assert_eq!(twice, once[..length], "{name}");
+    }
+}
+
+#[test]
+fn every_cut_is_answered() {
+    for file in cases().values() {
+        for length in 0..file.len() {
+            let cut = &file[..length];
+            assert!(check(cut).number <= 20);
+            assert!(listing(cut).ends_with(b"\n"));
+        }
+    }
 }
