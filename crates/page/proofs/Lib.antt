@@ -1,1 +1,3 @@
 pub mod ScanLaws
+pub mod LineLaws
+pub mod CutLaws
