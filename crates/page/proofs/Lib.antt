@@ -1,3 +1,4 @@
 pub mod ScanLaws
 pub mod LineLaws
 pub mod CutLaws
+pub mod ContentLaws
