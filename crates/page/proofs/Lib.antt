@@ -1,0 +1,5 @@
+pub mod ScanLaws
+pub mod LineLaws
+pub mod CutLaws
+pub mod ContentLaws
+pub mod FieldLaws
