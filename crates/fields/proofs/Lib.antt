@@ -1,1 +1,2 @@
 pub mod MagnitudeLaws
+pub mod SizeLaws
