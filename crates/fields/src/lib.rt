@@ -1,5 +1,6 @@
 // One field of a line: a slice that is trimmed already, read as document 01 says.
 mod columns;
+mod formats;
 mod numbers;
 mod texts;
 
@@ -7,6 +8,8 @@ pub use columns::amount_of;
 pub use columns::read_field;
 pub use columns::read_number_field;
 pub use columns::read_text_field;
+pub use formats::is_format;
+pub use formats::is_formed;
 pub use numbers::Magnitude;
 pub use numbers::is_digit;
 pub use numbers::read_digits;
