@@ -166,6 +166,12 @@ pub enum Headed {
     Refused(Refusal),
 }
 
+// The answer of a call that reads one section.
+pub enum Listed {
+    Is(Row),
+    Refused(Refusal),
+}
+
 // The answer of a call that reads one value.
 pub enum Got {
     Is(Value),

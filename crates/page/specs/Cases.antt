@@ -1,0 +1,66 @@
+-- Inputs and what the definitions say of them, for the computed lists.
+use mathlib.Core.Bool.{Bool, true, false}
+use mathlib.Core.List.{List, [], _∷_, _++_, map}
+use mathlib.Core.Option.{Option}
+use Prim.Native.Nat.{ℕ}
+use Prim.Native.String.{String}
+use Rattle.page.specs.Bytes.{Bytes, bytes}
+use Rattle.page.specs.Lines.{lines, command}
+use Rattle.page.specs.Fields.{textOf}
+use Rattle.page.specs.Header.{headOf}
+use Rattle.page.specs.Section.{outcome}
+use Rattle.page.specs.File.{file-refusal}
+use Rattle.page.specs.declared.Outcome.{Outcome}
+use Rattle.page.specs.declared.Finding.{Finding}
+use Rattle.page.specs.declared.Refusal.{Refusal}
+
+-- a line's content, a field, a header, a section under ASCII (false) or ISO8859-1 (true), a file
+pub data Case : Type 0 where
+  content-case field-case header-case file-case : Bytes → Case
+  section-case : Bool → Bytes → Case
+
+pub data Answer : Type 0 where
+  a-command : ℕ → Answer
+  a-text : Option Bytes → Answer
+  a-finding : Finding → Answer
+  a-section : Outcome → Answer
+  a-file : Refusal → Answer
+
+unfoldable pub answer : Case → Answer
+answer (content-case c) = a-command (command c)
+answer (field-case f) = a-text (textOf f)
+answer (header-case s) = a-finding (headOf (lines s))
+answer (section-case latin s) = a-section (outcome latin (lines s))
+answer (file-case s) = a-file (file-refusal s)
+
+-- table, records, verdict, line
+abbrev pub says : ℕ → ℕ → ℕ → ℕ → Answer
+says t k v n = a-section (record { table = t; records = k; verdict = v; line = n })
+
+abbrev pub heads : ℕ → ℕ → Answer
+heads v n = a-finding (record { verdict = v; line = n })
+
+-- number, section, line
+abbrev pub files : ℕ → ℕ → ℕ → Answer
+files v i n = a-file (record { number = v; section = i; line = n })
+
+-- a section's lines: its head, and what follows
+unfoldable pub versions : String → Bytes
+versions more = bytes "tbl; MENGE_BASIS_VERSIONEN\natr; BASIS_VERSION; BASIS_VERSION_TEXT\nfrm; num[9.0]; char[40]\n" ++ bytes more
+
+unfoldable pub day-types : String → Bytes
+day-types more =
+    bytes "tbl; MENGE_TAGESART\natr; BASIS_VERSION; TAGESART_NR; TAGESART_TEXT\nfrm; num[9.0]; num[3.0]; char[40]\n" ++ bytes more
+
+unfoldable pub point-types : String → Bytes
+point-types more =
+    bytes "tbl; MENGE_ONR_TYP\natr; BASIS_VERSION; ONR_TYP_NR; STR_ONR_TYP; ONR_TYP_TEXT\nfrm; num[9.0]; num[2.0]; char[6]; char[40]\n" ++ bytes more
+
+unfoldable pub links : String → Bytes
+links more =
+    bytes "tbl; REC_UEB\natr; BASIS_VERSION; BEREICH_NR; ONR_TYP_NR; ORT_NR; UEB_ZIEL_TYP; UEB_ZIEL; UEB_LAENGE\n" ++
+    (bytes "frm; num[9.0]; num[3.0]; num[2.0]; num[6.0]; num[2.0]; num[6.0]; num[6.0]\n" ++ bytes more)
+
+unfoldable pub head : Bytes
+head =
+    bytes "mod; DD.MM.YYYY; HH:MM:SS; free\nsrc; \"Desk\"; \"01.02.2024\"; \"06:00:00\"\nchs; \"ISO8859-1\"\nver; \"1\"\nifv; \"1.0\"\n"

@@ -1,0 +1,127 @@
+-- What a sound section is, with no machine and no order of checks: these lines denote this table with these records.
+use mathlib.Core.Path.{_≡_}
+use mathlib.Core.Bool.{Bool, true, false, _||_}
+use mathlib.Core.List.{List, [], _∷_, map, List·Memᴰ}
+use mathlib.Core.Option.{some}
+use Prim.Native.Nat.{ℕ, suc, _+_, _≤_, _<_}
+use lib.Dec.{eqb}
+use lib.ListN.{length, getD}
+use Rattle.page.specs.Bytes.{Bytes, bytes, pick}
+use Rattle.page.specs.Lines.{content, blank, command, rest, clean, Tbl, Atr, Frm, Rec, End, Com}
+use Rattle.page.specs.Fields.{fields, numberOf}
+use Rattle.page.specs.Tables.{Named, table-at, table-count, columns, standing, points-from}
+use Rattle.page.specs.Marks.{remarkOf, may-mark}
+use Rattle.page.specs.Section.{format-ok, record-text}
+use Rattle.page.specs.Records.{Datum, number, words, Record}
+use Rattle.page.specs.declared.Number.the-variants as N
+use Rattle.page.specs.declared.Owner.{Owner}
+use Rattle.page.specs.declared.Owner.the-variants as O
+use Rattle.page.specs.declared.Remark.the-variants as R
+use Rattle.page.specs.declared.Column.{Column}
+
+abbrev pub fields-of : Bytes → List Bytes
+fields-of l = fields (rest (content l))
+
+-- a line of command k, all of whose bytes are allowed in it
+pub record Says (latin : Bool) (k : ℕ) (l : Bytes) : Type 0 where
+  pub clean : clean latin (content l) ≡ true
+  pub named : command (content l) ≡ k
+
+-- a line that says nothing: blank, or an ordinary comment
+pub data Quiet (latin : Bool) (l : Bytes) : Type 0 where
+  empty : clean latin (content l) ≡ true → blank (content l) ≡ true → Quiet latin l
+  remark : Says latin Com l → remarkOf (rest (content l)) ≡ R.Comment → Quiet latin l
+
+-- "`tbl; name`": table t of the list
+pub record TblLine (latin : Bool) (t : ℕ) (l : Bytes) : Type 0 where
+  pub says : Says latin Tbl l
+  pub known : t < table-count
+  pub name : fields-of l ≡ bytes (table-at t .name) ∷ []
+
+-- "`atr` with exactly the columns below in this order"
+pub record AtrLine (latin : Bool) (t : ℕ) (l : Bytes) : Type 0 where
+  pub says : Says latin Atr l
+  pub names : fields-of l ≡ map (λ (c : Named). bytes (c .name)) (columns t)
+
+-- "`frm` with one format a column"
+pub data Formats : List Named → List Bytes → Type 0 where
+  no-format : Formats [] []
+  a-format : {c : Named} {cs : List Named} {f : Bytes} {fs : List Bytes} → format-ok (c .column .text) f ≡ true → Formats cs fs → Formats (c ∷ cs) (f ∷ fs)
+
+pub record FrmLine (latin : Bool) (t : ℕ) (l : Bytes) : Type 0 where
+  pub says : Says latin Frm l
+  pub formats : Formats (standing t) (fields-of l)
+
+-- a field holds a value of its column: a number in its range, a text of its size
+pub data Holds (o : Owner) (c : Column) (f : Bytes) : Datum → Type 0 where
+  a-number : {n : ℕ} → c .text ≡ false → numberOf f ≡ N.Plus n → c .lo ≤ n → n ≤ c .hi → Holds o c f (number n)
+  a-text : {t : Bytes} → c .text ≡ true → record-text f ≡ some t → length t ≤ c .hi → Holds o c f (words o t)
+
+-- whose the text of field i is, where these marks stand before its record
+unfoldable pub marked : ℕ → List ℕ → Bool
+marked i [] = false
+marked i (m ∷ ms) = eqb m i || marked i ms
+
+unfoldable pub owner-by : List ℕ → ℕ → Owner
+owner-by ms i = pick (marked i ms) O.Suggestion O.Operator
+
+-- one field a column, the first counted as i
+pub data Values (ms : List ℕ) : ℕ → List Named → List Bytes → Record → Type 0 where
+  no-field : {i : ℕ} → Values ms i [] [] []
+  a-field : {i : ℕ} {c : Named} {cs : List Named} {f : Bytes} {fs : List Bytes} {v : Datum} {vs : Record} →
+      Holds (owner-by ms i) (c .column) f v → Values ms (suc i) cs fs vs → Values ms i (c ∷ cs) (f ∷ fs) (v ∷ vs)
+
+-- "the two points, type and number together"; p is the column where they begin
+pub record SamePoints (t : ℕ) (vs : Record) : Type 0 where
+  pub has : ¬ (points-from t ≡ 0)
+  pub types : getD vs (points-from t) (number 0) ≡ getD vs (points-from t + 2) (number 0)
+  pub places : getD vs (points-from t + 1) (number 0) ≡ getD vs (points-from t + 3) (number 0)
+
+-- a `rec` line after the marks ms
+pub record RecLine (latin : Bool) (t : ℕ) (ms : List ℕ) (vs : Record) (l : Bytes) : Type 0 where
+  pub says : Says latin Rec l
+  pub fields : Values ms 1 (standing t) (fields-of l) vs
+  pub points : ¬ SamePoints t vs
+  pub filled : ¬ List·Memᴰ (words O.Suggestion []) vs
+
+-- "Several marks of one record rise strictly": i stands above the mark before it
+pub data Rises (i : ℕ) : List ℕ → Type 0 where
+  lone : Rises i []
+  above : {m : ℕ} {ms : List ℕ} → m < i → Rises i (m ∷ ms)
+
+-- a mark of field i, after the marks ms (the last one first)
+pub record MarkLine (latin : Bool) (t : ℕ) (ms : List ℕ) (i : ℕ) (l : Bytes) : Type 0 where
+  pub says : Says latin Com l
+  pub reads : remarkOf (rest (content l)) ≡ R.Mark i
+  pub may : may-mark t i ≡ true
+  pub rises : Rises i ms
+
+-- "`end; count`"
+pub record EndLine (latin : Bool) (n : ℕ) (l : Bytes) : Type 0 where
+  pub says : Says latin End l
+  pub count : Bytes
+  pub alone : fields-of l ≡ count ∷ []
+  pub reads : numberOf count ≡ N.Plus n
+
+-- lines that say nothing, then a line P, then Q
+pub data Then (latin : Bool) (P : Bytes → Type 0) (Q : List Bytes → Type 0) : List Bytes → Type 0 where
+  found : {l : Bytes} {ls : List Bytes} → P l → Q ls → Then latin P Q (l ∷ ls)
+  skip : {l : Bytes} {ls : List Bytes} → Quiet latin l → Then latin P Q ls → Then latin P Q (l ∷ ls)
+
+pub data Silence (latin : Bool) : List Bytes → Type 0 where
+  over : Silence latin []
+  still : {l : Bytes} {ls : List Bytes} → Quiet latin l → Silence latin ls → Silence latin (l ∷ ls)
+
+-- records, each after its marks (ms: those that stand before these lines), then `end` with the count n
+pub data Records (latin : Bool) (t n : ℕ) : List ℕ → List Bytes → List Record → Type 0 where
+  pause : {ms : List ℕ} {l : Bytes} {ls : List Bytes} {rs : List Record} → Quiet latin l → Records latin t n ms ls rs → Records latin t n ms (l ∷ ls) rs
+  a-mark : {ms : List ℕ} {i : ℕ} {l : Bytes} {ls : List Bytes} {rs : List Record} →
+      MarkLine latin t ms i l → Records latin t n (i ∷ ms) ls rs → Records latin t n ms (l ∷ ls) rs
+  a-record : {ms : List ℕ} {vs : Record} {l : Bytes} {ls : List Bytes} {rs : List Record} →
+      RecLine latin t ms vs l → Records latin t n [] ls rs → Records latin t n ms (l ∷ ls) (vs ∷ rs)
+  the-end : {l : Bytes} {ls : List Bytes} → EndLine latin n l → Silence latin ls → Records latin t n [] (l ∷ ls) []
+
+-- these lines denote table t with the records rs: "The count equals the number of `rec` lines."
+abbrev pub Denotes : Bool → List Bytes → ℕ → List Record → Type 0
+Denotes latin ls t rs =
+    Then latin (TblLine latin t) (Then latin (AtrLine latin t) (Then latin (FrmLine latin t) (λ body. Records latin t (length rs) [] body rs))) ls

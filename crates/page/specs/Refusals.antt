@@ -1,0 +1,137 @@
+-- The order of refusals: the rules of a line as statements, each with its number, in the page's order.
+use mathlib.Core.Path.{_≡_}
+use mathlib.Core.Bool.{Bool, true, false}
+use mathlib.Core.List.{List, [], _∷_, _++_, map, List·Memᴰ}
+use mathlib.Core.Option.{none}
+use mathlib.Core.Logic.{_⊎_}
+use Prim.Native.Nat.{ℕ, zero, suc, _<_}
+use lib.Dec.{eqb}
+use lib.ListN.{length}
+use Rattle.page.specs.Bytes.{Bytes, bytes}
+use Rattle.page.specs.Lines.{content, blank, command, rest, clean, Tbl, Atr, Frm, Rec, End, Com, Unknown, Missing}
+use Rattle.page.specs.Fields.{numberOf}
+use Rattle.page.specs.Tables.{Named, table-at, table-count, columns, standing}
+use Rattle.page.specs.Marks.{remarkOf, may-mark}
+use Rattle.page.specs.Section.{record-text, table-in}
+use Rattle.page.specs.Records.{Datum, words, Record}
+use Rattle.page.specs.Grammar.{fields-of, Quiet, TblLine, AtrLine, FrmLine, MarkLine, RecLine, EndLine, Formats, Holds, Values, SamePoints, Rises}
+use Rattle.page.specs.declared.Number.the-variants as N
+use Rattle.page.specs.declared.Owner.the-variants as O
+use Rattle.page.specs.declared.Column.{Column}
+use Rattle.page.specs.declared.Remark.{Remark}
+use Rattle.page.specs.declared.Remark.the-variants as R
+use Rattle.page.specs.declared.Phase.{Phase}
+use Rattle.page.specs.declared.Phase.the-variants as P
+
+pub record Law : Type 1 where
+  pub number : ℕ
+  pub Broken : Type 0
+
+abbrev pub law : ℕ → Type 0 → Law
+law v B = record { number = v; Broken = B }
+
+-- v is the number of the first broken law: it is broken, and none before it is
+abbrev pub FirstBroken : List Law → ℕ → Type 0
+FirstBroken [] v = ⊥
+FirstBroken (x ∷ xs) v = (x .Broken × (x .number ≡ v)) ⊎ (¬ (x .Broken) × FirstBroken xs v)
+
+abbrev pub either-laws : Bool → List Law → List Law → List Law
+either-laws true x y = x
+either-laws false x y = y
+
+-- the marks that wait, where the last one is of field m (0: none)
+abbrev pub marks-of : ℕ → List ℕ
+marks-of zero = []
+marks-of (suc m) = suc m ∷ []
+
+-- "known command out of its order"
+abbrev pub InOrder : Phase → ℕ → Type 0
+InOrder P.Tbl k = k ≡ Tbl
+InOrder (P.Atr t) k = k ≡ Atr
+InOrder (P.Frm t) k = k ≡ Frm
+InOrder (P.Rows t m n) k = (k ≡ Rec) ⊎ (k ≡ End)
+InOrder (P.Ended t n) k = ⊥
+
+abbrev pub One : List Bytes → Type 0
+One fs = (f : Bytes) × (fs ≡ f ∷ [])
+
+-- "each field from the left (11 or 12, then 13)"
+abbrev pub kind-law : Bool → Bytes → Law
+kind-law true f = law 11 (record-text f ≡ none)
+kind-law false f = law 12 (numberOf f ≡ N.Nothing)
+
+abbrev pub fields-laws : List Named → List Bytes → List Law
+fields-laws [] fs = []
+fields-laws (c ∷ cs) [] = []
+fields-laws (c ∷ cs) (f ∷ fs) =
+    kind-law (c .column .text) f ∷ law 13 (¬ ((v : Datum) × Holds O.Operator (c .column) f v)) ∷ fields-laws cs fs
+
+-- "`rec` 10, each field from the left, 14, 15 for a marked empty text"
+abbrev pub rec-laws : ℕ → List ℕ → List Bytes → List Law
+rec-laws t ms fs =
+    law 10 (¬ (length fs ≡ length (standing t))) ∷
+    (fields-laws (standing t) fs ++
+    (law 14 ((vs : Record) × Values ms 1 (standing t) fs vs × SamePoints t vs) ∷
+    law 15 ((vs : Record) × Values ms 1 (standing t) fs vs × List·Memᴰ (words O.Suggestion []) vs) ∷ []))
+
+-- "`end` 15 for a mark without record, 10, 12, 16"
+abbrev pub end-laws : List ℕ → ℕ → List Bytes → List Law
+end-laws ms n fs =
+    law 15 (¬ (ms ≡ [])) ∷ law 10 (¬ One fs) ∷ law 12 ((f : Bytes) × (fs ≡ f ∷ []) × (numberOf f ≡ N.Nothing)) ∷
+    law 16 (¬ ((f : Bytes) × (fs ≡ f ∷ []) × (numberOf f ≡ N.Plus n))) ∷ []
+
+-- "`tbl` 10, 7; `atr` 8; `frm` 9"
+abbrev pub command-laws : Phase → ℕ → List Bytes → List Law
+command-laws P.Tbl k fs = law 10 (¬ One fs) ∷ law 7 (¬ ((t : ℕ) × (t < table-count) × (fs ≡ bytes (table-at t .name) ∷ []))) ∷ []
+command-laws (P.Atr t) k fs = law 8 (¬ (fs ≡ map (λ (c : Named). bytes (c .name)) (columns t))) ∷ []
+command-laws (P.Frm t) k fs = law 9 (¬ Formats (standing t) fs) ∷ []
+command-laws (P.Rows t m n) k fs = either-laws (eqb k Rec) (rec-laws t (marks-of m) fs) (end-laws (marks-of m) n fs)
+command-laws (P.Ended t n) k fs = []
+
+-- "A mark that is unreadable, not allowed, not rising, before `frm` or after `end` is 15 at its own line."
+abbrev pub GoodMark : Phase → Remark → Type 0
+GoodMark p R.Comment = Unit
+GoodMark p R.Unreadable = ⊥
+GoodMark P.Tbl (R.Mark i) = ⊥
+GoodMark (P.Atr t) (R.Mark i) = ⊥
+GoodMark (P.Frm t) (R.Mark i) = ⊥
+GoodMark (P.Rows t m n) (R.Mark i) = (may-mark t i ≡ true) × Rises i (marks-of m)
+GoodMark (P.Ended t n) (R.Mark i) = ⊥
+
+-- "in that line the first of 4, 5, 6, then" its command's own; a blank line has only 4
+unfoldable pub laws : Bool → Phase → Bytes → List Law
+laws latin p l =
+    law 4 (¬ (clean latin (content l) ≡ true)) ∷
+    either-laws (blank (content l)) []
+    (law 5 ((command (content l) ≡ Missing) ⊎ (command (content l) ≡ Unknown)) ∷
+    either-laws (eqb (command (content l)) Com) (law 15 (¬ GoodMark p (remarkOf (rest (content l)))) ∷ [])
+    (law 6 (¬ InOrder p (command (content l))) ∷ command-laws p (command (content l)) (fields-of l)))
+
+-- what a line leads to, where what stood before it left p
+pub data Leads (latin : Bool) (l : Bytes) : Phase → Phase → Type 0 where
+  quiet : {p : Phase} → Quiet latin l → Leads latin l p p
+  tbl : {t : ℕ} → TblLine latin t l → Leads latin l P.Tbl (P.Atr t)
+  atr : {t : ℕ} → AtrLine latin t l → Leads latin l (P.Atr t) (P.Frm t)
+  frm : {t : ℕ} → FrmLine latin t l → Leads latin l (P.Frm t) (P.Rows t 0 0)
+  mark : {t m n i : ℕ} → MarkLine latin t (marks-of m) i l → Leads latin l (P.Rows t m n) (P.Rows t i n)
+  record-line : {t m n : ℕ} {vs : Record} → RecLine latin t (marks-of m) vs l → Leads latin l (P.Rows t m n) (P.Rows t 0 (suc n))
+  end : {t n : ℕ} → EndLine latin n l → Leads latin l (P.Rows t 0 n) (P.Ended t n)
+
+-- the lines ls lead from p to q, one after the other
+pub data Reaches (latin : Bool) : Phase → List Bytes → Phase → Type 0 where
+  stay : {p : Phase} → Reaches latin p [] p
+  move : {p q r : Phase} {l : Bytes} {ls : List Bytes} → Leads latin l p q → Reaches latin q ls r → Reaches latin p (l ∷ ls) r
+
+unfoldable pub is-ended : Phase → Bool
+is-ended P.Tbl = false
+is-ended (P.Atr t) = false
+is-ended (P.Frm t) = false
+is-ended (P.Rows t m n) = false
+is-ended (P.Ended t n) = true
+
+-- a section is refused with table number k, verdict v and line n: at its first line that breaks a law, by the first law that it breaks;
+-- or no line does, but no `end` came
+pub data Refused (latin : Bool) (ls : List Bytes) (k v n : ℕ) : Type 0 where
+  at-line : (before after : List Bytes) (l : Bytes) (q : Phase) → ls ≡ before ++ (l ∷ after) → Reaches latin P.Tbl before q →
+      FirstBroken (laws latin q l) v → k ≡ table-in q → n ≡ suc (length before) → Refused latin ls k v n
+  unfinished : (q : Phase) → Reaches latin P.Tbl ls q → is-ended q ≡ false → k ≡ table-in q → v ≡ 6 → n ≡ length ls → Refused latin ls k v n
