@@ -18,12 +18,7 @@ impl Library for Plain {
     }
 
     fn section(&self, file: &[u8], section: usize) -> Result<Row, Refusal> {
-        let rows = reader::list(file).map_err(refusal)?;
-        section
-            .checked_sub(1)
-            .and_then(|index| rows.get(index).copied())
-            .map(row)
-            .ok_or(Refusal::placeless(number::NO_SUCH))
+        reader::section(file, section).map(row).map_err(refusal)
     }
 
     fn list(&self, file: &[u8], rows: &mut [Row]) -> Refusal {

@@ -223,6 +223,17 @@ pub fn list(file: &[u8]) -> Result<Vec<Row>, Answer> {
     Ok(rows)
 }
 
+/// One section's row, or the first of 1, 2 and 24.
+pub fn section(file: &[u8], section: usize) -> Result<Row, Answer> {
+    let opened = Opened::open(file)?;
+    let region = section
+        .checked_sub(1)
+        .and_then(|index| opened.layout.sections.get(index))
+        .ok_or(Answer::placeless(number::NO_SUCH))?;
+    let read = Section::read(file, region.clone(), opened.header.charset);
+    Ok(row(region, &read))
+}
+
 /// Listing into lent rows: "refused by 1, 2 and 21 only and then writes no
 /// row"; spare rows keep their values.
 pub fn list_into(file: &[u8], rows: &mut [Row]) -> Result<Listed, Answer> {

@@ -16,8 +16,8 @@ ifv; \"1.6\"\n";
 /// also lets the written form take one more suggestion.
 const RESERVE: usize = 512;
 
-/// Links of one area, so that 16 MiB need no more areas than there are.
-const LINKS_OF_AREA: usize = 800;
+/// Links of one area, so that 18 MB need no more areas than there are.
+const LINKS_OF_AREA: usize = 860;
 
 #[derive(Clone, Copy, Debug, PartialEq, Eq)]
 pub enum Order {
@@ -56,6 +56,18 @@ pub fn file(shape: Shape, bytes: usize, seed: u64) -> Vec<u8> {
         Shape::Calendar(order) => calendar(&mut random, bytes, order),
         Shape::Small => small(&mut random, bytes),
     }
+}
+
+/// The same without a space after any `;`, for forms longer than their file.
+/// No text of a network has one.
+pub fn without_spaces(file: &[u8]) -> Vec<u8> {
+    let mut dense = Vec::with_capacity(file.len());
+    for &byte in file {
+        if byte != b' ' || dense.last() != Some(&b';') {
+            dense.push(byte);
+        }
+    }
+    dense
 }
 
 struct Part {
@@ -178,7 +190,7 @@ fn draw_link(random: &mut Random, index: usize) -> [Vec<u8>; 2] {
     let area = index / LINKS_OF_AREA;
     let half = LINKS_OF_AREA / 2;
     let from_type = index % LINKS_OF_AREA / half + 1;
-    let from = 1000 + index % half * 2490 + random.below(2000);
+    let from = 1000 + index % half * 2300 + random.below(2000);
     let (to_type, to) = (
         1 + random.below(2),
         random.between(10_000, 999_998) as usize,
