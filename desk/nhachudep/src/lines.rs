@@ -53,13 +53,16 @@ pub fn first_with(file: &[u8], commands: &[&[u8]]) -> Option<usize> {
     None
 }
 
-/// Commands of the header's lines, which end before the first `tbl` or `eof`.
-pub fn header_commands(file: &[u8]) -> Vec<&[u8]> {
+/// The header's lines, which end before the first `tbl` or `eof` line.
+pub fn header_lines(file: &[u8]) -> Vec<&[u8]> {
     let end = first_with(file, &[b"tbl", b"eof"]).unwrap_or(file.len());
-    let lines = file[..end].split_inclusive(|byte| *byte == b'\n');
-    lines
-        .filter_map(|line| command(without_end(line)))
-        .collect()
+    lines_of(&file[..end])
+}
+
+/// Lines without their ends.
+pub fn lines_of(bytes: &[u8]) -> Vec<&[u8]> {
+    let lines = bytes.split_inclusive(|byte| *byte == b'\n');
+    lines.map(without_end).collect()
 }
 
 /// Where the trimmed fields after the command stand.
@@ -113,7 +116,7 @@ mod tests {
         assert_eq!(first_with(file, &[b"tbl"]), Some(7));
         assert_eq!(first_with(file, &[b"eof"]), Some(16));
         assert_eq!(first_with(file, &[b"end"]), None);
-        assert_eq!(header_commands(file), [b"mod"]);
+        assert_eq!(header_lines(file), [b"mod; x"]);
     }
 
     #[test]

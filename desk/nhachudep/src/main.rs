@@ -11,6 +11,7 @@ mod latin;
 mod lines;
 mod outlets;
 mod output;
+mod picture;
 mod pointing;
 mod refusals;
 mod terminal;

@@ -70,6 +70,7 @@ impl Line<'_> {
             b"end", b"com", b"eof",
         ];
         match command(self.content) {
+            None if self.content.iter().all(|byte| *byte == b' ') => None,
             None => Some(0..self.content.len()),
             Some(name) if KNOWN.contains(&name) => None,
             Some(_) => self.command(),

@@ -90,7 +90,8 @@ fn header_and_trailer_places() {
     let refused = folder.run(&["check", "trailer.x10"]);
     assert_eq!(
         refused.err,
-        "trailer.x10: trailer, line 1: 3 trailer breaks a rule\n    13 | eof; 2\n"
+        "trailer.x10: trailer, line 1: 3 trailer breaks a rule\n    13 | eof; 2\n       \
+         = `tbl` lines in the file: 1\n"
     );
     folder.put("no-eof.x10", SMALL.replace("eof; 1\n", ""));
     let refused = folder.run(&["check", "no-eof.x10"]);
@@ -99,6 +100,10 @@ fn header_and_trailer_places() {
         refused.err,
         format!("{told}       = no `eof` line stands\n")
     );
+    folder.put("no-end.x10", SMALL.replace("end; 2\n", ""));
+    let refused = folder.run(&["check", "no-end.x10"]);
+    assert!(refused.err.starts_with("no-end.x10: section 1, line 6: 6 "));
+    assert!(refused.err.ends_with("= the section has no `end`\n"));
 }
 
 #[test]
