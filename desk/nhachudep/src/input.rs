@@ -1,7 +1,7 @@
 //! Files to read: by name, or `-` for standard input.
 
 use std::ffi::OsString;
-use std::fmt::{self, Display, Formatter};
+use std::fmt::{self, Display, Formatter, Write};
 use std::fs::File;
 use std::io::{self, Read};
 use std::path::PathBuf;
@@ -41,11 +41,38 @@ fn read_limited(input: impl Read) -> io::Result<Vec<u8>> {
     Ok(bytes)
 }
 
+impl Source {
+    /// The name as it was given.
+    pub fn name(&self) -> String {
+        match self {
+            Source::Path(path) => path.display().to_string(),
+            Source::StandardInput => "-".to_owned(),
+        }
+    }
+}
+
+/// The name as a terminal may be shown it.
 impl Display for Source {
     fn fmt(&self, out: &mut Formatter<'_>) -> fmt::Result {
-        match self {
-            Source::Path(path) => write!(out, "{}", path.display()),
-            Source::StandardInput => out.write_str("-"),
+        for character in self.name().chars() {
+            match character.is_control() {
+                true => write!(out, "\\x{:02x}", u32::from(character))?,
+                false => out.write_char(character)?,
+            }
         }
+        Ok(())
+    }
+}
+
+#[cfg(test)]
+mod tests {
+    use super::*;
+
+    #[test]
+    fn names_give_a_terminal_no_orders() {
+        let source = Source::named("a\x1b[2J.x10".into());
+        assert_eq!(source.to_string(), "a\\x1b[2J.x10");
+        assert_eq!(source.name(), "a\x1b[2J.x10");
+        assert_eq!(Source::named("-".into()).to_string(), "-");
     }
 }

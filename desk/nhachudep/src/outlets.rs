@@ -20,12 +20,16 @@ impl<'a> Outlets<'a> {
         let no_color = std::env::var_os("NO_COLOR");
         let term = std::env::var_os("TERM");
         let paint = |is_terminal| Paint::choose(is_terminal, no_color.as_deref(), term.as_deref());
+        let (paint_out, paint_err) = (
+            paint(io::stdout().is_terminal()),
+            paint(io::stderr().is_terminal()),
+        );
         Outlets {
             out,
             err,
-            paint_out: paint(io::stdout().is_terminal()),
-            paint_err: paint(io::stderr().is_terminal()),
-            shows_progress: io::stderr().is_terminal(),
+            paint_out,
+            paint_err,
+            shows_progress: io::stderr().is_terminal() && term.is_some_and(|t| t != "dumb"),
         }
     }
 

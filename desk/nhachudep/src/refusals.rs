@@ -54,7 +54,7 @@ pub fn members(source: &Source, refusal: Refusal) -> Vec<(&'static str, Json)> {
         Part::Nothing => Json::Null,
     };
     vec![
-        ("file", Json::text(source.to_string())),
+        ("file", Json::Text(source.name())),
         ("number", Json::Number(refusal.number.into())),
         ("part", part),
         ("section", Json::size(refusal.section)),

@@ -14,13 +14,13 @@ const MANY: usize = 2;
 pub fn check(work: &mut Work<'_, '_>, sources: &[Source]) -> Result<Outcome, Trouble> {
     let mut worst = Outcome::Fine;
     let mut sound = 0;
+    work.outlets.shows_progress &= sources.len() >= MANY;
     for (index, source) in sources.iter().enumerate() {
-        show_progress(work, index, sources);
+        show_progress(work, index, sources.len());
         let outcome = check_one(work, source)?;
         sound += usize::from(outcome == Outcome::Fine);
         worst = worst.max(outcome);
     }
-    clear_progress(work, sources);
     if sources.len() >= MANY && !work.json {
         work.outlets.flush()?;
         let count = sources.len();
@@ -34,13 +34,13 @@ fn check_one(work: &mut Work<'_, '_>, source: &Source) -> Result<Outcome, Troubl
     let file = match source.read() {
         Ok(file) => file,
         Err(trouble) => {
-            clear_line(work);
+            clear_progress(work);
             work.outlets.tell(&trouble);
             return Ok(Outcome::Unread);
         }
     };
     let answer = work.library.check(&file);
-    clear_line(work);
+    clear_progress(work);
     if work.json {
         let object = Json::Object(refusals::members(source, answer));
         work.outlets.print(&format_args!("{object}\n"))?;
@@ -57,22 +57,15 @@ fn check_one(work: &mut Work<'_, '_>, source: &Source) -> Result<Outcome, Troubl
     })
 }
 
-fn show_progress(work: &mut Work<'_, '_>, done: usize, sources: &[Source]) {
-    if work.outlets.shows_progress && sources.len() >= MANY {
-        let count = sources.len();
+fn show_progress(work: &mut Work<'_, '_>, done: usize, count: usize) {
+    if work.outlets.shows_progress {
         work.outlets
             .note(&format_args!("\r\x1b[K{done} of {count} files"));
     }
 }
 
-fn clear_line(work: &mut Work<'_, '_>) {
+fn clear_progress(work: &mut Work<'_, '_>) {
     if work.outlets.shows_progress {
         work.outlets.note(&"\r\x1b[K");
-    }
-}
-
-fn clear_progress(work: &mut Work<'_, '_>, sources: &[Source]) {
-    if sources.len() >= MANY {
-        clear_line(work);
     }
 }
