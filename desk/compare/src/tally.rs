@@ -59,3 +59,32 @@ impl Display for Tally {
         Ok(())
     }
 }
+
+#[cfg(test)]
+mod tests {
+    use super::*;
+
+    #[test]
+    fn what_was_never_given_is_missed() {
+        let mut tally = Tally::default();
+        for number in number::SOUND..=number::REFERENCE {
+            tally.add_check(Refusal::placeless(number));
+        }
+        assert_eq!(tally.missed(), [21, 22, 23, 24]);
+        for number in number::NO_ROOM..=number::LAST {
+            tally.add_call(Refusal::placeless(number));
+        }
+        assert!(tally.missed().is_empty());
+        assert_eq!(Tally::default().missed().len(), 25);
+        assert!(tally
+            .to_string()
+            .contains("    20          1          0  a reference"));
+    }
+
+    #[test]
+    fn a_number_that_is_none_is_not_counted() {
+        let mut tally = Tally::default();
+        tally.add_check(Refusal::placeless(99));
+        assert_eq!(tally, Tally::default());
+    }
+}

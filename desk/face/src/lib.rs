@@ -14,7 +14,7 @@ pub use calls::{all_rows, form_of, table_cells, Listing};
 
 /// One implementation. No call keeps anything of the file; what is lent keeps
 /// its values wherever nothing is promised to be written.
-pub trait Library: Sync {
+pub trait Library {
     /// What reports call it.
     fn name(&self) -> &'static str;
 

@@ -134,7 +134,11 @@ fn refused_fills() {
         (["1", "2", "1"], "neu", "23 field may not be filled"),
         (["1", "1", "2"], "neu", "22 field to fill is not empty"),
         (["1", "2", "2"], "", "11 not a text"),
-        (["1", "2", "2"], "a\tb", "4 byte not allowed in this line"),
+        (
+            ["1", "2", "2"],
+            "a\tb",
+            "4 byte not allowed in this line\n       = U+0009 may stand in no text",
+        ),
         (
             ["1", "2", "2"],
             &long,
