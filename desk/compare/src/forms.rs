@@ -1,14 +1,15 @@
-//! Writing, stripping and filling one file.
+//! Writing, stripping and filling one file. A form must be the other
+//! implementation's to the byte, and the one that is printed from what the
+//! file says by the subject's own calls.
 
-use face::{
-    all_rows, own_bytes, table_cells, tables, value_in, At, Library, Owner, Refusal, Row, Value,
-    CELLS,
-};
-use samples::{texts, Random};
+use face::{all_rows, tables, At, Library, Refusal, Row};
+use samples::form::form;
+use samples::{texts, Model, Random};
 
 use crate::calls::Call;
 use crate::difference::{law, Difference};
 use crate::lent::{lend, lend_all_ways};
+use crate::meaning::model_of;
 use crate::tally::Tally;
 use crate::Pair;
 
@@ -43,13 +44,10 @@ pub fn compare_forms(
         answer,
         ample: file.len() * 2 + 1024,
     };
-    let written = forms.write()?;
-    let stripped = forms.strip()?;
-    if let (Ok(written), Ok(stripped)) = (&written, &stripped) {
-        forms.say_the_same(written)?;
-        forms.fill_places(written, stripped)
+    if answer.is_sound() {
+        forms.sound_file()
     } else {
-        forms.fill_refused()
+        forms.refused_file()
     }
 }
 
@@ -58,87 +56,48 @@ struct Forms<'a> {
     tally: &'a mut Tally,
     random: &'a mut Random,
     file: &'a [u8],
-    /// The file's answer: "Only a file with verdict 0 is written; else its
-    /// verdict is given."
     answer: Refusal,
     ample: usize,
 }
 
 impl Forms<'_> {
+    /// "Only a file with verdict 0 is written; else its verdict is given."
+    fn refused_file(&mut self) -> Result<(), Difference> {
+        let refused = [
+            self.write()?.err(),
+            self.strip()?.err(),
+            self.fill(At::new(1, 1, 2), b"neu")?.err(),
+            self.fill(At::new(0, 0, 0), b"")?.err(),
+        ];
+        law(
+            refused == [Some(self.answer); 4],
+            &"write, strip, fill: a refused file's verdict is given",
+        )
+    }
+
+    fn sound_file(&mut self) -> Result<(), Difference> {
+        let model = model_of(self.pair.subject, self.file);
+        law(model.is_some(), &"a sound file hands out every value")?;
+        let Some(model) = model else {
+            return Ok(());
+        };
+        let written = self.write()?;
+        self.is_form_of("write", &written, &model)?;
+        let stripped = self.strip()?;
+        self.is_form_of("strip", &stripped, &model.stripped())?;
+        self.fill_places(&model)
+    }
+
     fn write(&mut self) -> Result<Result<Vec<u8>, Refusal>, Difference> {
         let file = self.file;
         let run = move |library: &dyn Library, out: &mut [u8]| library.write(file, out);
-        let form = lend_all_ways(self.pair, self.tally, &"write", self.ample, &run)?;
-        self.verdict_decides("write", &form)?;
-        if let Ok(form) = &form {
-            self.is_sound("write", form)?;
-            let again = self.form_of(|library, out| library.write(form, out));
-            law(
-                again.as_ref() == Ok(form),
-                &"write: written again unchanged",
-            )?;
-        }
-        Ok(form)
+        lend_all_ways(self.pair, self.tally, &"write", self.ample, &run)
     }
 
     fn strip(&mut self) -> Result<Result<Vec<u8>, Refusal>, Difference> {
         let file = self.file;
         let run = move |library: &dyn Library, out: &mut [u8]| library.strip(file, out);
-        let form = lend_all_ways(self.pair, self.tally, &"strip", self.ample, &run)?;
-        self.verdict_decides("strip", &form)?;
-        if let Ok(form) = &form {
-            let again = self.form_of(|library, out| library.strip(form, out));
-            law(
-                again.as_ref() == Ok(form),
-                &"strip: stripping twice is once",
-            )?;
-            let values = contents(self.pair.subject, form);
-            law(
-                values.iter().flatten().all(|datum| !datum.is_suggestion()),
-                &"strip: no suggestion is left",
-            )?;
-        }
-        Ok(form)
-    }
-
-    fn verdict_decides(
-        &self,
-        call: &str,
-        form: &Result<Vec<u8>, Refusal>,
-    ) -> Result<(), Difference> {
-        let refusal = form.as_ref().err().copied().unwrap_or(Refusal::SOUND);
-        law(
-            refusal == self.answer,
-            &format_args!("{call}: a file with verdict 0 is written, else its verdict is given"),
-        )
-    }
-
-    fn is_sound(&self, call: &str, form: &[u8]) -> Result<(), Difference> {
-        law(
-            self.pair.subject.check(form).is_sound(),
-            &format_args!("{call}: what is written is accepted"),
-        )
-    }
-
-    /// The subject's own form, with ample room.
-    fn form_of(
-        &self,
-        write: impl Fn(&dyn Library, &mut [u8]) -> Result<usize, Refusal>,
-    ) -> Result<Vec<u8>, Refusal> {
-        let mut out = vec![0; self.ample + 1024];
-        let length = write(self.pair.subject, &mut out)?;
-        out.truncate(length);
-        Ok(out)
-    }
-
-    /// The written form reads as the file does.
-    fn say_the_same(&self, form: &[u8]) -> Result<(), Difference> {
-        let subject = self.pair.subject;
-        law(
-            contents(subject, self.file) == contents(subject, form)
-                && heading(subject, self.file) == heading(subject, form),
-            &"write: the written form says what the file says",
-        )
+        lend_all_ways(self.pair, self.tally, &"strip", self.ample, &run)
     }
 
     fn fill(&mut self, at: At, text: &[u8]) -> Result<Result<Vec<u8>, Refusal>, Difference> {
@@ -148,23 +107,45 @@ impl Forms<'_> {
         lend(self.pair, self.tally, &call, self.ample, &run)
     }
 
-    /// A refused file is not filled, whatever is named.
-    fn fill_refused(&mut self) -> Result<(), Difference> {
-        for at in [At::new(1, 1, 2), At::new(0, 0, 0)] {
-            let filled = self.fill(at, b"neu")?;
-            self.verdict_decides("fill", &filled)?;
-        }
-        Ok(())
+    /// A form is the printed one, is accepted, says what it was printed from,
+    /// and is written again unchanged.
+    fn is_form_of(
+        &self,
+        call: &str,
+        put: &Result<Vec<u8>, Refusal>,
+        model: &Model,
+    ) -> Result<(), Difference> {
+        let subject = self.pair.subject;
+        let printed = form(model);
+        law(
+            put.as_ref() == Ok(&printed),
+            &format_args!("{call}: the form printed from what the file says"),
+        )?;
+        law(
+            subject.check(&printed).is_sound(),
+            &format_args!("{call}: the form is accepted"),
+        )?;
+        law(
+            model_of(subject, &printed).as_ref() == Some(model),
+            &format_args!("{call}: the form says what it is printed from"),
+        )?;
+        let mut again = vec![0; printed.len()];
+        let length = subject.write(&printed, &mut again);
+        law(
+            length == Ok(printed.len()) && again == printed,
+            &format_args!("{call}: written again unchanged"),
+        )
     }
 
-    fn fill_places(&mut self, written: &[u8], stripped: &[u8]) -> Result<(), Difference> {
+    fn fill_places(&mut self, model: &Model) -> Result<(), Difference> {
         let rows = all_rows(self.pair.subject, self.file).map_or(Vec::new(), |l| l.rows);
         let mut first = true;
         for at in self.places(&rows) {
             let text = texts::any(self.random, false, 12);
             let filled = self.fill(at, &text)?;
-            if let Ok(form) = &filled {
-                self.hold_filled(at, &text, form, written, stripped)?;
+            if filled.is_ok() {
+                let model = model.filled(at, &text);
+                self.is_form_of(&Call("fill", at).to_string(), &filled, &model)?;
                 if first {
                     self.fill_odd(at)?;
                     first = false;
@@ -183,11 +164,11 @@ impl Forms<'_> {
                 continue;
             };
             let width = table.columns.len();
-            for (record, field) in (1..=row.records).flat_map(|r| (1..=width).map(move |f| (r, f)))
-            {
-                let may_fill = table.markable == Some(field);
+            for place in 0..row.records * width {
+                let at = At::new(index + 1, place / width + 1, place % width + 1);
+                let may_fill = table.markable == Some(at.field);
                 let list = if may_fill { &mut places } else { &mut others };
-                list.push(At::new(index + 1, record, field));
+                list.push(at);
             }
             others.push(At::new(index + 1, row.records + 1, 1));
             others.push(At::new(index + 1, 1, width + 1));
@@ -205,89 +186,18 @@ impl Forms<'_> {
         places
     }
 
-    /// "the result is the written form with that text and its mark".
-    fn hold_filled(
-        &mut self,
-        at: At,
-        text: &[u8],
-        form: &[u8],
-        written: &[u8],
-        stripped: &[u8],
-    ) -> Result<(), Difference> {
-        let call = Call("fill", at);
-        self.is_sound("fill", form)?;
-        let subject = self.pair.subject;
-        let mut meant = contents(subject, written);
-        meant[at.section - 1][(at.record - 1) * width_of(subject, written, at) + at.field - 1] =
-            Datum::Text(text.to_vec(), Owner::Suggestion);
-        law(
-            contents(subject, form) == meant,
-            &format_args!("{call}: that text, marked, and nothing else"),
-        )?;
-        let again = self.form_of(|library, out| library.write(form, out));
-        law(
-            again.as_deref() == Ok(form),
-            &format_args!("{call}: written again unchanged"),
-        )?;
-        let bare = self.form_of(|library, out| library.strip(form, out));
-        law(
-            bare.as_deref() == Ok(stripped),
-            &format_args!("{call}: stripped, as if it had not been filled"),
-        )
-    }
-
     /// Texts that are refused or only just pass, and room that only just does.
     fn fill_odd(&mut self, at: At) -> Result<(), Difference> {
         for text in TEXTS {
             self.fill(at, text)?.ok();
         }
-        let file = self.file;
-        let run =
-            move |library: &dyn Library, out: &mut [u8]| library.fill(file, at, b"neu; \"x\"", out);
-        lend_all_ways(self.pair, self.tally, &Call("fill", at), self.ample, &run)?.ok();
-        Ok(())
+        let (file, text) = (self.file, b"neu; \"x\"");
+        let run = move |library: &dyn Library, out: &mut [u8]| library.fill(file, at, text, out);
+        let call = Call("fill", at);
+        let filled = lend_all_ways(self.pair, self.tally, &call, self.ample, &run)?;
+        law(
+            filled.is_ok(),
+            &format_args!("{call}: another text fits too"),
+        )
     }
-}
-
-#[derive(Clone, Debug, PartialEq, Eq)]
-enum Datum {
-    Number(u64),
-    Text(Vec<u8>, Owner),
-}
-
-impl Datum {
-    fn is_suggestion(&self) -> bool {
-        matches!(self, Datum::Text(_, Owner::Suggestion))
-    }
-}
-
-/// What a sound file says: each section's values in one run.
-fn contents(library: &dyn Library, file: &[u8]) -> Vec<Vec<Datum>> {
-    let rows = all_rows(library, file).map_or(Vec::new(), |listing| listing.rows);
-    let datum = |cells: &[u64]| match value_in(cells)? {
-        Value::Number(number) => Some(Datum::Number(number)),
-        Value::Text { span, owner } => Some(Datum::Text(own_bytes(span.of(file)), owner)),
-    };
-    let values = |(index, row): (usize, &Row)| {
-        let cells = table_cells(library, file, index + 1, *row).unwrap_or_default();
-        cells.chunks(CELLS).filter_map(datum).collect()
-    };
-    rows.iter().enumerate().map(values).collect()
-}
-
-fn width_of(library: &dyn Library, file: &[u8], at: At) -> usize {
-    let row = library.section(file, at.section).unwrap_or_default();
-    tables::numbered(row.table).map_or(0, |table| table.columns.len())
-}
-
-/// Header values with texts by their bytes, for files that place them
-/// otherwise.
-fn heading(library: &dyn Library, file: &[u8]) -> Option<impl PartialEq> {
-    let header = library.header(file).ok()?;
-    let text = |span: face::Span| own_bytes(span.of(file));
-    Some((
-        [header.source, header.ver, header.ifv].map(text),
-        [header.dve, header.fft].map(|span| span.map(text)),
-        (header.date, header.time, header.latin),
-    ))
 }

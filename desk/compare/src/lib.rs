@@ -8,6 +8,7 @@ mod forms;
 mod lent;
 mod limit;
 pub mod locality;
+mod meaning;
 mod options;
 mod run;
 mod shrink;

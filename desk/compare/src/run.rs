@@ -3,13 +3,13 @@
 
 use std::fmt::{self, Display, Formatter};
 
-use samples::form::form;
 use samples::{Model, Random};
 
 use crate::calls::compare_file;
 use crate::difference::{law, Difference};
 use crate::limit::compare_large;
 use crate::locality;
+use crate::meaning::model_of;
 use crate::options::Options;
 use crate::shrink::shrink;
 use crate::tally::Tally;
@@ -72,14 +72,11 @@ fn draw_file(random: &mut Random) -> (Vec<u8>, Option<Model>) {
     }
 }
 
-/// What a sound file means is known without reading it, and so is its form.
-fn compare_with_meaning(pair: Pair<'_>, file: &[u8], model: &Model) -> Result<(), Difference> {
-    let meant = form(model);
-    let mut out = vec![0; meant.len()];
-    let written = pair.subject.write(file, &mut out);
+/// What a drawn sound file says was known before it was put into bytes.
+fn says_what_is_meant(pair: Pair<'_>, file: &[u8], model: &Model) -> Result<(), Difference> {
     law(
-        written == Ok(meant.len()) && out == meant,
-        &"write: the form printed from what the file means",
+        pair.subject.check(file).is_sound() && model_of(pair.subject, file).as_ref() == Some(model),
+        &"a drawn file says what it was drawn to say",
     )
 }
 
@@ -89,7 +86,7 @@ fn compare_drawn(pair: Pair<'_>, seed: u64, index: u64, summary: &mut Summary) {
     summary.files += 1;
     let compared = compare_file(pair, &mut summary.tally, &mut random, &file)
         .and_then(|()| keep_damage_local(pair, &mut random, &file, summary))
-        .and_then(|()| model.map_or(Ok(()), |model| compare_with_meaning(pair, &file, &model)));
+        .and_then(|()| model.map_or(Ok(()), |model| says_what_is_meant(pair, &file, &model)));
     if let Err(difference) = compared {
         let (file, difference) = reduce(pair, seed, index, file, difference);
         summary.failures.push(Failure {

@@ -12,6 +12,15 @@ pub enum Outcome {
     Unread,
 }
 
+impl Outcome {
+    pub fn of(is_sound: bool) -> Outcome {
+        match is_sound {
+            true => Outcome::Fine,
+            false => Outcome::Refused,
+        }
+    }
+}
+
 /// What keeps the tool from doing what was asked for.
 #[derive(Debug)]
 pub enum Trouble {

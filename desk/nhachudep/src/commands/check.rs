@@ -51,10 +51,7 @@ fn check_one(work: &mut Work<'_, '_>, source: &Source) -> Result<Outcome, Troubl
         work.outlets.flush()?;
         refusals::tell(work.outlets, work.library, source, &file, answer);
     }
-    Ok(match answer.is_sound() {
-        true => Outcome::Fine,
-        false => Outcome::Refused,
-    })
+    Ok(Outcome::of(answer.is_sound()))
 }
 
 fn show_progress(work: &mut Work<'_, '_>, done: usize, count: usize) {

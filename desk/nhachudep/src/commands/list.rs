@@ -28,10 +28,7 @@ pub fn list(work: &mut Work<'_, '_>, source: &Source) -> Result<Outcome, Trouble
         }
         tell_refusal(work, source, &file, answer)?;
     }
-    Ok(match answer.is_sound() {
-        true => Outcome::Fine,
-        false => Outcome::Refused,
-    })
+    Ok(Outcome::of(answer.is_sound()))
 }
 
 /// A refused file's answer, behind what was printed.

@@ -54,10 +54,7 @@ pub fn marks(work: &mut Work<'_, '_>, source: &Source) -> Result<Outcome, Troubl
         tell_unknown(work, source, &sections);
         tell_refusal(work, source, &file, answer)?;
     }
-    Ok(match answer.is_sound() {
-        true => Outcome::Fine,
-        false => Outcome::Refused,
-    })
+    Ok(Outcome::of(answer.is_sound()))
 }
 
 /// Line numbers of places that rise through the file, each byte counted once.

@@ -88,10 +88,7 @@ pub fn show(
         }
         tell_refusal(work, source, &file, answer)?;
     }
-    Ok(match answer.is_sound() && !is_missing {
-        true => Outcome::Fine,
-        false => Outcome::Refused,
-    })
+    Ok(Outcome::of(answer.is_sound() && !is_missing))
 }
 
 fn print_sections(
