@@ -31,6 +31,7 @@ fn main() -> ExitCode {
 fn bench(options: &Options) -> ExitCode {
     let (subject, baseline) = (libraries::chosen().name(), libraries::baseline().name());
     println!("{subject} beside {baseline}, best of {} runs", options.runs);
+    println!("lent room is made before the first run and not cleared between runs");
     for shape in options.shapes() {
         if let Err(words) = bench_shape(options, shape) {
             eprintln!("bench: {}: {words}", shape.name());

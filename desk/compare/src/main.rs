@@ -1,10 +1,9 @@
 //! Compares the chosen library with the independent reader.
 
-use std::fs;
 use std::io::{self, IsTerminal, Write};
 use std::process::ExitCode;
 
-use compare::{run, Options, Pair, Summary, Wish, HELP};
+use compare::{run, Options, Pair, Wish, HELP};
 
 fn main() -> ExitCode {
     match Wish::read(std::env::args().skip(1)) {
@@ -29,9 +28,11 @@ fn compare(options: &Options) -> ExitCode {
     println!("{subject} against {baseline}, seed {}", options.seed);
     let summary = run(pair, options, progress(options.count));
     print!("{summary}");
-    if let Err(error) = save(options, &summary) {
-        eprintln!("compare: {error}");
-        return ExitCode::from(2);
+    if let Some(folder) = &options.save {
+        if let Err(error) = summary.save(folder, options.seed) {
+            eprintln!("compare: {}: {error}", folder.display());
+            return ExitCode::from(2);
+        }
     }
     if summary.is_clean() {
         ExitCode::SUCCESS
@@ -58,18 +59,4 @@ fn progress(count: u64) -> impl FnMut(u64) {
             eprint!("\r\x1b[K");
         }
     }
-}
-
-fn save(options: &Options, summary: &Summary) -> io::Result<()> {
-    let Some(folder) = &options.save else {
-        return Ok(());
-    };
-    fs::create_dir_all(folder)?;
-    for failure in &summary.failures {
-        if let Some(index) = failure.index {
-            let name = format!("seed-{}-file-{index}.x10", options.seed);
-            fs::write(folder.join(name), &failure.file)?;
-        }
-    }
-    Ok(())
 }

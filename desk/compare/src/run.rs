@@ -2,6 +2,8 @@
 //! demand 3.
 
 use std::fmt::{self, Display, Formatter};
+use std::path::Path;
+use std::{fs, io};
 
 use samples::{Model, Random};
 
@@ -137,6 +139,18 @@ fn reduce(
 impl Summary {
     pub fn is_clean(&self) -> bool {
         self.failures.is_empty() && self.missed.is_empty()
+    }
+
+    /// Each drawn file that shows a difference, by seed and index.
+    pub fn save(&self, folder: &Path, seed: u64) -> io::Result<()> {
+        fs::create_dir_all(folder)?;
+        for failure in &self.failures {
+            if let Some(index) = failure.index {
+                let name = format!("seed-{seed}-file-{index}.x10");
+                fs::write(folder.join(name), &failure.file)?;
+            }
+        }
+        Ok(())
     }
 }
 

@@ -1,6 +1,8 @@
 //! The comparison finds what it is there to find: for each fault put into an
 //! otherwise right implementation a difference is reported soon.
 
+use std::path::Path;
+
 use compare::{run, Options, Pair};
 use face::{number, At, Header, Library, Owner, Refusal, Row, Value};
 use libraries::Plain;
@@ -321,6 +323,10 @@ fn a_difference_is_shown_with_few_lines() {
     let failure = &summary.failures[0];
     assert_eq!(failure.difference.call, "check");
     assert!(failure.file.iter().filter(|byte| **byte == b'\n').count() < 25);
+    let folder = Path::new(env!("CARGO_TARGET_TMPDIR")).join("differences");
+    summary.save(&folder, options.seed).unwrap();
+    let name = format!("seed-1-file-{}.x10", failure.index.unwrap());
+    assert_eq!(std::fs::read(folder.join(name)).unwrap(), failure.file);
     let shown = summary.to_string();
     assert!(shown.contains("subject:  Refusal { number: 0") && shown.contains("tbl"));
 }
