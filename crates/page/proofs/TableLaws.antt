@@ -3,14 +3,17 @@ use mathlib.Core.Path.{_≡_, refl, ap, sym, _∙_}
 use mathlib.Core.Bool.{Bool, true, false, false≢true, not, _&&_, _||_}
 use mathlib.Core.List.{List, [], _∷_, map}
 use Prim.Native.Nat.{ℕ, zero, suc, _+_, _-_, _*_, _<_, _≤_}
+use native.Mathlib.Nat.{lt-of-not-le}
 use native.Mathlib.Omega.{arith}
 use lib.Dec.{eqb, leb, ltb}
 use lib.ListN.{length, getD, List·getD-map, List·getD-eq-default}
 use borrow.Author.Tests.{leb-true, ltb-true, eqb-true, not-true}
 use Rattle.page.specs.declared.Column.{Column}
-use Rattle.page.specs.Bytes.{pick}
-use Rattle.page.specs.Tables.{Named, Table, all-tables, no-table, no-column, table-at, number-at, columns, width, column-at, standing}
+use Rattle.page.specs.Bytes.{Bytes, bytes, pick, same}
+use Rattle.page.specs.Lines.{find}
+use Rattle.page.specs.Tables.{Named, Table, all-tables, no-table, no-column, table-at, number-at, columns, width, column-at, standing, table-named}
 use Rattle.page.specs.Marks.{may-mark}
+use Rattle.page.proofs.NameLaws.{and-true, find-within, found}
 
 -- a list cut or filled up to n places
 unfoldable pub fill : {A : Type 0} → ℕ → A → List A → List A
@@ -60,15 +63,11 @@ unfoldable pub each : {A : Type 0} → (A → Bool) → List A → Bool
 each p [] = true
 each p (x ∷ xs) = p x && each p xs
 
-both : (a b : Bool) → (a && b) ≡ true → (a ≡ true) × (b ≡ true)
-both true b e = (refl, e)
-both false b e = absurd (false≢true e)
-
 each-at : {A : Type 0} (p : A → Bool) (d : A) → p d ≡ true → (l : List A) → each p l ≡ true → (n : ℕ) → p (getD l n d) ≡ true
 unfolding each
 each-at p d h [] e n = h
-each-at p d h (x ∷ xs) e zero = both (p x) (each p xs) e .0
-each-at p d h (x ∷ xs) e (suc n) = each-at p d h xs (both (p x) (each p xs) e .1) n
+each-at p d h (x ∷ xs) e zero = and-true (p x) (each p xs) e .0
+each-at p d h (x ∷ xs) e (suc n) = each-at p d h xs (and-true (p x) (each p xs) e .1) n
 
 pub table-test : (p : Table → Bool) → p no-table ≡ true → each p all-tables ≡ true → (t : ℕ) → p (table-at t) ≡ true
 unfolding table-at
@@ -121,6 +120,12 @@ pub may-mark-column : (t i : ℕ) → may-mark t i ≡ (leb 1 i && column-at t (
 unfolding may-mark standing column-at
 may-mark-column t i = refl
 
+pub fillable-within : (t k : ℕ) → column-at t k .fillable ≡ true → (k < width t) × (t < 8)
+fillable-within t k e =
+    let h : k < width t = lt-of-not-le (λ l. false≢true (sym (ap (λ (c : Column). c .fillable) (past-columns t k l)) ∙ e)) in
+    let g : t < 8 = lt-of-not-le (λ l. let z = past-width t l in omega arith) in
+    (h, g)
+
 -- a text that may be filled is in no key, and has room for 40 bytes
 pub fillable-is-text : (t k : ℕ) → column-at t k .fillable ≡ true
     → (column-at t k .text ≡ true) × (column-at t k .primary ≡ false) × (column-at t k .second ≡ false) × (column-at t k .hi ≡ 40)
@@ -169,7 +174,56 @@ one-fillable t k l e f =
 
 pub one-markable : (t i j : ℕ) → may-mark t i ≡ true → may-mark t j ≡ true → i ≡ j
 one-markable t i j e f =
-    let a = both (leb 1 i) (column-at t (i - 1) .fillable) (sym (may-mark-column t i) ∙ e) in
-    let b = both (leb 1 j) (column-at t (j - 1) .fillable) (sym (may-mark-column t j) ∙ f) in
+    let a = and-true (leb 1 i) (column-at t (i - 1) .fillable) (sym (may-mark-column t i) ∙ e) in
+    let b = and-true (leb 1 j) (column-at t (j - 1) .fillable) (sym (may-mark-column t j) ∙ f) in
     let k : i - 1 ≡ j - 1 = one-fillable t (i - 1) (j - 1) (a .1) (b .1) in
     omega (arith, leb-true 1 i (a .0), leb-true 1 j (b .0))
+
+pub may-mark-within : (t i : ℕ) → may-mark t i ≡ true → (1 ≤ i) × (i ≤ width t) × (t < 8)
+may-mark-within t i e =
+    let a = and-true (leb 1 i) (column-at t (i - 1) .fillable) (sym (may-mark-column t i) ∙ e) in
+    let w = fillable-within t (i - 1) (a .1) in
+    (leb-true 1 i (a .0), omega (arith, leb-true 1 i (a .0)), w .1)
+
+-- the eight tables, one by one
+pub each-of-eight : (P : ℕ → Type 0) → P 0 → P 1 → P 2 → P 3 → P 4 → P 5 → P 6 → P 7 → (t : ℕ) → t < 8 → P t
+each-of-eight P a b c d e f g h zero l = a
+each-of-eight P a b c d e f g h (suc zero) l = b
+each-of-eight P a b c d e f g h (suc (suc zero)) l = c
+each-of-eight P a b c d e f g h (suc (suc (suc zero))) l = d
+each-of-eight P a b c d e f g h (suc (suc (suc (suc zero)))) l = e
+each-of-eight P a b c d e f g h (suc (suc (suc (suc (suc zero))))) l = f
+each-of-eight P a b c d e f g h (suc (suc (suc (suc (suc (suc zero)))))) l = g
+each-of-eight P a b c d e f g h (suc (suc (suc (suc (suc (suc (suc zero))))))) l = h
+each-of-eight P a b c d e f g h (suc (suc (suc (suc (suc (suc (suc (suc t)))))))) l = absurd (omega arith)
+
+-- a table is told by its number
+
+unfoldable pub numbered : ℕ → List Table → ℕ
+numbered n [] = 0
+numbered n (x ∷ xs) = pick (eqb n (x .number)) 0 (suc (numbered n xs))
+
+pub number-tells : (t : ℕ) → t < 8 → numbered (number-at t) all-tables ≡ t
+unfolding numbered number-at table-at all-tables
+number-tells = each-of-eight (λ (t : ℕ). numbered (number-at t) all-tables ≡ t) refl refl refl refl refl refl refl refl
+
+pub number-injective : (t u : ℕ) → t < 8 → u < 8 → number-at t ≡ number-at u → t ≡ u
+number-injective t u h k e = sym (number-tells t h) ∙ ap (λ (n : ℕ). numbered n all-tables) e ∙ number-tells u k
+
+-- and by its name
+
+pub name-tells : (t : ℕ) → t < 8 → table-named (bytes (table-at t .name)) ≡ t
+unfolding table-named find same bytes table-at all-tables
+name-tells = each-of-eight (λ (t : ℕ). table-named (bytes (table-at t .name)) ≡ t) refl refl refl refl refl refl refl refl
+
+pub named-is : (w : Bytes) → table-named w < 8 → bytes (table-at (table-named w) .name) ≡ w
+unfolding table-named table-at all-tables
+named-is w h =
+    let n = map (λ (t : Table). t .name) all-tables in
+    let z : table-named w - 0 ≡ table-named w = omega arith in
+    ap bytes (sym (List·getD-map (λ (t : Table). t .name) all-tables (table-named w) no-table))
+    ∙ rw z at (found 0 n w h)
+
+pub named-le : (w : Bytes) → table-named w ≤ 8
+unfolding table-named all-tables
+named-le w = find-within 0 (map (λ (t : Table). t .name) all-tables) w .1
