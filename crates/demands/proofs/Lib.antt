@@ -1,3 +1,4 @@
 pub mod Decides
 pub mod Tests
 pub mod Values
+pub mod Agrees

@@ -11,11 +11,13 @@ use lib.ListN.{length, getD, take}
 use borrow.Author.Tests.{eqb-true, leb-true, lt-ltb, le-ltb, eq-eqb, ne-eqb}
 use Rattle.page.specs.Bytes.{Bytes, bytes, pick, same, all, until, space, no-space, trim}
 use Rattle.page.specs.Lines.{blank, command, semicolon, find, known, Mod, Unknown, Missing}
-use Rattle.page.specs.Tables.{Named, columns}
+use Rattle.page.specs.Tables.{Named, table-at, table-named, table-count}
 use Rattle.page.specs.Section.{names-same, format-ok, formats-ok}
 use Rattle.page.specs.Grammar.{Formats, no-format, a-format, Rises, lone, above}
-use Rattle.page.specs.Refusals.{marks-of}
+use Rattle.page.specs.Refusals.{marks-of, One}
 use Rattle.page.specs.Marks.{may-mark}
+use Rattle.page.proofs.NameLaws.{find-within}
+use Rattle.page.proofs.TableLaws.{name-tells, named-is}
 use Rattle.demands.proofs.Decides.{Decides, holds, fails, fact, lie, tested, untested, when, both, one-of, by-test, equal, at-most, below}
 
 -- equal bytes
@@ -68,20 +70,10 @@ rises-d t i (suc m) = both (is-d (may-mark t i)) (when above part (below (suc m)
     part : Rises i (suc m ∷ []) → suc m < i
     part (above h) = h
 
--- a place in a list of names is at most one past its last
-pub find-le : (i : ℕ) (ks : List _) (w : Bytes) → find i ks w ≤ i + length ks
-unfolding find
-find-le i [] w = omega arith
-find-le i (k ∷ ks) w = by (same w (bytes k)) (find-le (suc i) ks w)
-  where
-    by : (b : Bool) → find (suc i) ks w ≤ suc i + length ks → pick b i (find (suc i) ks w) ≤ i + length (k ∷ ks)
-    by true h = omega arith
-    by false h = omega arith
-
 -- "no `;`, or unknown command"
 pub command-le : (c : Bytes) → command c ≤ Missing
 unfolding command known
-command-le c = by (ltb (until semicolon c) (length c)) (find-le Mod known (trim (take (until semicolon c) c)))
+command-le c = by (ltb (until semicolon c) (length c)) (find-within Mod known (trim (take (until semicolon c) c)) .1)
   where
     by : (b : Bool) → find Mod known (trim (take (until semicolon c) c)) ≤ 15 → pick b (find Mod known (trim (take (until semicolon c) c))) 16 ≤ 16
     by true h = omega arith
@@ -115,3 +107,21 @@ no-semicolon (b ∷ c) e = by (eqb b 32) (equal b 32) e (no-semicolon c)
 pub blank-missing : (c : Bytes) → blank c ≡ true → command c ≡ Missing
 unfolding blank command
 blank-missing c h = rw (le-ltb _ _ (no-semicolon c (eqb-true _ _ h)))
+
+-- exactly one field
+pub one-d : (fs : List Bytes) → Decides (One fs) (eqb (length fs) 1)
+one-d [] = fails (λ o. let e = o .1 in absurd (false≢true (cc)))
+one-d (f ∷ []) = holds (f, refl)
+one-d (f ∷ g ∷ fs) = rw (ne-eqb (length (f ∷ g ∷ fs)) 1 (λ e. omega arith)) (fails (λ o. let e = o .1 in absurd (false≢true (cc))))
+
+-- the name of one of the tables
+pub named-d : (f : Bytes) → Decides ((t : ℕ) × (t < table-count) × (f ∷ [] ≡ bytes (table-at t .name) ∷ [])) (ltb (table-named f) table-count)
+named-d f = when (λ h. (table-named f, h, ap (λ (x : Bytes). x ∷ []) (sym (named-is f h)))) back (below (table-named f) table-count)
+  where
+    back : (t : ℕ) × (t < table-count) × (f ∷ [] ≡ bytes (table-at t .name) ∷ []) → table-named f < table-count
+    back x =
+        let t = x .0 in
+        let h = x .1 in
+        let q = x .2 in
+        let e : f ≡ bytes (table-at t .name) = cc in
+        rw (e, name-tells t h) h
