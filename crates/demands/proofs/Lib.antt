@@ -2,3 +2,4 @@ pub mod Decides
 pub mod Tests
 pub mod Values
 pub mod Agrees
+pub mod Steps
