@@ -3,3 +3,5 @@ pub mod Tests
 pub mod Values
 pub mod Agrees
 pub mod Steps
+pub mod Ranged
+pub mod Accepts
