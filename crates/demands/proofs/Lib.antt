@@ -5,3 +5,4 @@ pub mod Agrees
 pub mod Steps
 pub mod Ranged
 pub mod Accepts
+pub mod Readings
