@@ -6,3 +6,5 @@ pub mod Steps
 pub mod Ranged
 pub mod Accepts
 pub mod Readings
+pub mod Refuses
+pub mod Counts
