@@ -8,3 +8,5 @@ pub mod Accepts
 pub mod Readings
 pub mod Refuses
 pub mod Counts
+pub mod Lists
+pub mod Headers
