@@ -9,4 +9,5 @@ pub mod Readings
 pub mod Refuses
 pub mod Counts
 pub mod Lists
+pub mod HeaderLines
 pub mod Headers
