@@ -11,3 +11,4 @@ pub mod Counts
 pub mod Lists
 pub mod HeaderLines
 pub mod Headers
+pub mod Trailers

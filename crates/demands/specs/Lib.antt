@@ -1,2 +1,3 @@
 pub mod Begins
 pub mod Headers
+pub mod Trailers
