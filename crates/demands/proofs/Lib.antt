@@ -12,3 +12,5 @@ pub mod Lists
 pub mod HeaderLines
 pub mod Headers
 pub mod Trailers
+pub mod Firsts
+pub mod Sections
