@@ -16,7 +16,7 @@ module _ {A : Type 0} (Breaks : List A → A → Type 0) where
   none-nil seen [] after x e = absurd (false≢true (cc))
   none-nil seen (y ∷ before) after x e = absurd (false≢true (cc))
 
-  onto : (seen : List A) (x : A) (before : List A) → (seen ++ (x ∷ [])) ++ before ≡ seen ++ (x ∷ before)
+  pub onto : (seen : List A) (x : A) (before : List A) → (seen ++ (x ∷ [])) ++ before ≡ seen ++ (x ∷ before)
   onto seen x before = append-assoc seen (x ∷ []) before
 
   pub none-cons : (seen : List A) (x : A) (xs : List A) → ¬ Breaks seen x → NoneOf Breaks (seen ++ (x ∷ [])) xs → NoneOf Breaks seen (x ∷ xs)
@@ -32,10 +32,10 @@ module _ {A : Type 0} (Breaks : List A → A → Type 0) where
   pub none-tail : (seen : List A) (x : A) (xs : List A) → NoneOf Breaks seen (x ∷ xs) → NoneOf Breaks (seen ++ (x ∷ [])) xs
   none-tail seen x xs k before after y e b = k (x ∷ before) after y (ap (λ (z : List A). x ∷ z) e) (rw (onto seen x before) at b)
 
-  pub first-here : (seen : List A) (x : A) (xs : List A) → Breaks seen x → First Breaks seen (x ∷ xs) x
+  unfoldable pub first-here : (seen : List A) (x : A) (xs : List A) → Breaks seen x → First Breaks seen (x ∷ xs) x
   first-here seen x xs b = record { before = []; after = xs; split = refl; breaks = rw (append-nil seen) b; none-before = none-nil seen }
 
-  pub first-later : (seen : List A) (x y : A) (xs : List A) → ¬ Breaks seen x → First Breaks (seen ++ (x ∷ [])) xs y → First Breaks seen (x ∷ xs) y
+  unfoldable pub first-later : (seen : List A) (x y : A) (xs : List A) → ¬ Breaks seen x → First Breaks (seen ++ (x ∷ [])) xs y → First Breaks seen (x ∷ xs) y
   first-later seen x y xs n f =
       record {
         before = x ∷ f .before;

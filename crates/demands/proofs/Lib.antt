@@ -14,3 +14,5 @@ pub mod Headers
 pub mod Trailers
 pub mod Firsts
 pub mod Sections
+pub mod Contents
+pub mod Offenders

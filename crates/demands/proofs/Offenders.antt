@@ -1,0 +1,1 @@
+-- The first record in file order that breaks a rule.
