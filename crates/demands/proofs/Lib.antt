@@ -16,3 +16,5 @@ pub mod Firsts
 pub mod Sections
 pub mod Contents
 pub mod Offenders
+pub mod Splits
+pub mod Keys
