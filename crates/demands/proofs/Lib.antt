@@ -18,3 +18,5 @@ pub mod Contents
 pub mod Offenders
 pub mod Splits
 pub mod Keys
+pub mod Stages
+pub mod Files
