@@ -167,15 +167,20 @@ module _ (s : Bytes) where
       (rw a (Stages.unsound-gives s l (header-exactly (header-lines s) .1 h) (trailer-clear t) v (suc (length (f .before))) n z (section-found x k v n f r)), z)
   refused-gives v i n (table-again cs l h t d c f a b e) =
       (rw (a, b, e) (Stages.again-gives s l (header-exactly (header-lines s) .1 h) (trailer-clear t) (sections-clear d) (suc (length (f .before))) 1 (table-found c d f)), λ z. omega arith)
-  refused-gives v i n (primary-again cs l h t d m e f a b w) =
-      (rw (a, b, w) (Stages.primary-gives s l (header-exactly (header-lines s) .1 h) (trailer-clear t) (sections-clear d) (tables-clear d m) (e .section) (e .line) (keys-found 18 by-primary e f)),
-      λ z. omega arith)
-  refused-gives v i n (second-again cs l h t d m p e f a b w) =
-      (rw (a, b, w) (Stages.second-gives s l (header-exactly (header-lines s) .1 h) (trailer-clear t) (sections-clear d) (tables-clear d m) (keys-clear 18 by-primary p) (e .section) (e .line)
-      (keys-found 19 by-second e f)), λ z. omega arith)
-  refused-gives v i n (reference-lost cs l h t d m p q e f a b w) =
-      (rw (a, b, w) (Stages.last-gives s l (header-exactly (header-lines s) .1 h) (trailer-clear t) (sections-clear d) (tables-clear d m) (keys-clear 18 by-primary p) (keys-clear 19 by-second q)
-      (refusal 20 (e .section) (e .line)) (lost-found e d f)), λ z. omega arith)
+  refused-gives v i n (primary-again cs l h t d m e f a b w) = (
+    rw (a, b, w) (Stages.primary-gives s l (header-exactly (header-lines s) .1 h) (trailer-clear t) (sections-clear d) (tables-clear d m) (e .section) (e .line) (keys-found 18 by-primary e f)),
+    λ z. omega arith,
+  )
+  refused-gives v i n (second-again cs l h t d m p e f a b w) = (
+    rw (a, b, w) (Stages.second-gives s l (header-exactly (header-lines s) .1 h) (trailer-clear t) (sections-clear d) (tables-clear d m) (keys-clear 18 by-primary p) (e .section) (e .line)
+        (keys-found 19 by-second e f)),
+    λ z. omega arith,
+  )
+  refused-gives v i n (reference-lost cs l h t d m p q e f a b w) = (
+    rw (a, b, w) (Stages.last-gives s l (header-exactly (header-lines s) .1 h) (trailer-clear t) (sections-clear d) (tables-clear d m) (keys-clear 18 by-primary p) (keys-clear 19 by-second q)
+        (refusal 20 (e .section) (e .line)) (lost-found e d f)),
+    λ z. omega arith,
+  )
 
   -- an accepted file's answer is 0
   sound-gives : (cs : List Content) → SoundFile s cs → file-refusal s ≡ sound
@@ -200,16 +205,19 @@ module _ (s : Bytes) where
     last-settled m p q (inr x) = inr (20, x .0 .section, x .0 .line, reference-lost cs l h t d m p q (x .0) (x .1) refl refl refl)
     last-settled m p q (inl x) =
         let k = as-filed d in
-        inl (cs, record {
-          size = l;
-          header = h;
-          trailer = t;
-          tables = d;
-          once = apart-none no-content (λ (c : Content). c .table) cs .1 m;
-          primary = keys-exactly by-primary cs (filedOf s) k m .0 p;
-          second = keys-exactly by-second cs (filedOf s) k m .0 q;
-          references = references-exactly cs (filedOf s) k (known-filed d) .0 (x .0);
-        })
+        inl (
+          cs,
+          record {
+            size = l;
+            header = h;
+            trailer = t;
+            tables = d;
+            once = apart-none no-content (λ (c : Content). c .table) cs .1 m;
+            primary = keys-exactly by-primary cs (filedOf s) k m .0 p;
+            second = keys-exactly by-second cs (filedOf s) k m .0 q;
+            references = references-exactly cs (filedOf s) k (known-filed d) .0 (x .0);
+          },
+        )
 
     second-settled : NoneOf TableAgain [] cs → NoneOf (KeyAgain by-primary) [] (filedOf s) → KeyTold 19 by-second (filedOf s) → Settled
     second-settled m p (inr x) = inr (19, x .0 .section, x .0 .line, second-again cs l h t d m p (x .0) (x .1) refl refl refl)
