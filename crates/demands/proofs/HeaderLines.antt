@@ -34,7 +34,7 @@ either false true n = refl
 either false false n = refl
 
 -- meeting k counts k once more
-tallies : (k : ℕ) (m : Met) → met-before k m ≡ false → Every (λ j. tally j (meet k m) ≡ tally j m + pick (eqb k j) 1 0) followers
+pub tallies : (k : ℕ) (m : Met) → met-before k m ≡ false → Every (λ j. tally j (meet k m) ≡ tally j m + pick (eqb k j) 1 0) followers
 unfolding met-before meet
 tallies k m e =
     one-more (either (m .src) (eqb k Src) (clash Src (m .src) refl)) (one-more (either (m .chs) (eqb k Chs) (clash Chs (m .chs) refl))
@@ -45,7 +45,7 @@ tallies k m e =
     clash j b q h g = false≢true (sym e ∙ ap (λ (x : ℕ). met-before x m) (eqb-true k j g) ∙ q ∙ h)
 
 -- only a follower has not been met
-follower : (k : ℕ) (m : Met) → met-before k m ≡ false → List·Memᴰ k followers
+pub follower : (k : ℕ) (m : Met) → met-before k m ≡ false → List·Memᴰ k followers
 unfolding met-before
 follower k m e = src (eqb k Src) (equal k Src) e
   where
@@ -85,7 +85,7 @@ pub record Follows (m : Met) (ls : List Bytes) : Type 0 where
   pub once : Every (λ k. tally k m + times k (spoken ls) ≤ 1) followers
 
 -- a line that is not spoken
-abbrev silent : Bytes → Bool
+abbrev pub silent : Bytes → Bool
 silent l = blank (content l) || eqb (command (content l)) Com
 
 spoken-not : (l : Bytes) (ls : List Bytes) → silent l ≡ true → spoken (l ∷ ls) ≡ spoken ls
@@ -104,15 +104,15 @@ silent-step : (m : Met) (l : Bytes) → clean false (content l) ≡ true → sil
 unfolding head-step head-choose
 silent-step m l c s = rw (c, s)
 
-other-line : (m : Met) (l : Bytes) → ¬ (m .form ≡ 0) → clean false (content l) ≡ true → silent l ≡ false → head-step m (content l) ≡ other-step m (command (content l)) (fields-of l)
+pub other-line : (m : Met) (l : Bytes) → ¬ (m .form ≡ 0) → clean false (content l) ≡ true → silent l ≡ false → head-step m (content l) ≡ other-step m (command (content l)) (fields-of l)
 unfolding head-step head-choose
 other-line m l f c s = rw (c, s, ne-eqb (m .form) 0 f)
 
-first-line : (m : Met) (l : Bytes) → m .form ≡ 0 → clean false (content l) ≡ true → silent l ≡ false → head-step m (content l) ≡ mod-step (command (content l)) (fields-of l)
+pub first-line : (m : Met) (l : Bytes) → m .form ≡ 0 → clean false (content l) ≡ true → silent l ≡ false → head-step m (content l) ≡ mod-step (command (content l)) (fields-of l)
 unfolding head-step head-choose
 first-line m l f c s = rw (c, s, f)
 
-other-go : (m : Met) (k : ℕ) (fs : List Bytes) → met-before k m ≡ false → holds k (m .form) fs ≡ true → other-step m k fs ≡ H.Go (meet k m)
+pub other-go : (m : Met) (k : ℕ) (fs : List Bytes) → met-before k m ≡ false → holds k (m .form) fs ≡ true → other-step m k fs ≡ H.Go (meet k m)
 unfolding other-step head-choose
 other-go m k fs b h = rw (b, h)
 

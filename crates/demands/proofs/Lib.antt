@@ -20,3 +20,7 @@ pub mod Splits
 pub mod Keys
 pub mod Stages
 pub mod Files
+pub mod Own
+pub mod Witnesses
+pub mod Completions
+pub mod Numbers
