@@ -1,7 +1,7 @@
 -- Each table of an accepted file is its own section's: as many tables as sections, each with the records that its own lines denote.
-use mathlib.Core.Path.{_≡_, refl, ap, sym, _∙_}
-use mathlib.Core.Bool.{Bool, true, false}
-use mathlib.Core.List.{List, [], _∷_}
+use mathlib.Core.Path.{_≡_, refl, ap}
+use mathlib.Core.Bool.{Bool}
+use mathlib.Core.List.{List, []}
 use Prim.Native.Nat.{ℕ, zero, suc, _<_}
 use native.Mathlib.Omega.{arith}
 use lib.ListN.{length, getD}
@@ -9,12 +9,10 @@ use Rattle.page.specs.Bytes.{Bytes}
 use Rattle.page.specs.Lines.{Rec}
 use Rattle.page.specs.Cut.{Section, sections}
 use Rattle.page.specs.Head.{latinOf}
-use Rattle.page.specs.File.{file-refusal}
-use Rattle.page.specs.Model.{Content, modelOf}
+use Rattle.page.specs.Model.{Content}
 use Rattle.page.specs.Grammar.{Denotes}
 use Rattle.page.specs.Rules.{Tables, no-table, a-table, times, SoundFile}
 use Rattle.demands.proofs.Counts.{records-counted}
-use Rattle.demands.proofs.Readings.{one-reading}
 
 -- the section and the content past the end of a list
 abbrev no-section : Section

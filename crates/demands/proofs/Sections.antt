@@ -1,12 +1,12 @@
 -- Every section of a file begins with its `tbl` line.
-use mathlib.Core.Path.{_≡_, refl, ap, sym, _∙_}
-use mathlib.Core.Bool.{Bool, true, false, false≢true}
+use mathlib.Core.Path.{_≡_, refl}
+use mathlib.Core.Bool.{Bool, true, false}
 use mathlib.Core.List.{List, [], _∷_}
 use Prim.Native.Nat.{ℕ, _+_}
 use lib.ListN.{length}
 use Rattle.page.specs.Bytes.{Bytes}
 use Rattle.page.specs.Lines.{lines, joined}
-use Rattle.page.specs.Cut.{begins-table, begins-end, Piece, a-table, a-trailer, Cut, put, cut, Section, piece-lines, placed, header-lines, sections}
+use Rattle.page.specs.Cut.{begins-table, begins-end, Piece, a-table, a-trailer, put, cut, placed, header-lines, sections}
 use Rattle.page.specs.Rules.{Every, none-left, one-more}
 use Rattle.demands.specs.Begins.{begins}
 
