@@ -24,3 +24,4 @@ pub mod Own
 pub mod Witnesses
 pub mod Completions
 pub mod Numbers
+pub mod Places

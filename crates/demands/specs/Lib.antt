@@ -3,3 +3,4 @@ pub mod Headers
 pub mod Trailers
 pub mod First
 pub mod Files
+pub mod Places
