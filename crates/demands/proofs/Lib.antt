@@ -1,1 +1,4 @@
 pub mod Local
+pub mod LocalValues
+pub mod WrittenScans
+pub mod WrittenNumbers

@@ -24,7 +24,7 @@ use Rattle.demands.specs.Local.{Run, whole, last, settled, final, closed
 pub run-lines : {m b : Bytes} → Run m b → lines (m ++ b) ≡ lines m ++ lines b
 unfolding lines
 run-lines (whole b w) = lines-append w b
-run-lines (last m) = rw (append-nil, append-nil)
+run-lines (last m) = rw (append-nil m, append-nil (lines m))
 
 extend-settled : (ps : List Piece) (ms : List Bytes) → extend ps ms ≡ settled ps ++ final ps ms
 unfolding extend settled final
@@ -99,6 +99,15 @@ getD-later : (k : ℕ) (xs : List Section) (i : ℕ) → i < length xs → getD 
 getD-later k [] i h = absurd (omega arith)
 getD-later k (x ∷ xs) zero h = refl
 getD-later k (x ∷ xs) (suc i) h = getD-later k xs i (omega arith)
+
+-- a has its first table line
+pub has-table : (a : Bytes) → 0 < length (sections a) → 0 < length (cut (lines a) .pieces)
+unfolding sections placed
+has-table a h = by (cut (lines a) .pieces) h
+  where
+    by : (ps : List Piece) → 0 < length (placed (length (joined (header-lines a))) ps) → 0 < length ps
+    by [] h = h
+    by (p ∷ ps) h = omega arith
 
 -- a: whole lines, the first `tbl` or `eof` line among them; a run m; b: the rest
 module _ (a m b : Bytes) (wa : Whole a) (ha : 0 < length (cut (lines a) .pieces)) (r : Run m b) where
