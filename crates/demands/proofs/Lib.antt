@@ -2,3 +2,5 @@ pub mod Local
 pub mod LocalValues
 pub mod WrittenScans
 pub mod WrittenNumbers
+pub mod WrittenTexts
+pub mod WrittenFields
