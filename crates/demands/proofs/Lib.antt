@@ -4,3 +4,5 @@ pub mod WrittenScans
 pub mod WrittenNumbers
 pub mod WrittenTexts
 pub mod WrittenFields
+pub mod WrittenLines
+pub mod WrittenDates
