@@ -6,3 +6,4 @@ pub mod WrittenTexts
 pub mod WrittenFields
 pub mod WrittenLines
 pub mod WrittenDates
+pub mod Promises
