@@ -7,3 +7,5 @@ pub mod WrittenFields
 pub mod WrittenLines
 pub mod WrittenDates
 pub mod Promises
+pub mod Strip
+pub mod Fill
