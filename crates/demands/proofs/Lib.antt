@@ -9,3 +9,4 @@ pub mod WrittenDates
 pub mod Promises
 pub mod Strip
 pub mod Fill
+pub mod RoundRecords
