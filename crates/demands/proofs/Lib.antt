@@ -10,3 +10,5 @@ pub mod Promises
 pub mod Strip
 pub mod Fill
 pub mod RoundRecords
+pub mod RoundSteps
+pub mod RoundHeads

@@ -161,13 +161,13 @@ module _ (latin : Bool) where
   fields-stand [] = no-field
   fields-stand (v ∷ vs) = a-field (datum-field v) (fields-stand vs)
 
-  separated-allowed : {cs : List Named} {vs : Record} → FitAll latin cs vs → all (allowed latin) (separated (map datum-text vs)) ≡ true
+  pub separated-allowed : {cs : List Named} {vs : Record} → FitAll latin cs vs → all (allowed latin) (separated (map datum-text vs)) ≡ true
   unfolding separated all allowed bytes
   separated-allowed no-value = refl
   separated-allowed (a-value {c} {v} {vs} f g) =
       all-append (allowed latin) (datum-text v) (separated (map datum-text vs)) (datum-allowed latin (c .column) v f) (separated-allowed g)
 
-  amount-back : {cs : List Named} {vs : Record} → FitAll latin cs vs → small cs ≡ true → (k : ℕ) → amount-at (map datum-text vs) k ≡ amount-in vs k
+  pub amount-back : {cs : List Named} {vs : Record} → FitAll latin cs vs → small cs ≡ true → (k : ℕ) → amount-at (map datum-text vs) k ≡ amount-in vs k
   unfolding amount-at amount-in amount-of datum-text small
   amount-back no-value s k = nothing-there
   amount-back (a-value {c} {cs} {v = number n} {vs} (a-number x l h) g) s zero =

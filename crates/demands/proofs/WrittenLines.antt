@@ -151,3 +151,17 @@ module _ {s : String} {k : ℕ} (n : Named s k) (f : Bytes) (fs : List Bytes) wh
         split = rw (e, body-rest) (fields-again d);
         ended = rw line-body (ended-of body pr);
       }
+
+-- the bytes of the fields, with what separates them
+pub separated-one : (f : Bytes) → separated (f ∷ []) ≡ 59 ∷ 32 ∷ f
+unfolding separated bytes
+separated-one f = ap (λ (x : Bytes). 59 ∷ 32 ∷ x) (append-nil f)
+
+pub separated-more : (wide : Bool) (f : Bytes) (fs : List Bytes) → all (allowed wide) f ≡ true → all (allowed wide) (separated fs) ≡ true →
+    all (allowed wide) (separated (f ∷ fs)) ≡ true
+unfolding separated bytes all allowed
+separated-more wide f fs h g = all-append (allowed wide) f (separated fs) h g
+
+pub separated-none : (wide : Bool) → all (allowed wide) (separated []) ≡ true
+unfolding separated all
+separated-none wide = refl
