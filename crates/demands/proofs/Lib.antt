@@ -12,3 +12,4 @@ pub mod Fill
 pub mod RoundRecords
 pub mod RoundSteps
 pub mod RoundHeads
+pub mod RoundSections

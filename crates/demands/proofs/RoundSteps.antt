@@ -89,7 +89,7 @@ module _ (latin : Bool) where
       let z : suc i + j ≡ i + suc j = omega arith in
       rw z (marked (suc j) b u (omega arith) f t (rw (q, e, z)) (w (i + suc j) (λ (y : i + suc j ≡ i). omega arith) (rw z at o)))
 
-  marks-back : (i : ℕ) {cs : List Named} {vs : Record} → 0 < i → FitAll latin cs vs → one-fillable cs ≡ true → (m : ℕ) × Marked i cs vs m
+  pub marks-back : (i : ℕ) {cs : List Named} {vs : Record} → 0 < i → FitAll latin cs vs → one-fillable cs ≡ true → (m : ℕ) × Marked i cs vs m
   unfolding one-fillable mark-lines mark-lines-of datum-text
   marks-back i p no-value e = (0, unmarked refl no-owner)
   marks-back i p (a-value {c} {cs} (a-number x l q) g) e =
