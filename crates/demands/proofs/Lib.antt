@@ -13,3 +13,4 @@ pub mod RoundRecords
 pub mod RoundSteps
 pub mod RoundHeads
 pub mod RoundSections
+pub mod RoundHeader
