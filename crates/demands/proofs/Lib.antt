@@ -14,3 +14,4 @@ pub mod RoundSteps
 pub mod RoundHeads
 pub mod RoundSections
 pub mod RoundHeader
+pub mod RoundHeaderValues
