@@ -15,3 +15,4 @@ pub mod RoundHeads
 pub mod RoundSections
 pub mod RoundHeader
 pub mod RoundHeaderValues
+pub mod RoundCut

@@ -116,7 +116,7 @@ module _ (latin : Bool) (t : ℕ) (known : t < table-count) where
     unfolding entries waits
     mark-entries i l h more = rw (mark-seen latin t i .named, mark-reads latin t i l h)
 
-  some-columns : 0 < length (columns t)
+  pub some-columns : 0 < length (columns t)
   unfolding columns
   some-columns = heads latin t known .some
 
