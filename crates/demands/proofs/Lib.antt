@@ -16,3 +16,4 @@ pub mod RoundSections
 pub mod RoundHeader
 pub mod RoundHeaderValues
 pub mod RoundCut
+pub mod RoundKeys

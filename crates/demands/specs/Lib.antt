@@ -1,3 +1,4 @@
 pub mod Local
 pub mod Promises
 pub mod Round
+pub mod RoundKeys
