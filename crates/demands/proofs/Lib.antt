@@ -17,3 +17,4 @@ pub mod RoundHeader
 pub mod RoundHeaderValues
 pub mod RoundCut
 pub mod RoundKeys
+pub mod RoundForm
