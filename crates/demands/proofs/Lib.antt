@@ -18,3 +18,4 @@ pub mod RoundHeaderValues
 pub mod RoundCut
 pub mod RoundKeys
 pub mod RoundForm
+pub mod RoundReads

@@ -115,7 +115,7 @@ datum-field (number n) = decimal-field n
 datum-field (words o t) = quoted-field t
 
 -- a text is no number
-quoted-none : (t : Bytes) → numberOf (quoted t) ≡ N.Nothing
+pub quoted-none : (t : Bytes) → numberOf (quoted t) ≡ N.Nothing
 unfolding numberOf quoted digits all digit
 quoted-none t = by (leb 1 (length (34 ∷ doubled t ++ 34 ∷ []))) (leb (length (34 ∷ doubled t ++ 34 ∷ [])) 18)
   where
