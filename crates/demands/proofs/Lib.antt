@@ -37,3 +37,4 @@ pub mod Firsts
 pub mod Sections
 pub mod Contents
 pub mod Offenders
+pub mod RoundHeaderReads

@@ -38,7 +38,7 @@ all-take p zero w h = refl
 all-take p (suc n) [] h = refl
 all-take p (suc n) (b ∷ w) h = rw (and-l (p b) (all p w) h) (all-take p n w (and-r (p b) (all p w) h))
 
-all-drop : (p : ℕ → Bool) (n : ℕ) (w : Bytes) → all p w ≡ true → all p (drop n w) ≡ true
+pub all-drop : (p : ℕ → Bool) (n : ℕ) (w : Bytes) → all p w ≡ true → all p (drop n w) ≡ true
 unfolding all
 all-drop p zero w h = h
 all-drop p (suc n) [] h = refl
@@ -48,22 +48,21 @@ all-trim : (p : ℕ → Bool) (w : Bytes) → all p w ≡ true → all p (trim w
 unfolding trim
 all-trim p w h = all-take p (trimOf w .to - trimOf w .from) (drop (trimOf w .from) w) (all-drop p (trimOf w .from) w h)
 
-pub Passing : (ℕ → Bool) → Bytes → Type 0
+abbrev pub Passing : (ℕ → Bool) → Bytes → Type 0
 Passing p w = all p w ≡ true
 
 into-all : (p : ℕ → Bool) (s : Bool) (b : ℕ) {fs : List Bytes} → p b ≡ true → Every (Passing p) fs → Every (Passing p) (into s b fs)
-unfolding Passing all
+unfolding all
 into-all p true b h e = one-more refl e
 into-all p false b h none-left = one-more {x = b ∷ []} (rw h) none-left
 into-all p false b h (one-more {x} f fs) = one-more {x = b ∷ x} (rw h f) fs
 
-split-all : (p : ℕ → Bool) (q : Bool) (w : Bytes) → all p w ≡ true → Every (Passing p) (split q w)
-unfolding split all Passing
+pub split-all : (p : ℕ → Bool) (q : Bool) (w : Bytes) → all p w ≡ true → Every (Passing p) (split q w)
+unfolding split all
 split-all p q [] h = one-more refl none-left
 split-all p q (b ∷ w) h = into-all p (parts-here q b) b (and-l (p b) (all p w) h) (split-all p (inside-after q b) w (and-r (p b) (all p w) h))
 
-trim-each : (p : ℕ → Bool) {fs : List Bytes} → Every (Passing p) fs → Every (Passing p) (map trim fs)
-unfolding Passing
+pub trim-each : (p : ℕ → Bool) {fs : List Bytes} → Every (Passing p) fs → Every (Passing p) (map trim fs)
 trim-each p none-left = none-left
 trim-each p (one-more {x} f fs) = one-more (all-trim p x f) (trim-each p fs)
 
@@ -105,7 +104,7 @@ module _ (latin : Bool) (ms : List ℕ) where
 
   values-fit : {i : ℕ} {cs : List Named} {fs : List Bytes} {vs : Record} → Values ms i cs fs vs → Every (Passing (allowed latin)) fs → MarksFit i cs →
       ¬ List·Memᴰ (words O.Suggestion []) vs → FitAll latin cs vs
-  unfolding Passing record-text
+  unfolding record-text
   values-fit no-field p f n = no-value
   values-fit (a-field {i} {c} {cs} {f = w} {vs} (Grammar.a-number k r l h) g) (one-more q qs) f n =
       a-value (a-number k l h) (values-fit g qs (next-fit i c cs f) (λ (m : List·Memᴰ (words O.Suggestion []) vs). n (List·Memᴰ·tail m)))
