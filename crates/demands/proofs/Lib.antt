@@ -38,3 +38,4 @@ pub mod Sections
 pub mod Contents
 pub mod Offenders
 pub mod RoundHeaderReads
+pub mod Round
