@@ -39,3 +39,4 @@ pub mod Contents
 pub mod Offenders
 pub mod RoundHeaderReads
 pub mod Round
+pub mod Marks

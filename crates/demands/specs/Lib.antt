@@ -7,3 +7,4 @@ pub mod Headers
 pub mod Trailers
 pub mod First
 pub mod Files
+pub mod Marks
