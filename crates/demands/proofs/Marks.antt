@@ -105,3 +105,74 @@ suggestion-marked ms i e = by (marked i ms) e
     by : (b : Bool) → O.Suggestion ≡ pick b O.Suggestion O.Operator → b ≡ true
     by true e = refl
     by false e = cc
+
+-- the same of the value that a call hands out: the mark that waits is the only one
+
+pass-at : (r m at k : ℕ) (l : Bytes) (ls : List Bytes) → command (content l) ≡ k → eqb k Rec ≡ false → eqb k Com ≡ false → record-at r m at (l ∷ ls) ≡ record-at r m (at + length l) ls
+unfolding record-at waits
+pass-at r m at k l ls e a b = rw (e, a, b)
+
+quiet-at : {latin : Bool} (r m at : ℕ) (l : Bytes) (ls : List Bytes) → Quiet latin l → record-at r m at (l ∷ ls) ≡ record-at r m (at + length l) ls
+unfolding record-at waits
+quiet-at r m at l ls (empty c b) = pass-at r m at Missing l ls (blank-missing (content l) b) refl refl
+quiet-at r m at l ls (remark s e) = rw (s .named, e)
+
+mark-at : (r m at i : ℕ) (l : Bytes) (ls : List Bytes) → command (content l) ≡ Com → remarkOf (rest (content l)) ≡ R.Mark i → record-at r m at (l ∷ ls) ≡ record-at r i (at + length l) ls
+unfolding record-at waits
+mark-at r m at i l ls e f = rw (e, f)
+
+rec-at : (r m at : ℕ) (l : Bytes) (ls : List Bytes) → command (content l) ≡ Rec → record-at r m at (l ∷ ls) ≡ this-or r (stands at l m) (λ q. record-at q 0 (at + length l) ls)
+unfolding record-at
+rec-at r m at l ls e = rw e
+
+stands-mark : (at : ℕ) (l : Bytes) (m : ℕ) → stands at l m .mark ≡ m
+unfolding stands
+stands-mark at l m = refl
+
+module _ (latin : Bool) (t : ℕ) where
+  -- may wait: none, or one of a field that may be marked
+  abbrev MayWait : ℕ → Type 0
+  MayWait m = (m ≡ 0) ⊎ (may-mark t m ≡ true)
+
+  records-wait : {n : ℕ} {ms : List ℕ} {ls : List Bytes} {rs : List Record} (m : ℕ) → ms ≡ marks-of m → MayWait m → Records latin t n ms ls rs → (r at : ℕ) → r < length rs →
+      marks-at r ms ls ≡ marks-of (record-at r m at ls .mark)
+  records-wait {ms} m e w (pause {l} {ls} q x) r at h = rw (quiet-marks r ms l ls q, quiet-at r m at l ls q) (records-wait m e w x r (at + length l) h)
+  records-wait {ms} m e w (a-mark {i} {l} {ls} k x) r at h =
+      let a : MarkLine latin t (marks-of m) i l = rw e at k in
+      rw (mark-marks r ms i l ls (k .says .named) (k .reads), mark-at r m at i l ls (k .says .named) (k .reads))
+      (records-wait i (ap (λ (z : List ℕ). i ∷ z) e ∙ sym (only-mark t m i w (a .may) (a .rises))) (inr (k .may)) x r (at + length l) h)
+  records-wait {ms} m e w (a-record {l} {ls} k x) zero at h = rw (record-marks zero ms l ls (k .says .named), rec-at zero m at l ls (k .says .named), stands-mark at l m) e
+  records-wait {ms} m e w (a-record {l} {ls} k x) (suc r) at h =
+      rw (record-marks (suc r) ms l ls (k .says .named), rec-at (suc r) m at l ls (k .says .named)) (records-wait 0 refl (inl refl) x r (at + length l) (omega arith))
+  records-wait m e w (the-end q s) r at h = absurd (let z : ⊥ = omega arith in z)
+
+  past-wait : {Q : Bytes → Type 0} {R : List Bytes → Type 0} {ls : List Bytes} (r at : ℕ) →
+      ((l : Bytes) (ms : List Bytes) (a : ℕ) → Q l → R ms → marks-at r [] (l ∷ ms) ≡ marks-of (record-at r 0 a (l ∷ ms) .mark)) → Then latin Q R ls →
+      marks-at r [] ls ≡ marks-of (record-at r 0 at ls .mark)
+  past-wait r at f (found {l} {ls} h x) = f l ls at h x
+  past-wait r at f (skip {l} {ls} h x) = rw (quiet-marks r [] l ls h, quiet-at r 0 at l ls h) (past-wait r (at + length l) f x)
+
+  denoted-wait : {ls : List Bytes} (rs : List Record) → Denotes latin ls t rs → (r at : ℕ) → r < length rs → marks-at r [] ls ≡ marks-of (record-at r 0 at ls .mark)
+  denoted-wait rs d r at h =
+      past-wait r at (λ l xs a p x. rw (pass-marks r [] Tbl l xs (p .says .named) refl refl, pass-at r 0 a Tbl l xs (p .says .named) refl refl)
+      (past-wait r (a + length l) (λ l ys b q y. rw (pass-marks r [] Atr l ys (q .says .named) refl refl, pass-at r 0 b Atr l ys (q .says .named) refl refl)
+      (past-wait r (b + length l) (λ l zs c w z. rw (pass-marks r [] Frm l zs (w .says .named) refl refl, pass-at r 0 c Frm l zs (w .says .named) refl refl)
+      (records-wait 0 refl (inl refl) z r (c + length l) h)) y)) x)) d
+
+owner-waits : (m f : ℕ) → 0 < f → owner-of m f ≡ owner-by (marks-of m) f
+unfolding owner-of owner-by marked
+owner-waits zero f h = rw (ne-eqb 0 f (λ (e : 0 ≡ f). omega arith))
+owner-waits (suc m) f h = by (eqb (suc m) f)
+  where
+    by : (b : Bool) → pick b O.Suggestion O.Operator ≡ pick (b || false) O.Suggestion O.Operator
+    by true = refl
+    by false = refl
+
+-- record r and field f, from 1
+pub owner-handed : (latin : Bool) (x : Section) → begins (x .lines) ≡ true → outcome latin (x .lines) .verdict ≡ 0 → (r f : ℕ) → 0 < r → r ≤ length (recordsOf latin (x .lines)) → 0 < f →
+    words-in (record-of x r) f .owner ≡ owner-by (marks-at (r - 1) [] (x .lines)) f
+unfolding words-in record-of
+owner-handed latin x b e r f p h q =
+    owner-waits (record-at (r - 1) 0 (x .place) (x .lines) .mark) f q
+    ∙ ap (λ (ms : List ℕ). owner-by ms f)
+    (sym (denoted-wait latin (table-of (x .lines)) (recordsOf latin (x .lines)) (handed-denoted latin (x .lines) b e) (r - 1) (x .place) (omega arith)))
