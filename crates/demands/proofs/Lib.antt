@@ -40,3 +40,4 @@ pub mod Offenders
 pub mod RoundHeaderReads
 pub mod Round
 pub mod Marks
+pub mod RoundAlike

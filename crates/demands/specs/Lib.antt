@@ -8,3 +8,4 @@ pub mod Trailers
 pub mod First
 pub mod Files
 pub mod Marks
+pub mod RoundAlike
