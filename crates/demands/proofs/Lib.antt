@@ -41,3 +41,4 @@ pub mod RoundHeaderReads
 pub mod Round
 pub mod Marks
 pub mod RoundAlike
+pub mod StripBack

@@ -8,13 +8,13 @@ use lib.Dec.{eqb, leb}
 use lib.ListN.{length, getD}
 use borrow.Author.Tests.{not-true}
 use Rattle.page.specs.Bytes.{Bytes, bytes, pick}
-use Rattle.page.specs.Tables.{Named, Reference, no-column, all-tables, table-at, table-named, columns, number-at}
+use Rattle.page.specs.Tables.{Named, Reference, no-column, all-tables, table-at, table-named, columns, number-at, points-from}
 use Rattle.page.specs.Records.{Datum, number, words, Record}
 use Rattle.page.specs.Model.{Content}
 use Rattle.page.specs.File.{any, Filed, same-record, key-in, key-of, by-primary, by-second, has-key, repeats, referred, meets, lost}
 use Rattle.page.specs.Rules.{Every, none-left, one-more}
 use Rattle.page.specs.declared.Column.{Column}
-use Rattle.demands.specs.Round.{Fits, a-number, a-text, a-suggestion, FitAll, no-value, a-value, amount-of, amount-in}
+use Rattle.demands.specs.Round.{Fits, a-number, a-text, a-suggestion, FitAll, no-value, a-value, amount-of, amount-in, points-alike, SoundRecord}
 use Rattle.demands.specs.RoundKeys.{again, breaks, placeless, filed-content, KeysHold}
 use Rattle.demands.specs.RoundAlike.{Pairs, no-pair, a-pair, Alike, alike-none, alike-same, alike-text, AlikeContent}
 use Rattle.demands.proofs.WrittenScans.{and-l, and-r}
@@ -159,3 +159,38 @@ keys-alike {cs} {ds} ps k =
       second = rw (← breaks-alike (repeats by-second) (repeats by-second) (λ xs ys. repeats-alike by-second (λ t. settled t .second)) no-pair fs) (k .second);
       references = rw (← breaks-alike (λ before. lost (filed-content cs)) (λ before. lost (filed-content ds)) (λ xs ys q d e a. lost-alike fs d e a) no-pair fs) (k .references);
     }
+
+-- the two points of records that are alike
+
+text-amount : (latin : Bool) (c : Column) (v : Datum) → c .text ≡ true → Fits latin c v → amount-of v ≡ 0
+unfolding amount-of
+text-amount latin c (number n) e (a-number k l h) = absurd (false≢true (sym k ∙ e))
+text-amount latin c (words o t) e f = refl
+
+fillable-text : (c : Column) (a b : Bool) → c .fillable ≡ true → ((not (c .fillable) || (a && b)) ≡ true) → a ≡ true
+fillable-text c a b f h = and-l a b (rw f at h)
+
+amount-alike : (latin : Bool) {cs : List Named} {vs us : Record} → only-texts cs ≡ true → FitAll latin cs vs → FitAll latin cs us → Alike cs vs us → (k : ℕ) → amount-in vs k ≡ amount-in us k
+unfolding amount-in only-texts
+amount-alike latin h no-value no-value alike-none k = refl
+amount-alike latin h (a-value f fs) (a-value g gs) (alike-same a) zero = refl
+amount-alike latin h (a-value {c} {cs} {v} f fs) (a-value {v = u} g gs) (alike-text e a) zero =
+    let t : c .column .text ≡ true =
+    fillable-text (c .column) (c .column .text) (leb 40 (c .column .hi)) e
+    (and-l (not (c .column .fillable) || (c .column .text && leb 40 (c .column .hi))) (only-texts cs) h) in
+    text-amount latin (c .column) v t f ∙ sym (text-amount latin (c .column) u t g)
+amount-alike latin h (a-value {c} {cs} f fs) (a-value g gs) (alike-same a) (suc k) =
+    amount-alike latin (and-r (not (c .column .fillable) || (c .column .text && leb 40 (c .column .hi))) (only-texts cs) h) fs gs a k
+amount-alike latin h (a-value {c} {cs} f fs) (a-value g gs) (alike-text e a) (suc k) =
+    amount-alike latin (and-r (not (c .column .fillable) || (c .column .text && leb 40 (c .column .hi))) (only-texts cs) h) fs gs a k
+
+-- a record that fits and is like one that may be said may be said
+pub sound-alike : (latin : Bool) (t : ℕ) {vs us : Record} → SoundRecord latin t vs → FitAll latin (columns t) us → Alike (columns t) vs us → SoundRecord latin t us
+unfolding points-alike
+sound-alike latin t {vs} {us} s g a =
+    let e : (k : ℕ) → amount-in us k ≡ amount-in vs k = λ (k : ℕ). sym (amount-alike latin (settled t .texts) (s .fit) g a k) in
+    record { fit = g; apart = rw (e (points-from t), e (points-from t + 2), e (points-from t + 1), e (points-from t + 3)) (s .apart) }
+
+pub alike-self : (latin : Bool) {cs : List Named} {vs : Record} → FitAll latin cs vs → Alike cs vs vs
+alike-self latin no-value = alike-none
+alike-self latin (a-value f fs) = alike-same (alike-self latin fs)
