@@ -42,3 +42,4 @@ pub mod Round
 pub mod Marks
 pub mod RoundAlike
 pub mod StripBack
+pub mod FillBack
