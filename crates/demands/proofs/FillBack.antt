@@ -178,3 +178,106 @@ module _ (s : Bytes) (i r f : ℕ) (t : Bytes) (h : fill-refusal s i r f t .numb
         ok = not-false (all (allowed (latinOf s)) t) (open-if (not (all (allowed (latinOf s)) t)) 4 (λ (z : 4 ≡ 0). omega arith) (g .0));
         small = ltb-false 40 (length t) (open-if (ltb 40 (length t)) 13 (λ (z : 13 ≡ 0). omega arith) (g .1));
       }
+
+  places : (0 < i) × (i ≤ length (sections s)) × (0 < r) × (r ≤ row-at s i .records) × (0 < f) × (f ≤ width the-table)
+  unfolding fill-place
+  places =
+      let a = or-false (outside i (length (sections s)) || outside r (row-at s i .records)) (outside f (width the-table)) (all-open .place) in
+      let b = or-false (outside i (length (sections s))) (outside r (row-at s i .records)) (a .0) in
+      let x = inside i (length (sections s)) (b .0) in
+      let y = inside r (row-at s i .records) (b .1) in
+      let z = inside f (width the-table) (a .1) in
+      (x .0, x .1, y .0, y .1, z .0, z .1)
+
+  abbrev content-here : Content
+  content-here = getD (modelOf s .tables) (i - 1) no-content
+
+  tables-count : length (modelOf s .tables) ≡ length (sections s)
+  unfolding modelOf
+  tables-count = length-map (sections s) (contentOf (latinOf s))
+
+  i-within : i - 1 < length (modelOf s .tables)
+  i-within = omega (arith, tables-count, places)
+
+  content-is : content-here ≡ contentOf (latinOf s) (section-at s i)
+  unfolding modelOf section-at
+  content-is = map-at (contentOf (latinOf s)) (sections s) (i - 1) no-section no-content (omega (arith, places))
+
+  table-is : content-here .table ≡ the-table
+  unfolding contentOf
+  table-is = ap (λ (c : Content). c .table) content-is
+
+  -- as many records as the row says
+  records-are : length (content-here .records) ≡ row-at s i .records
+  unfolding contentOf row-at rowOf row-of
+  records-are = ap (λ (c : Content). length (c .records)) content-is ∙ sym (count-handed (latinOf s) (section-at s i .lines))
+
+  r-within : r ≤ length (content-here .records)
+  r-within = omega (arith, records-are, places)
+
+  latin-is : modelOf s .head .latin ≡ latinOf s
+  unfolding modelOf head-values latinOf
+  latin-is = refl
+
+  sound-model : SoundModel (modelOf s)
+  sound-model = accepted-model s (all-open .file)
+
+  content-sound : SoundContent (latinOf s) content-here
+  content-sound = every-at (rw latin-is at (sound-model .tables)) (i - 1) no-content i-within
+
+  may-here : getD (columns (content-here .table)) (f - 1) no-column .column .fillable ≡ true
+  unfolding column-at
+  may-here = rw table-is (all-open .may)
+
+  abbrev filled-model : Model
+  filled-model = fill-model i r f t (modelOf s)
+
+  filled-content : SoundContent (latinOf s) (fill-content r f t content-here)
+  filled-content = fill-content-sound (latinOf s) t (all-open .some) (all-open .small) (all-open .ok) content-here content-sound r f (places .2) r-within may-here
+
+  pub filled-sound : SoundModel filled-model
+  unfolding fill-model
+  filled-sound =
+      record {
+        head = sound-model .head;
+        tables = rw latin-is (every-change (fill-content r f t) (rw latin-is at (sound-model .tables)) (i - 1) no-content i-within filled-content);
+      }
+
+  pub filled-keys : KeysHold (filled-model .tables)
+  unfolding fill-model
+  filled-keys =
+      keys-alike
+      (pairs-change (fill-content r f t) (content-self (latinOf s)) (rw latin-is at (sound-model .tables)) (i - 1) no-content i-within
+      (fill-content-alike (latinOf s) t (all-open .some) (all-open .small) (all-open .ok) content-here content-sound r f (places .2) r-within may-here))
+      (accepted-keys s (all-open .file))
+
+  -- how many values the record has
+  f-within : f ≤ length (getD (content-here .records) (r - 1) [])
+  unfolding width
+  f-within =
+      let v = every-at (content-sound .records) (r - 1) [] (omega (arith, places, r-within)) in
+      let w : width the-table ≡ length (columns (content-here .table)) = rw table-is in
+      omega (arith, places, w, width-back (latinOf s) (v .fit))
+
+  -- the field was an empty text before
+  pub fill-was-empty : empty-datum (datum-at i r f (modelOf s)) ≡ true
+  fill-was-empty = all-open .blank
+
+  module _ (short : length (fill-form s i r f t) ≤ limit) where
+    pub fill-accepted : file-refusal (fill-form s i r f t) ≡ sound
+    unfolding fill-form
+    fill-accepted = form-sound filled-model filled-sound short filled-keys
+
+    pub fill-model-back : modelOf (fill-form s i r f t) ≡ fill-model i r f t (modelOf s)
+    unfolding fill-form
+    fill-model-back = form-model filled-model filled-sound short
+
+    -- read again, the field holds the given text, and a mark stands before its record
+    pub fill-read : datum-at i r f (modelOf (fill-form s i r f t)) ≡ words O.Suggestion t
+    fill-read =
+        rw fill-model-back
+        (fill-here i r f t (modelOf s) (places .0) (omega (arith, tables-count, places)) (places .2) r-within (places .4) f-within)
+
+    pub fill-written : write-form (fill-form s i r f t) ≡ fill-form s i r f t
+    unfolding fill-form write-form
+    fill-written = ap formOf fill-model-back
