@@ -6,7 +6,7 @@ use Prim.Native.Nat.{ℕ, zero, suc, _+_, _-_, _<_, _≤_}
 use native.Mathlib.Omega.{arith}
 use lib.Dec.{eqb, leb, ltb}
 use lib.ListN.{length, getD, length-map}
-use borrow.Author.Tests.{eqb-false, ltb-false, leb-true, not-false}
+use borrow.Author.Tests.{eqb-true, eqb-false, ltb-false, leb-true, not-false}
 use Rattle.page.specs.Bytes.{Bytes, all}
 use Rattle.page.specs.Lines.{allowed}
 use Rattle.page.specs.Tables.{Named, no-column, columns, column-at, width}
@@ -33,7 +33,7 @@ use Rattle.demands.proofs.RoundKeys.{earlier-none}
 use Rattle.demands.proofs.RoundForm.{form-model, form-sound}
 use Rattle.demands.proofs.RoundAlike.{only-texts, settled, keys-alike, sound-alike, alike-self}
 use Rattle.demands.proofs.Round.{accepted-model, accepted-keys}
-use Rattle.demands.proofs.Fill.{no-content, fill-here}
+use Rattle.demands.proofs.Fill.{no-content, fill-here, fill-other-section, fill-other-record, fill-other-field}
 
 -- what a refusal that does not refuse says
 open-if : (b : Bool) (v : ℕ) → ¬ (v ≡ 0) → refuse-if b v .number ≡ 0 → b ≡ false
@@ -281,3 +281,17 @@ module _ (s : Bytes) (i r f : ℕ) (t : Bytes) (h : fill-refusal s i r f t .numb
     pub fill-written : write-form (fill-form s i r f t) ≡ fill-form s i r f t
     unfolding fill-form write-form
     fill-written = ap formOf fill-model-back
+
+    -- and every other value is as it was
+    pub fill-else : (j q g : ℕ) → 0 < j → 0 < q → 0 < g → ¬ ((j ≡ i) × (q ≡ r) × (g ≡ f)) → datum-at j q g (modelOf (fill-form s i r f t)) ≡ datum-at j q g (modelOf s)
+    fill-else j q g a b c n = rw fill-model-back (by (eqb j i) (eqb q r) (eqb g f) refl refl refl)
+      where
+        by : (x y z : Bool) → eqb j i ≡ x → eqb q r ≡ y → eqb g f ≡ z → datum-at j q g (fill-model i r f t (modelOf s)) ≡ datum-at j q g (modelOf s)
+        by false y z d e k = fill-other-section i r f t (modelOf s) j q g (places .0) a (eqb-false j i d)
+        by true false z d e k =
+            rw (eqb-true j i d)
+            (fill-other-record i r f t (modelOf s) q g (places .0) (omega (arith, tables-count, places)) (places .2) b (eqb-false q r e))
+        by true true false d e k =
+            rw (eqb-true j i d, eqb-true q r e)
+            (fill-other-field i r f t (modelOf s) g (places .0) (omega (arith, tables-count, places)) (places .2) r-within (places .4) c (eqb-false g f k))
+        by true true true d e k = absurd (n (eqb-true j i d, eqb-true q r e, eqb-true g f k))

@@ -6,7 +6,7 @@ use Prim.Native.Nat.{ℕ, zero, suc, _+_}
 use native.Mathlib.Omega.{arith}
 use lib.Dec.{eqb}
 use lib.ListN.{length, getD}
-use borrow.Author.Tests.{eqb-true, eqb-false}
+use borrow.Author.Tests.{eqb-true, eqb-false, ne-eqb}
 use Rattle.page.specs.Bytes.{Bytes, bytes, pick}
 use Rattle.page.specs.Tables.{Reference, number-at, table-at, table-named, columns}
 use Rattle.page.specs.Cut.{Section, sections}
@@ -20,7 +20,7 @@ use Rattle.page.specs.Rules.{Every, none-left, one-more}
 use Rattle.page.specs.declared.Column.{Column}
 use Rattle.page.specs.declared.Row.{Row}
 use Rattle.page.specs.declared.Refusal.{Refusal}
-use Rattle.demands.specs.RoundKeys.{again, breaks, placeless, filed-content, KeysHold}
+use Rattle.demands.specs.RoundKeys.{again, breaks, placeless, filed-content, KeysHold, keys-number}
 
 or-false : (a b : Bool) → (a || b) ≡ false → (a ≡ false) × (b ≡ false)
 or-false true b e = absurd (false≢true (sym e))
@@ -97,6 +97,32 @@ none-again seen i (r ∷ rs) h = by (none-again (r .table ∷ seen) (suc i) rs) 
     by ih true h = absurd (let z : ⊥ = omega arith in z)
     by ih false h = ih h
 
+-- the number of the first that breaks a rule
+breaks-number : (v : ℕ) (bad : List Filed → Filed → Bool) (before es : List Filed) → first-record v bad before es .number ≡ pick (breaks bad before es) v 0
+unfolding breaks first-record
+breaks-number v bad before [] = refl
+breaks-number v bad before (e ∷ es) = by (breaks-number v bad (e ∷ before) es) (bad before e)
+  where
+    by : first-record v bad (e ∷ before) es .number ≡ pick (breaks bad (e ∷ before) es) v 0 → (b : Bool) →
+        pick b (refusal v (e .section) (e .line)) (first-record v bad (e ∷ before) es) .number ≡ pick (b || breaks bad (e ∷ before) es) v 0
+    by ih true = refl
+    by ih false = ih
+
+again-number : (seen : List ℕ) (i : ℕ) (rs : List Row) → first-again seen i rs .number ≡ pick (again seen (map (λ (r : Row). r .table) rs)) 17 0
+unfolding again first-again
+again-number seen i [] = refl
+again-number seen i (r ∷ rs) = by (again-number (r .table ∷ seen) (suc i) rs) (any (eqb (r .table)) seen)
+  where
+    by : first-again (r .table ∷ seen) (suc i) rs .number ≡ pick (again (r .table ∷ seen) (map (λ (q : Row). q .table) rs)) 17 0 → (b : Bool) →
+        pick b (refusal 17 i 1) (first-again (r .table ∷ seen) (suc i) rs) .number ≡ pick (b || again (r .table ∷ seen) (map (λ (q : Row). q .table) rs)) 17 0
+    by ih true = refl
+    by ih false = ih
+
+earlier-number : (a b : Refusal) (x : Bool) (v w : ℕ) → ¬ (v ≡ 0) → a .number ≡ pick x v 0 → b .number ≡ w → earlier a b .number ≡ pick x v w
+unfolding earlier
+earlier-number a b true v w n e f = rw (e, ne-eqb v 0 n)
+earlier-number a b false v w n e f = rw e f
+
 -- the first of two that refuses: none does
 pub earlier-none : (a b : Refusal) → earlier a b .number ≡ 0 → (a .number ≡ 0) × (b .number ≡ 0)
 unfolding earlier
@@ -105,6 +131,10 @@ earlier-none a b h = by (eqb (a .number) 0) refl h
     by : (q : Bool) → eqb (a .number) 0 ≡ q → pick q b a .number ≡ 0 → (a .number ≡ 0) × (b .number ≡ 0)
     by true e h = (eqb-true (a .number) 0 e, h)
     by false e h = absurd (eqb-false (a .number) 0 e h)
+
+pass-sound : (b : Refusal) → earlier sound b .number ≡ b .number
+unfolding earlier
+pass-sound b = refl
 
 -- records of a file, without their places
 
@@ -186,3 +216,18 @@ module _ (s : Bytes) (ss : Every (SoundSection (latinOf s)) (sections s)) where
         second = rw (← breaks-same by-second) (none-breaks 19 (λ (e : 19 ≡ 0). omega arith) (repeats by-second) [] (filedOf s) (d .0));
         references = rw (← lost-same) (none-breaks 20 (λ (e : 20 ≡ 0). omega arith) (λ before. lost (filedOf s)) [] (filedOf s) (d .1));
       }
+
+  -- the number that 17 to 20 give is a function of what the file says
+  pub keys-told : section-refusal s .number ≡ keys-number (modelOf s .tables)
+  unfolding section-refusal record-refusal rowsOf keys-number
+  keys-told =
+      rw (all-sound (latinOf s) ss 1, ← rows-tables, ← breaks-same by-primary, ← breaks-same by-second, ← lost-same)
+      (pass-sound (earlier (first-again [] 1 (rowsOf s)) (record-refusal (filedOf s)))
+      ∙ earlier-number (first-again [] 1 (rowsOf s)) (record-refusal (filedOf s)) (again [] (map (λ (r : Row). r .table) (rowsOf s))) 17 _ (λ (z : 17 ≡ 0). omega arith)
+      (again-number [] 1 (rowsOf s))
+      (earlier-number (first-record 18 (repeats by-primary) [] (filedOf s))
+      (earlier (first-record 19 (repeats by-second) [] (filedOf s)) (first-record 20 (λ before. lost (filedOf s)) [] (filedOf s)))
+      (breaks (repeats by-primary) [] (filedOf s)) 18 _ (λ (z : 18 ≡ 0). omega arith) (breaks-number 18 (repeats by-primary) [] (filedOf s))
+      (earlier-number (first-record 19 (repeats by-second) [] (filedOf s)) (first-record 20 (λ before. lost (filedOf s)) [] (filedOf s))
+      (breaks (repeats by-second) [] (filedOf s)) 19 _ (λ (z : 19 ≡ 0). omega arith) (breaks-number 19 (repeats by-second) [] (filedOf s))
+      (breaks-number 20 (λ before. lost (filedOf s)) [] (filedOf s)))))

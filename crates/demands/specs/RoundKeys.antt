@@ -4,6 +4,7 @@ use mathlib.Core.Bool.{Bool, true, false, _||_}
 use mathlib.Core.List.{List, [], _∷_, _++_, map}
 use Prim.Native.Nat.{ℕ}
 use lib.Dec.{eqb}
+use Rattle.page.specs.Bytes.{pick}
 use Rattle.page.specs.Tables.{number-at}
 use Rattle.page.specs.Records.{Record}
 use Rattle.page.specs.Model.{Content}
@@ -32,3 +33,10 @@ pub record KeysHold (cs : List Content) : Type 0 where
   pub primary : breaks (repeats by-primary) [] (filed-content cs) ≡ false
   pub second : breaks (repeats by-second) [] (filed-content cs) ≡ false
   pub references : breaks (λ before. lost (filed-content cs)) [] (filed-content cs) ≡ false
+
+-- the first of 17 to 20 that a file of sound sections breaks
+unfoldable pub keys-number : List Content → ℕ
+keys-number cs =
+    pick (again [] (map (λ (c : Content). number-at (c .table)) cs)) 17
+    (pick (breaks (repeats by-primary) [] (filed-content cs)) 18
+    (pick (breaks (repeats by-second) [] (filed-content cs)) 19 (pick (breaks (λ before. lost (filed-content cs)) [] (filed-content cs)) 20 0)))
