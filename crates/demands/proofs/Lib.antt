@@ -43,3 +43,4 @@ pub mod Marks
 pub mod RoundAlike
 pub mod StripBack
 pub mod FillBack
+pub mod RoundSample
