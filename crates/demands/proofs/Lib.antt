@@ -44,3 +44,5 @@ pub mod RoundAlike
 pub mod StripBack
 pub mod FillBack
 pub mod RoundSample
+pub mod PromisesListing
+pub mod LocalSample

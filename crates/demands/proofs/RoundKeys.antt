@@ -98,7 +98,7 @@ none-again seen i (r ∷ rs) h = by (none-again (r .table ∷ seen) (suc i) rs) 
     by ih false h = ih h
 
 -- the number of the first that breaks a rule
-breaks-number : (v : ℕ) (bad : List Filed → Filed → Bool) (before es : List Filed) → first-record v bad before es .number ≡ pick (breaks bad before es) v 0
+pub breaks-number : (v : ℕ) (bad : List Filed → Filed → Bool) (before es : List Filed) → first-record v bad before es .number ≡ pick (breaks bad before es) v 0
 unfolding breaks first-record
 breaks-number v bad before [] = refl
 breaks-number v bad before (e ∷ es) = by (breaks-number v bad (e ∷ before) es) (bad before e)
@@ -108,7 +108,7 @@ breaks-number v bad before (e ∷ es) = by (breaks-number v bad (e ∷ before) e
     by ih true = refl
     by ih false = ih
 
-again-number : (seen : List ℕ) (i : ℕ) (rs : List Row) → first-again seen i rs .number ≡ pick (again seen (map (λ (r : Row). r .table) rs)) 17 0
+pub again-number : (seen : List ℕ) (i : ℕ) (rs : List Row) → first-again seen i rs .number ≡ pick (again seen (map (λ (r : Row). r .table) rs)) 17 0
 unfolding again first-again
 again-number seen i [] = refl
 again-number seen i (r ∷ rs) = by (again-number (r .table ∷ seen) (suc i) rs) (any (eqb (r .table)) seen)
