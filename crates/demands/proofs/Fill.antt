@@ -42,9 +42,11 @@ module _ (i r f : ℕ) (t : Bytes) (m : Model) where
       datum-at i r f (fill-model i r f t m) ≡ words O.Suggestion t
   unfolding datum-at fill-model fill-content fill-record
   fill-here a b c d e g =
-      rw (change-here (fill-content r f t) (m .tables) (i - 1) no-content (omega arith),
-      change-here (fill-record f t) (table-here .records) (r - 1) [] (omega arith),
-      change-here (λ (v : Datum). words O.Suggestion t) (getD (table-here .records) (r - 1) []) (f - 1) (number 0) (omega arith))
+      rw (
+        change-here (fill-content r f t) (m .tables) (i - 1) no-content (omega arith),
+        change-here (fill-record f t) (table-here .records) (r - 1) [] (omega arith),
+        change-here (λ (v : Datum). words O.Suggestion t) (getD (table-here .records) (r - 1) []) (f - 1) (number 0) (omega arith),
+      )
 
   -- any other value is as it was
   pub fill-other-section : (j q g : ℕ) → 0 < i → 0 < j → ¬ (j ≡ i) → datum-at j q g (fill-model i r f t m) ≡ datum-at j q g m
@@ -55,16 +57,20 @@ module _ (i r f : ℕ) (t : Bytes) (m : Model) where
   pub fill-other-record : (q g : ℕ) → 0 < i → i ≤ length (m .tables) → 0 < r → 0 < q → ¬ (q ≡ r) → datum-at i q g (fill-model i r f t m) ≡ datum-at i q g m
   unfolding datum-at fill-model fill-content
   fill-other-record q g a b c d n =
-      rw (change-here (fill-content r f t) (m .tables) (i - 1) no-content (omega arith),
-      change-there (fill-record f t) (table-here .records) (r - 1) (q - 1) [] (λ (e : q - 1 ≡ r - 1). n (omega arith)))
+      rw (
+        change-here (fill-content r f t) (m .tables) (i - 1) no-content (omega arith),
+        change-there (fill-record f t) (table-here .records) (r - 1) (q - 1) [] (λ (e : q - 1 ≡ r - 1). n (omega arith)),
+      )
 
   pub fill-other-field : (g : ℕ) → 0 < i → i ≤ length (m .tables) → 0 < r → r ≤ length (table-here .records) → 0 < f → 0 < g → ¬ (g ≡ f) →
       datum-at i r g (fill-model i r f t m) ≡ datum-at i r g m
   unfolding datum-at fill-model fill-content fill-record
   fill-other-field g a b c d e h n =
-      rw (change-here (fill-content r f t) (m .tables) (i - 1) no-content (omega arith),
-      change-here (fill-record f t) (table-here .records) (r - 1) [] (omega arith),
-      change-there (λ (v : Datum). words O.Suggestion t) (getD (table-here .records) (r - 1) []) (f - 1) (g - 1) (number 0) (λ (z : g - 1 ≡ f - 1). n (omega arith)))
+      rw (
+        change-here (fill-content r f t) (m .tables) (i - 1) no-content (omega arith),
+        change-here (fill-record f t) (table-here .records) (r - 1) [] (omega arith),
+        change-there (λ (v : Datum). words O.Suggestion t) (getD (table-here .records) (r - 1) []) (f - 1) (g - 1) (number 0) (λ (z : g - 1 ≡ f - 1). n (omega arith)),
+      )
 
   -- the header, the tables and how many records each has
   pub fill-head : fill-model i r f t m .head ≡ m .head

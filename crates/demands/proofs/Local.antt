@@ -142,16 +142,26 @@ module _ (a m b : Bytes) (wa : Whole a) (ha : 0 < length (cut (lines a) .pieces)
   pub local-sections : sections (a ++ (m ++ b)) ≡ closed a ++ (reached a m b ++ map (later (length a + length m)) (sections b))
   unfolding sections closed reached
   local-sections =
-      rw (local-header, local-pieces, placed-append (length (joined (header-lines a))) (settled (cut (lines a) .pieces)) (reached-pieces a m b ++ cut (lines b) .pieces),
-      placed-append (after (length (joined (header-lines a))) (settled (cut (lines a) .pieces))) (reached-pieces a m b) (cut (lines b) .pieces), seam)
+      rw (
+        local-header,
+        local-pieces,
+        placed-append (length (joined (header-lines a))) (settled (cut (lines a) .pieces)) (reached-pieces a m b ++ cut (lines b) .pieces),
+        placed-append (after (length (joined (header-lines a))) (settled (cut (lines a) .pieces))) (reached-pieces a m b) (cut (lines b) .pieces),
+        seam,
+      )
       (ap (λ (x : List Section). closed a ++ (reached a m b ++ x)) (placed-later (length a + length m) (length (joined (header-lines b))) (cut (lines b) .pieces)))
 
   pub local-rows : rowsOf (a ++ (m ++ b))
       ≡ rows-under a (closed a) ++ (rows-under a (reached a m b) ++ map (later-row (length a + length m)) (rows-under a (sections b)))
   unfolding rowsOf rows-under
   local-rows =
-      rw (local-latin, local-sections, map-append (rowOf (latinOf a)) (closed a),
-      map-append (rowOf (latinOf a)) (reached a m b), rows-later (latinOf a) (length a + length m) (sections b))
+      rw (
+        local-latin,
+        local-sections,
+        map-append (rowOf (latinOf a)) (closed a),
+        map-append (rowOf (latinOf a)) (reached a m b),
+        rows-later (latinOf a) (length a + length m) (sections b),
+      )
 
   -- section i, where it is closed in a
   pub closed-at : (i : ℕ) → 0 < i → i ≤ length (closed a) → section-at (a ++ (m ++ b)) i ≡ getD (closed a) (i - 1) no-section
@@ -165,8 +175,12 @@ module _ (a m b : Bytes) (wa : Whole a) (ha : 0 < length (cut (lines a) .pieces)
   unfolding section-at
   later-at i h =
       let z : length (closed a) + length (reached a m b) + suc i - 1 ≡ length (closed a) + (length (reached a m b) + i) = omega arith in
-      rw (local-sections, z, getD-append-add (closed a) (reached a m b ++ map (later (length a + length m)) (sections b)) (length (reached a m b) + i) no-section,
-      getD-append-add (reached a m b) (map (later (length a + length m)) (sections b)) i no-section)
+      rw (
+        local-sections,
+        z,
+        getD-append-add (closed a) (reached a m b ++ map (later (length a + length m)) (sections b)) (length (reached a m b) + i) no-section,
+        getD-append-add (reached a m b) (map (later (length a + length m)) (sections b)) i no-section,
+      )
       (getD-later (length a + length m) (sections b) i h)
 
 -- Demand 3, two files that differ in the run alone

@@ -81,8 +81,10 @@ referred-alike : {cs : List Named} {vs us : Record} (ks : List ℕ) → no-text-
 unfolding referred no-text-at
 referred-alike [] h a = refl
 referred-alike {cs} (k ∷ ks) h a =
-    rw (value-alike k (not-true (getD cs k no-column .column .fillable) (and-l (not (getD cs k no-column .column .fillable)) (no-text-at cs ks) h)) a,
-    referred-alike ks (and-r (not (getD cs k no-column .column .fillable)) (no-text-at cs ks) h) a)
+    rw (
+      value-alike k (not-true (getD cs k no-column .column .fillable) (and-l (not (getD cs k no-column .column .fillable)) (no-text-at cs ks) h)) a,
+      referred-alike ks (and-r (not (getD cs k no-column .column .fillable)) (no-text-at cs ks) h) a,
+    )
 
 -- records with their tables
 record AlikeFiled (d e : Filed) : Type 0 where
@@ -102,8 +104,11 @@ repeats-alike : (p : Column → Bool) → ((t : ℕ) → free-of p (columns t) �
     repeats p ds d ≡ repeats p es e
 unfolding repeats
 repeats-alike p h {ds} {es} ps d e a =
-    rw (any-pairs (λ (x : Filed). eqb (x .table) (d .table) && same-record (key-of p x) (key-of p d)) (λ (y : Filed). eqb (y .table) (e .table) && same-record (key-of p y) (key-of p e))
-    (λ x y b. rw (filed-key p x y (h (x .table)) b, filed-key p d e (h (d .table)) a, b .table, a .table)) ps, a .table)
+    rw (
+      any-pairs (λ (x : Filed). eqb (x .table) (d .table) && same-record (key-of p x) (key-of p d)) (λ (y : Filed). eqb (y .table) (e .table) && same-record (key-of p y) (key-of p e))
+          (λ x y b. rw (filed-key p x y (h (x .table)) b, filed-key p d e (h (d .table)) a, b .table, a .table)) ps,
+      a .table,
+    )
 
 module _ {ds es : List Filed} (ps : Pairs AlikeFiled ds es) (d e : Filed) (a : AlikeFiled d e) where
   meets-alike : (r : Reference) → no-text-at (columns (d .table)) (r .columns) ≡ true → any (meets d r) ds ≡ any (meets e r) es
@@ -117,8 +122,10 @@ module _ {ds es : List Filed} (ps : Pairs AlikeFiled ds es) (d e : Filed) (a : A
   unfolding any refers-past
   references-alike [] h = refl
   references-alike (r ∷ rs) h =
-      rw (meets-alike r (and-l (no-text-at (columns (d .table)) (r .columns)) (refers-past (columns (d .table)) rs) h),
-      references-alike rs (and-r (no-text-at (columns (d .table)) (r .columns)) (refers-past (columns (d .table)) rs) h))
+      rw (
+        meets-alike r (and-l (no-text-at (columns (d .table)) (r .columns)) (refers-past (columns (d .table)) rs) h),
+        references-alike rs (and-r (no-text-at (columns (d .table)) (r .columns)) (refers-past (columns (d .table)) rs) h),
+      )
 
 lost-alike : {ds es : List Filed} → Pairs AlikeFiled ds es → (d e : Filed) → AlikeFiled d e → lost ds d ≡ lost es e
 unfolding lost

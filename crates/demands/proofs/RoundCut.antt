@@ -157,8 +157,11 @@ unfolding cut put tables-lines table-pieces
 cut-tables latin none-left n = rw (eof-no-table n, eof-begins n)
 cut-tables latin (one-more {x} {xs} s ss) n =
     let ih = cut-tables latin ss n in
-    rw (append-assoc (content-lines x) (tables-lines xs) (eof-line n ∷ []),
-    cut-content latin x s (tables-lines xs ++ (eof-line n ∷ [])) (rw ih), ih)
+    rw (
+      append-assoc (content-lines x) (tables-lines xs) (eof-line n ∷ []),
+      cut-content latin x s (tables-lines xs ++ (eof-line n ∷ [])) (rw ih),
+      ih,
+    )
 
 joined-tables : (cs : List Content) → joined (tables-lines cs) ≡ tables-form cs
 unfolding tables-lines tables-form joined
@@ -208,8 +211,12 @@ module _ (m : Model) (s : SoundModel m) where
   pub cut-form : cut (lines (formOf m)) ≡ record { front = head-lines (m .head); pieces = table-pieces (m .tables) (eof-line (length (m .tables))) }
   unfolding form-lines
   cut-form =
-      rw (lines-form, cut-inner (inner-head (m .head) (s .head)) (tables-lines (m .tables) ++ (eof-line (length (m .tables)) ∷ [])),
-      cut-tables (m .head .latin) (s .tables) (length (m .tables)), append-nil (head-lines (m .head)))
+      rw (
+        lines-form,
+        cut-inner (inner-head (m .head) (s .head)) (tables-lines (m .tables) ++ (eof-line (length (m .tables)) ∷ [])),
+        cut-tables (m .head .latin) (s .tables) (length (m .tables)),
+        append-nil (head-lines (m .head)),
+      )
 
   pub header-form : header-lines (formOf m) ≡ head-lines (m .head)
   unfolding header-lines

@@ -48,16 +48,22 @@ records-size (r ∷ rs) =
 content-size : (c : Content) → length (c .records) ≤ length (content-form c)
 unfolding content-form
 content-size c =
-    omega (arith, records-size (c .records),
-    length-append (table-head (Tables.table-at (c .table))) (records-form (c .records) ++ line "end" (decimal (length (c .records)) ∷ [])),
-    length-append (records-form (c .records)) (line "end" (decimal (length (c .records)) ∷ [])))
+    omega (
+      arith,
+      records-size (c .records),
+      length-append (table-head (Tables.table-at (c .table))) (records-form (c .records) ++ line "end" (decimal (length (c .records)) ∷ [])),
+      length-append (records-form (c .records)) (line "end" (decimal (length (c .records)) ∷ [])),
+    )
 
 content-some : (c : Content) → 0 < length (content-form c)
 unfolding content-form
 content-some c =
-    omega (arith, line-some "end" (decimal (length (c .records)) ∷ []),
-    length-append (table-head (Tables.table-at (c .table))) (records-form (c .records) ++ line "end" (decimal (length (c .records)) ∷ [])),
-    length-append (records-form (c .records)) (line "end" (decimal (length (c .records)) ∷ [])))
+    omega (
+      arith,
+      line-some "end" (decimal (length (c .records)) ∷ []),
+      length-append (table-head (Tables.table-at (c .table))) (records-form (c .records) ++ line "end" (decimal (length (c .records)) ∷ [])),
+      length-append (records-form (c .records)) (line "end" (decimal (length (c .records)) ∷ [])),
+    )
 
 tables-size : (cs : List Content) → length cs ≤ length (tables-form cs)
 unfolding tables-form
@@ -106,8 +112,11 @@ module _ (m : Model) (s : SoundModel m) (short : length (formOf m) ≤ limit) wh
   tables-short : length (tables-form (m .tables)) ≤ limit
   unfolding formOf
   tables-short =
-      omega (arith, length-append (head-form (m .head)) (tables-form (m .tables) ++ line "eof" (decimal (length (m .tables)) ∷ [])),
-      length-append (tables-form (m .tables)) (line "eof" (decimal (length (m .tables)) ∷ [])))
+      omega (
+        arith,
+        length-append (head-form (m .head)) (tables-form (m .tables) ++ line "eof" (decimal (length (m .tables)) ∷ [])),
+        length-append (tables-form (m .tables)) (line "eof" (decimal (length (m .tables)) ∷ [])),
+      )
 
   all-readable : Every (Readable (m .head .latin)) (m .tables)
   all-readable = readable (m .head .latin) (s .tables) tables-short

@@ -171,8 +171,10 @@ module _ (h : Head) (s : SoundHead h) where
   others (some d) none p q = rw (next-step (text-seen (commands .5) d p) opened refl refl refl (text-held Dve 1 d refl refl))
   others none (some f) p q = rw (next-step (text-seen (commands .6) f q) opened refl refl refl (text-held Fft 1 f refl refl))
   others (some d) (some f) p q =
-      rw (next-step (text-seen (commands .5) d p) opened refl refl refl (text-held Dve 1 d refl refl),
-      next-step (text-seen (commands .6) f q) (meet Dve opened) refl refl refl (text-held Fft 1 f refl refl))
+      rw (
+        next-step (text-seen (commands .5) d p) opened refl refl refl (text-held Dve 1 d refl refl),
+        next-step (text-seen (commands .6) f q) (meet Dve opened) refl refl refl (text-held Fft 1 f refl refl),
+      )
 
   pub header-back : headOf (head-lines h) ≡ record { verdict = 0; line = 0 }
   unfolding headOf head-lines

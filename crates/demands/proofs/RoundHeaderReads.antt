@@ -140,8 +140,13 @@ four-digits (a ∷ b ∷ c ∷ d ∷ []) h l =
     let t : (digit b && (digit c && (digit d && true))) ≡ true = and-r (digit a) (digit b && (digit c && (digit d && true))) h in
     let u : (digit c && (digit d && true)) ≡ true = and-r (digit b) (digit c && (digit d && true)) t in
     let v : (digit d && true) ≡ true = and-r (digit c) (digit d && true) u in
-    omega (arith, digit-most a (and-l (digit a) (digit b && (digit c && (digit d && true))) h), digit-most b (and-l (digit b) (digit c && (digit d && true)) t),
-    digit-most c (and-l (digit c) (digit d && true) u), digit-most d (and-l (digit d) true v))
+    omega (
+      arith,
+      digit-most a (and-l (digit a) (digit b && (digit c && (digit d && true))) h),
+      digit-most b (and-l (digit b) (digit c && (digit d && true)) t),
+      digit-most c (and-l (digit c) (digit d && true) u),
+      digit-most d (and-l (digit d) true v),
+    )
 four-digits (a ∷ b ∷ c ∷ d ∷ e ∷ w) h l = absurd (let z : ⊥ = omega arith in z)
 
 year-small : (at : ℕ) (f : Bytes) → digits-in at 4 f ≡ true → number-in at 4 f ≤ 9999

@@ -150,5 +150,17 @@ module _ (h : Head) (s : SoundHead h) where
   pub values-back : head-values (head-lines h) ≡ h
   unfolding head-values text-in field-in
   values-back =
-      rw (source-fields, ver-fields, ifv-fields, form-back, latin-back, dve-back, fft-back, text-quoted (h .source), text-quoted (h .ver), text-quoted (h .ifv),
-      date-again (h .date) (s .year) (s .date), time-again (h .time) (s .time))
+      rw (
+        source-fields,
+        ver-fields,
+        ifv-fields,
+        form-back,
+        latin-back,
+        dve-back,
+        fft-back,
+        text-quoted (h .source),
+        text-quoted (h .ver),
+        text-quoted (h .ifv),
+        date-again (h .date) (s .year) (s .date),
+        time-again (h .time) (s .time),
+      )

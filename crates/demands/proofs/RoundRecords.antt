@@ -147,11 +147,15 @@ module _ (latin : Bool) where
   unfolding valuesOf small
   values-back m i no-value s w = refl
   values-back m i (a-value {c} {cs} {v = number n} {vs} f g) s (of-number w) =
-      rw (datum-back latin (c .column) (owner-of m i) (number n) f (ltb-true (c .column .hi) (10 ^ 18) (and-l (ltb (c .column .hi) (10 ^ 18)) (small cs) s)) tt,
-      values-back m (suc i) g (and-r (ltb (c .column .hi) (10 ^ 18)) (small cs) s) w)
+      rw (
+        datum-back latin (c .column) (owner-of m i) (number n) f (ltb-true (c .column .hi) (10 ^ 18) (and-l (ltb (c .column .hi) (10 ^ 18)) (small cs) s)) tt,
+        values-back m (suc i) g (and-r (ltb (c .column .hi) (10 ^ 18)) (small cs) s) w,
+      )
   values-back m i (a-value {c} {cs} {v = words o t} {vs} f g) s (of-words e w) =
-      rw (datum-back latin (c .column) (owner-of m i) (words o t) f (ltb-true (c .column .hi) (10 ^ 18) (and-l (ltb (c .column .hi) (10 ^ 18)) (small cs) s)) e,
-      values-back m (suc i) g (and-r (ltb (c .column .hi) (10 ^ 18)) (small cs) s) w)
+      rw (
+        datum-back latin (c .column) (owner-of m i) (words o t) f (ltb-true (c .column .hi) (10 ^ 18) (and-l (ltb (c .column .hi) (10 ^ 18)) (small cs) s)) e,
+        values-back m (suc i) g (and-r (ltb (c .column .hi) (10 ^ 18)) (small cs) s) w,
+      )
 
   pub width-back : {cs : List Named} {vs : Record} → FitAll latin cs vs → length vs ≡ length cs
   width-back no-value = refl

@@ -181,8 +181,12 @@ module _ (latin : Bool) (t : ℕ) (v : Datum) (vs : Record) (r : SoundRecord lat
   verdict-back : (m : ℕ) → empty-marked m (map datum-text (v ∷ vs)) ≡ false → rec-verdict t m (map datum-text (v ∷ vs)) ≡ 0
   unfolding rec-verdict width standing
   verdict-back m e =
-      rw (eq-eqb (length (map datum-text (v ∷ vs))) (length (columns t)) (length-map (v ∷ vs) datum-text ∙ width-back latin (r .fit)),
-      wrong-back latin (r .fit) (tame t .small), points-back, e)
+      rw (
+        eq-eqb (length (map datum-text (v ∷ vs))) (length (columns t)) (length-map (v ∷ vs) datum-text ∙ width-back latin (r .fit)),
+        wrong-back latin (r .fit) (tame t .small),
+        points-back,
+        e,
+      )
 
   pub rec-step-back : (m n : ℕ) → empty-marked m (map datum-text (v ∷ vs)) ≡ false → step latin (P.Rows t m n) rec-line ≡ S.Go (P.Rows t 0 (n + 1))
   unfolding step content-step line-step rec-step choose

@@ -183,8 +183,17 @@ until-digits (b ∷ w) v h e = rw (and-l (digit b) (all digit w) h, until-digits
 formed-again : (name tail w : Bytes) → size-ok w ≡ true → all digit w ≡ true → until no-digit tail ≡ 0 → formed name tail (name ++ (w ++ tail)) ≡ true
 unfolding formed
 formed-again name tail w ok d e =
-    rw (take-append-seam name (w ++ tail), drop-append-seam name (w ++ tail), until-digits w tail d e, take-append-seam w tail, ok,
-    drop-append-add name (w ++ tail) (length w), drop-append-seam w tail, same-self name, same-self tail)
+    rw (
+      take-append-seam name (w ++ tail),
+      drop-append-seam name (w ++ tail),
+      until-digits w tail d e,
+      take-append-seam w tail,
+      ok,
+      drop-append-add name (w ++ tail) (length w),
+      drop-append-seam w tail,
+      same-self name,
+      same-self tail,
+    )
 
 size-decimal : (n : ℕ) → 1 ≤ n → n ≤ 255 → size-ok (decimal n) ≡ true
 unfolding size-ok
