@@ -1,7 +1,7 @@
 -- A file's sections: all denote their tables, or the first that does not is refused; and no table comes twice, or the first that does is.
 use mathlib.Core.Path.{_≡_, refl, ap, sym, _∙_}
 use mathlib.Core.Bool.{Bool, true, false, _||_, false≢true}
-use mathlib.Core.List.{List, [], _∷_, _++_, map, List·Memᴰ, List·Memᴰ·head, List·Memᴰ·tail, Memᴰ·append-left, Memᴰ·append-right, List·Memᴰ·append-cases, List·Memᴰ·eq-of-singleton}
+use mathlib.Core.List.{List, [], _∷_, _++_, map, List·Memᴰ, List·Memᴰ·head, List·Memᴰ·tail, Memᴰ·append-left, Memᴰ·append-right, List·Memᴰ·append-cases, List·Memᴰ·eq-of-singleton, List·Memᴰ·cases-cons, List·Memᴰ·not-nil}
 use mathlib.Core.Logic.{_⊎_, inl, inr}
 use Prim.Native.Nat.{ℕ, zero, suc, _+_, _<_}
 use native.Mathlib.Omega.{arith}
@@ -63,8 +63,15 @@ module _ (latin : Bool) where
           let d = accepted-denotes latin (x .lines) h in
           inr (y .0, y .1, y .2, y .3, first-later (Unsound latin) seen x (y .0) xs (λ n. n d) (y .4), y .5, pass i x xs h ∙ y .6 ∙ ap (λ (z : ℕ). refusal (y .2) z (y .3)) (omega arith))
       by (inr r) y =
-          inr (x, r .0, r .1, r .2, first-here (Unsound latin) seen x xs (λ d. refused-denotes-nothing latin (x .lines) (r .0) (r .1) (r .2) (d .0) (d .1) (r .4) (d .2)), r .4,
-          stop i x xs (r .0) (r .1) (r .2) (r .3) (refuses-exactly latin (x .lines) (r .0) (r .1) (r .2) .1 (r .4) .1) ∙ ap (λ (z : ℕ). refusal (r .1) z (r .2)) (omega arith))
+          inr (
+            x,
+            r .0,
+            r .1,
+            r .2,
+            first-here (Unsound latin) seen x xs (λ d. refused-denotes-nothing latin (x .lines) (r .0) (r .1) (r .2) (d .0) (d .1) (r .4) (d .2)),
+            r .4,
+            stop i x xs (r .0) (r .1) (r .2) (r .3) (refuses-exactly latin (x .lines) (r .0) (r .1) (r .2) .1 (r .4) .1) ∙ ap (λ (z : ℕ). refusal (r .1) z (r .2)) (omega arith),
+          )
 
   -- sections that denote their tables are passed
   pub tables-pass : (i : ℕ) {xs : List Section} {cs : List Content} → Tables latin xs cs → first-unsound i (map (rowOf latin) xs) ≡ sound
@@ -86,6 +93,14 @@ module _ (latin : Bool) where
   pub tables-known : {xs : List Section} {cs : List Content} → Tables latin xs cs → Every (λ c. c .table < table-count) cs
   tables-known no-table = none-left
   tables-known (a-table {c} d t) = one-more (denoted-known (c .table) (c .records) d) (tables-known t)
+
+  pub tables-denoted : {x : Section} {xs : List Section} {cs : List Content} → Tables latin xs cs → List·Memᴰ x xs → (t : ℕ) × (rs : List Record) × Denotes latin (x .lines) t rs
+  tables-denoted no-table m = absurd (List·Memᴰ·not-nil m)
+  tables-denoted {x} (a-table {x = y} {xs} {c} d t) m = by (List·Memᴰ·cases-cons m) (λ i. tables-denoted t i)
+    where
+      by : (x ≡ y) ⊎ List·Memᴰ x xs → (List·Memᴰ x xs → (u : ℕ) × (rs : List Record) × Denotes latin (x .lines) u rs) → (u : ℕ) × (rs : List Record) × Denotes latin (x .lines) u rs
+      by (inl e) f = rw e (c .table, c .records, d)
+      by (inr i) f = f i
 
 -- a table is met before by its number exactly if it is by its place in the list
 again-more : (seen : List Content) (b : Content) (nums : List ℕ) → b .table < table-count →

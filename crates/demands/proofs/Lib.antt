@@ -46,3 +46,11 @@ pub mod FillBack
 pub mod RoundSample
 pub mod PromisesListing
 pub mod LocalSample
+pub mod Splits
+pub mod Keys
+pub mod Stages
+pub mod Files
+pub mod Own
+pub mod Witnesses
+pub mod Completions
+pub mod Numbers

@@ -55,9 +55,11 @@ module _ (latin : Bool) where
       by : (b : Bool) → is-ended p ≡ b → (j : ℕ) × (n ≡ j + m) × From latin p [] k v j
       by true h = absurd (z (sym (ap (λ (o : Outcome). o .verdict) e) ∙ finish-sound p m h))
       by false h =
-          let f : refused (table-in p) 6 m ≡ refused k v n = sym (finish-six p m h) ∙ e in
-          (0, sym (ap (λ (o : Outcome). o .line) f) ∙ sym (zero-add m),
-          nowhere p stay h (sym (ap (λ (o : Outcome). o .table) f)) (sym (ap (λ (o : Outcome). o .verdict) f)) refl)
+          let f : refused (table-in p) 6 m ≡ refused k v n = sym (finish-six p m h) ∙ e in (
+            0,
+            sym (ap (λ (o : Outcome). o .line) f) ∙ sym (zero-add m),
+            nowhere p stay h (sym (ap (λ (o : Outcome). o .table) f)) (sym (ap (λ (o : Outcome). o .verdict) f)) refl,
+          )
   into p m (l ∷ ls) k v n z e = by (λ q. into q (suc m) ls k v n z) (step latin p l) refl e
     where
       by : ((q : Phase) → run latin q (suc m) ls ≡ refused k v n → (j : ℕ) × (n ≡ j + suc m) × From latin q ls k v j) → (s : Step) → step latin p l ≡ s →
@@ -82,7 +84,7 @@ module _ (latin : Bool) where
       let z : run latin P.Tbl 0 (ls ++ []) ≡ refused k v n = reach-run 0 [] g ∙ finish-six r (length ls + 0) c ∙ rw (a, f, b) (ap (refused (table-in r) 6) (omega arith)) in
       rw append-nil at z
 
-  refused-ranged : (ls : List Bytes) (k v n : ℕ) → Refused latin ls k v n → (4 ≤ v) × (v ≤ 16)
+  pub refused-ranged : (ls : List Bytes) (k v n : ℕ) → Refused latin ls k v n → (4 ≤ v) × (v ≤ 16)
   refused-ranged ls k v n (at-line before after l q s g f a b) = laws-ranged latin q l v f
   refused-ranged ls k v n (unfinished q g c a f b) = (omega arith, omega arith)
 

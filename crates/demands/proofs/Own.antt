@@ -1,0 +1,48 @@
+-- Each table of an accepted file is its own section's: as many tables as sections, each with the records that its own lines denote.
+use mathlib.Core.Path.{_≡_, refl, ap, sym, _∙_}
+use mathlib.Core.Bool.{Bool, true, false}
+use mathlib.Core.List.{List, [], _∷_}
+use Prim.Native.Nat.{ℕ, zero, suc, _<_}
+use native.Mathlib.Omega.{arith}
+use lib.ListN.{length, getD}
+use Rattle.page.specs.Bytes.{Bytes}
+use Rattle.page.specs.Lines.{Rec}
+use Rattle.page.specs.Cut.{Section, sections}
+use Rattle.page.specs.Head.{latinOf}
+use Rattle.page.specs.File.{file-refusal}
+use Rattle.page.specs.Model.{Content, modelOf}
+use Rattle.page.specs.Grammar.{Denotes}
+use Rattle.page.specs.Rules.{Tables, no-table, a-table, times, SoundFile}
+use Rattle.demands.proofs.Counts.{records-counted}
+use Rattle.demands.proofs.Readings.{one-reading}
+
+-- the section and the content past the end of a list
+abbrev no-section : Section
+no-section = record { place = 0; lines = [] }
+
+abbrev no-content : Content
+no-content = record { table = 0; records = [] }
+
+as-many : {latin : Bool} {xs : List Section} {cs : List Content} → Tables latin xs cs → length cs ≡ length xs
+as-many no-table = refl
+as-many (a-table d t) = ap suc (as-many t)
+
+own : {latin : Bool} {xs : List Section} {cs : List Content} (i : ℕ) → i < length cs → Tables latin xs cs →
+    Denotes latin (getD xs i no-section .lines) (getD cs i no-content .table) (getD cs i no-content .records)
+own i h no-table = absurd (let z : ⊥ = omega arith in z)
+own zero h (a-table d t) = d
+own (suc i) h (a-table d t) = own i (omega arith) t
+
+-- an accepted file says as many tables as it has sections
+pub as-many-tables : (s : Bytes) (cs : List Content) → SoundFile s cs → length cs ≡ length (sections s)
+as-many-tables s cs f = as-many (f .tables)
+
+-- table i is what section i's own lines denote, and nothing else
+pub own-table : (s : Bytes) (cs : List Content) → SoundFile s cs → (i : ℕ) → i < length cs →
+    Denotes (latinOf s) (getD (sections s) i no-section .lines) (getD cs i no-content .table) (getD cs i no-content .records)
+own-table s cs f i h = own i h (f .tables)
+
+-- so it has as many records as section i has `rec` lines: none is called empty, and none is another's
+pub own-count : (s : Bytes) (cs : List Content) → SoundFile s cs → (i : ℕ) → i < length cs →
+    length (getD cs i no-content .records) ≡ times Rec (getD (sections s) i no-section .lines)
+own-count s cs f i h = records-counted (latinOf s) (getD (sections s) i no-section .lines) (getD cs i no-content .table) (getD cs i no-content .records) (own-table s cs f i h)
