@@ -54,3 +54,5 @@ pub mod Own
 pub mod Witnesses
 pub mod Completions
 pub mod Numbers
+pub mod PromisesRoom
+pub mod RoundOutput

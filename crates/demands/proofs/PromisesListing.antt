@@ -99,7 +99,7 @@ file-ranged s h =
 abbrev pub NoRows : ℕ → Type 0
 NoRows n = (n ≡ 1) ⊎ ((n ≡ 2) ⊎ (n ≡ 21))
 
-header-told : (s : Bytes) → (header-refusal s .number ≡ 0) ⊎ ((header-refusal s .number ≡ 1) ⊎ (header-refusal s .number ≡ 2))
+pub header-told : (s : Bytes) → (header-refusal s .number ≡ 0) ⊎ ((header-refusal s .number ≡ 1) ⊎ (header-refusal s .number ≡ 2))
 unfolding header-refusal earlier refuse-if
 header-told s = by (too-long s) (header-settled (header-lines s))
   where
