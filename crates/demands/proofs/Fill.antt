@@ -1,11 +1,11 @@
 -- Filling puts the given text, a suggestion's, at its place, and changes nothing else. Assumes nothing.
-use mathlib.Core.Path.{_≡_, refl, ap, sym, _∙_}
-use mathlib.Core.List.{List, [], _∷_, _++_, map}
+use mathlib.Core.Path.{_≡_, refl, ap}
+use mathlib.Core.List.{List, [], _∷_}
 use Prim.Native.Nat.{ℕ, zero, suc, _-_, _≤_, _<_}
 use native.Mathlib.Omega.{arith}
 use lib.ListN.{length, getD}
 use Rattle.page.specs.Bytes.{Bytes}
-use Rattle.page.specs.Records.{Datum, number, words, Record}
+use Rattle.page.specs.Records.{Datum, number, words}
 use Rattle.page.specs.Model.{Content, Model, change, fill-record, fill-content, fill-model, datum-at}
 use Rattle.page.specs.declared.Owner.the-variants as O
 

@@ -1,8 +1,8 @@
 -- A filled file is an accepted file that says the same with the given text, a suggestion's, at its place. Assumes nothing.
 use mathlib.Core.Path.{_≡_, refl, ap, sym, _∙_}
 use mathlib.Core.Bool.{Bool, true, false, not, _&&_, _||_, false≢true}
-use mathlib.Core.List.{List, [], _∷_, _++_, map}
-use Prim.Native.Nat.{ℕ, zero, suc, _+_, _-_, _<_, _≤_}
+use mathlib.Core.List.{List, [], _∷_, map}
+use Prim.Native.Nat.{ℕ, zero, suc, _-_, _<_, _≤_}
 use native.Mathlib.Omega.{arith}
 use lib.Dec.{eqb, leb, ltb}
 use lib.ListN.{length, getD, length-map}
@@ -10,20 +10,18 @@ use borrow.Author.Tests.{eqb-true, eqb-false, ltb-false, leb-true, not-false}
 use Rattle.page.specs.Bytes.{Bytes, all}
 use Rattle.page.specs.Lines.{allowed}
 use Rattle.page.specs.Tables.{Named, no-column, columns, column-at, width}
-use Rattle.page.specs.Cut.{Section, sections, header-lines}
+use Rattle.page.specs.Cut.{sections}
 use Rattle.page.specs.Head.{head-values, latinOf}
-use Rattle.page.specs.Section.{outcome}
-use Rattle.page.specs.Records.{Datum, number, words, Record, recordsOf, table-of}
+use Rattle.page.specs.Records.{Datum, number, words, Record, table-of}
 use Rattle.page.specs.Model.{Content, Model, contentOf, modelOf, change, fill-record, fill-content, fill-model, datum-at}
-use Rattle.page.specs.Answers.{sound, earlier, refuse-if}
+use Rattle.page.specs.Answers.{sound, refuse-if}
 use Rattle.page.specs.File.{limit, row-of, rowOf, file-refusal}
 use Rattle.page.specs.Reading.{no-section, outside, section-at, row-at}
 use Rattle.page.specs.Form.{formOf}
 use Rattle.page.specs.Writing.{write-form, empty-datum, fill-place, fill-refusal, fill-form}
 use Rattle.page.specs.Rules.{Every, none-left, one-more}
-use Rattle.page.specs.declared.Refusal.{Refusal}
 use Rattle.page.specs.declared.Owner.the-variants as O
-use Rattle.demands.specs.Round.{Fits, a-number, a-text, a-suggestion, FitAll, no-value, a-value, SoundRecord, SoundContent, SoundModel}
+use Rattle.demands.specs.Round.{a-suggestion, FitAll, no-value, a-value, SoundRecord, SoundContent, SoundModel}
 use Rattle.demands.specs.RoundKeys.{KeysHold}
 use Rattle.demands.specs.RoundAlike.{Pairs, no-pair, a-pair, Alike, alike-none, alike-same, alike-text, AlikeContent}
 use Rattle.demands.proofs.WrittenScans.{and-l, and-r}

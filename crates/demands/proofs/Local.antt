@@ -1,11 +1,10 @@
 -- Demand 3: a run of whole lines replaced changes no section that is closed before it or begins after it. Assumes nothing.
 use mathlib.Core.Path.{_≡_, refl, ap, sym, _∙_}
-use mathlib.Core.Bool.{Bool, true, false}
+use mathlib.Core.Bool.{Bool}
 use mathlib.Core.List.{List, [], _∷_, _++_, append-assoc, append-nil, map}
 use Prim.Native.Nat.{ℕ, zero, suc, _+_, _-_, _<_, _≤_}
-use native.Mathlib.Nat.{zero-add}
 use native.Mathlib.Omega.{arith}
-use lib.ListN.{length, getD, length-append, length-map, List·getD-append, List·getD-map}
+use lib.ListN.{length, getD, length-append, List·getD-append}
 use lib.Seq.{getD-append-add}
 use Rattle.page.specs.Bytes.{Bytes}
 use Rattle.page.specs.Lines.{lines, joined}
@@ -13,12 +12,11 @@ use Rattle.page.specs.Cut.{Piece, a-table, a-trailer, Cut, Section, cut, placed
 use Rattle.page.specs.Head.{latinOf}
 use Rattle.page.specs.File.{rowOf, rowsOf, row-of}
 use Rattle.page.specs.Section.{outcome}
-use Rattle.page.specs.Records.{Entry, entries, entriesOf, recordsOf, waits, table-of}
+use Rattle.page.specs.Records.{entries}
 use Rattle.page.specs.Model.{contentOf}
 use Rattle.page.specs.Reading.{no-section, section-at, row-at}
-use Rattle.page.specs.declared.Row.{Row}
-use Rattle.page.proofs.LineLaws.{Whole, lines-append, joined-lines, joined-append, joined-length}
-use Rattle.page.proofs.CutLaws.{longer, extend, front-by, join, cut-join, flat, cut-whole}
+use Rattle.page.proofs.LineLaws.{Whole, lines-append, joined-lines, joined-length}
+use Rattle.page.proofs.CutLaws.{extend, front-by, join, cut-join, flat, cut-whole}
 use Rattle.demands.specs.Local.{Run, whole, last, settled, final, closed, later, later-row, reached-pieces, reached, rows-under, SaysSame}
 
 pub run-lines : {m b : Bytes} → Run m b → lines (m ++ b) ≡ lines m ++ lines b

@@ -1,11 +1,10 @@
 -- Demand 3 speaks of something: a run within the second of three tables, in two files, by computing. Assumes nothing.
 use mathlib.Core.Path.{_≡_, refl}
-use mathlib.Core.List.{List, [], _∷_, _++_, map}
+use mathlib.Core.List.{[], _∷_, _++_}
 use Prim.Native.Nat.{ℕ}
 use lib.ListN.{length}
 use Rattle.page.specs.Bytes.{Bytes, bytes}
-use Rattle.page.specs.Lines.{lines}
-use Rattle.page.specs.Cut.{Cut, Section, cut, sections}
+use Rattle.page.specs.Cut.{sections}
 use Rattle.page.specs.File.{rowsOf}
 use Rattle.page.specs.Open.{open-all}
 use Rattle.page.specs.declared.Row.{Row}

@@ -1,7 +1,7 @@
 -- Demand 3 for what is handed out: a value of a section after the run is the same, with its text as much further on as the run is longer;
 -- one of a section closed before it is the same altogether. Assumes nothing.
-use mathlib.Core.Path.{_≡_, refl, ap, sym, _∙_}
-use mathlib.Core.Bool.{Bool, true, false, _||_}
+use mathlib.Core.Path.{_≡_, refl, ap}
+use mathlib.Core.Bool.{Bool, true, false}
 use mathlib.Core.List.{List, [], _∷_, _++_, map}
 use Prim.Native.Nat.{ℕ, zero, suc, _+_, _-_, _<_, _≤_}
 use native.Mathlib.Omega.{arith}
@@ -10,21 +10,19 @@ use lib.Dec.{eqb}
 use lib.ListN.{length, getD, length-append, length-map}
 use Rattle.page.specs.Bytes.{Bytes, pick, until}
 use Rattle.page.specs.Lines.{lines, content, command, semicolon, Rec}
-use Rattle.page.specs.Cut.{Cut, Section, cut, sections}
+use Rattle.page.specs.Cut.{Section, cut, sections}
 use Rattle.page.specs.Tables.{column-at}
-use Rattle.page.specs.Header.{headOf}
-use Rattle.page.specs.Head.{latinOf, header-values}
+use Rattle.page.specs.Head.{latinOf}
 use Rattle.page.specs.Section.{outcome}
 use Rattle.page.specs.Records as Records
-use Rattle.page.specs.Records.{Entry, entries, entriesOf, recordsOf, waits, table-of}
-use Rattle.page.specs.Places.{Standing, field-span, unquoted, stands, nowhere, record-at, this-or}
-use Rattle.page.specs.Answers.{earlier, refuse-if, listed, got, headed}
-use Rattle.page.specs.File.{too-long, found, header-refusal}
-use Rattle.page.specs.Reading.{headerOf, no-section, outside, section-at, row-at, find-refusal, sectionOf, verdict-of, value-refusal, words-in, value-in, record-of, value-at, valueOf}
+use Rattle.page.specs.Records.{entries, entriesOf, recordsOf, waits, table-of}
+use Rattle.page.specs.Places.{Standing, field-span, unquoted, stands, record-at, this-or}
+use Rattle.page.specs.File.{too-long, header-refusal}
+use Rattle.page.specs.Reading.{headerOf, no-section, outside, section-at, find-refusal, sectionOf, value-refusal, words-in, value-in, record-of, value-at, valueOf}
 use Rattle.page.specs.declared.Value.the-variants as Va
 use Rattle.page.proofs.LineLaws.{Whole}
 use Rattle.demands.specs.Local.{Run, closed, later, reached, later-value}
-use Rattle.demands.proofs.Local.{local-header, local-latin, local-sections, closed-same, closed-row, later-at}
+use Rattle.demands.proofs.Local.{local-header, local-sections, closed-same, closed-row, later-at}
 
 -- a record's line k bytes further on
 abbrev later-standing : ℕ → Standing → Standing

@@ -1,7 +1,7 @@
 -- "Each text handed out says whose it is": a suggestion's exactly if a mark of its field stands before its record. Assumes nothing.
 use mathlib.Core.Path.{_≡_, refl, ap, sym, _∙_}
 use mathlib.Core.Bool.{Bool, true, false, _||_, false≢true}
-use mathlib.Core.List.{List, [], _∷_, _++_, map}
+use mathlib.Core.List.{List, [], _∷_}
 use mathlib.Core.Logic.{_⊎_, inl, inr}
 use Prim.Native.Nat.{ℕ, zero, suc, _+_, _-_, _<_, _≤_}
 use native.Mathlib.Omega.{arith}
@@ -9,22 +9,22 @@ use lib.Dec.{eqb}
 use lib.ListN.{length, getD}
 use borrow.Author.Tests.{ne-eqb}
 use Rattle.page.specs.Bytes.{Bytes, pick}
-use Rattle.page.specs.Lines.{content, command, rest, Tbl, Atr, Frm, Rec, End, Com, Missing}
+use Rattle.page.specs.Lines.{content, command, rest, Tbl, Atr, Frm, Rec, Com, Missing}
 use Rattle.page.specs.Cut.{Section}
 use Rattle.page.specs.Tables.{Named}
 use Rattle.page.specs.Marks.{remarkOf, may-mark, owner-of}
 use Rattle.page.specs.Section.{outcome}
-use Rattle.page.specs.Records.{Datum, number, words, Record, waits, recordsOf, table-of}
-use Rattle.page.specs.Places.{Standing, stands, record-at, this-or}
+use Rattle.page.specs.Records.{number, words, Record, waits, recordsOf, table-of}
+use Rattle.page.specs.Places.{stands, record-at, this-or}
 use Rattle.page.specs.Reading.{words-in, record-of}
 use Rattle.page.specs.Grammar as Grammar
-use Rattle.page.specs.Grammar.{Quiet, empty, remark, TblLine, AtrLine, FrmLine, marked, owner-by, Values, no-field, a-field, RecLine, MarkLine, EndLine, Then, found, skip, Records, pause, a-mark, a-record, the-end, Denotes}
+use Rattle.page.specs.Grammar.{Quiet, empty, remark, marked, owner-by, Values, no-field, a-field, MarkLine, Then, found, skip, Records, pause, a-mark, a-record, the-end, Denotes}
 use Rattle.page.specs.Refusals.{marks-of}
 use Rattle.page.specs.declared.Owner.{Owner}
 use Rattle.page.specs.declared.Owner.the-variants as O
 use Rattle.page.specs.declared.Remark.the-variants as R
 use Rattle.demands.specs.Begins.{begins}
-use Rattle.demands.specs.Marks.{note, noted, marks-at, here-or}
+use Rattle.demands.specs.Marks.{note, marks-at, here-or}
 use Rattle.demands.proofs.Tests.{blank-missing}
 use Rattle.demands.proofs.Accepts.{only-mark}
 use Rattle.demands.proofs.Readings.{handed-denoted}

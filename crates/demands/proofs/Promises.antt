@@ -1,17 +1,16 @@
 -- "That two answers meeting it are equal is proved": the promises settle answers and the later content of what is lent. Refused calls leave
 -- it as it was, and a file that is too long is 1 for every call. Assumes nothing.
-use mathlib.Core.Path.{_≡_, refl, ap, sym, _∙_}
+use mathlib.Core.Path.{_≡_, refl, sym, _∙_}
 use mathlib.Core.Bool.{Bool, true, false, _||_, false≢true}
-use mathlib.Core.List.{List, [], _∷_, _++_}
-use Prim.Native.Nat.{ℕ, zero, suc, _+_, _-_, _<_, _≤_}
+use mathlib.Core.List.{List, _++_}
+use Prim.Native.Nat.{ℕ, _<_, _≤_}
 use native.Mathlib.Omega.{arith}
 use lib.Dec.{eqb, ltb}
 use lib.ListN.{length, drop, length-append, length-drop}
 use borrow.Author.Tests.{lt-ltb, ltb-false, eqb-true}
 use Rattle.page.specs.Bytes.{Bytes, pick}
-use Rattle.page.specs.Cut.{sections}
-use Rattle.page.specs.Answers.{refusal, sound, earlier, refuse-if, checked, headed, listed, got, written}
-use Rattle.page.specs.File.{limit, too-long, header-refusal, rowsOf, file-refusal, checkOf}
+use Rattle.page.specs.Answers.{refusal, earlier, refuse-if, checked, headed, listed, got, written}
+use Rattle.page.specs.File.{limit, too-long, header-refusal, file-refusal, checkOf}
 use Rattle.page.specs.Reading.{headerOf, find-refusal, sectionOf, list-refusal, listOf, rows-after, value-refusal, valueOf}
 use Rattle.page.specs.Writing.{put-refusal, putOf, put-after, write-form, writeOf, write-after, strip-form, stripOf, strip-after, fill-refusal, fill-form, fillOf, fill-after}
 use Rattle.page.specs.declared.Refusal.{Refusal}

@@ -1,13 +1,13 @@
 -- "Listing is refused by 1, 2 and 21 only and then writes no row; other verdicts go into the rows and the file's answer." Assumes nothing.
 use mathlib.Core.Path.{_≡_, refl, ap, sym, _∙_}
-use mathlib.Core.Bool.{Bool, true, false, false≢true}
+use mathlib.Core.Bool.{Bool, true, false}
 use mathlib.Core.List.{List, [], _∷_, _++_, map}
 use mathlib.Core.Logic.{_⊎_, inl, inr}
-use Prim.Native.Nat.{ℕ, zero, suc, _≤_}
+use Prim.Native.Nat.{ℕ, suc, _≤_}
 use native.Mathlib.Omega.{arith}
 use lib.Dec.{eqb, ltb}
 use lib.ListN.{length, drop}
-use borrow.Author.Tests.{eqb-true, eqb-false, ne-eqb}
+use borrow.Author.Tests.{eqb-true, ne-eqb}
 use Rattle.page.specs.Bytes.{Bytes, pick}
 use Rattle.page.specs.Lines.{content, blank}
 use Rattle.page.specs.Cut.{Section, sections, header-lines, trailer-lines}
@@ -15,7 +15,7 @@ use Rattle.page.specs.Header.{headOf}
 use Rattle.page.specs.Head.{latinOf}
 use Rattle.page.specs.Section.{outcome}
 use Rattle.page.specs.Trailer.{eof-ok, all-blank, trailer-of, trailerOf}
-use Rattle.page.specs.Answers.{refusal, sound, earlier, refuse-if, checked, paper-checked}
+use Rattle.page.specs.Answers.{refusal, earlier, refuse-if, checked, paper-checked}
 use Rattle.page.specs.File.{too-long, found, header-refusal, row-of, rowOf, rowsOf, first-unsound, first-again, by-primary, by-second, Filed, repeats, lost, first-record, filedOf, record-refusal, section-refusal, file-refusal}
 use Rattle.page.specs.Reading.{list-refusal, listOf, rows-after}
 use Rattle.page.specs.declared.Refusal.{Refusal}

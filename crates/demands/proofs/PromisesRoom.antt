@@ -1,7 +1,6 @@
 -- "21 exactly if the form is longer than the lent output or than 16,777,216 bytes." Assumes nothing.
-use mathlib.Core.Path.{_≡_, refl, ap, sym, _∙_}
-use mathlib.Core.Bool.{Bool, true, false, not, _||_, false≢true}
-use mathlib.Core.List.{List, [], _∷_}
+use mathlib.Core.Path.{_≡_, refl, sym, _∙_}
+use mathlib.Core.Bool.{Bool, true, false, not, _||_}
 use mathlib.Core.Logic.{_⊎_, inl, inr, _↔_}
 use Prim.Native.Nat.{ℕ, _-_, _<_, _≤_}
 use native.Mathlib.Omega.{arith}
@@ -14,12 +13,11 @@ use Rattle.page.specs.Head.{latinOf}
 use Rattle.page.specs.Tables.{column-at}
 use Rattle.page.specs.Records.{table-of}
 use Rattle.page.specs.Model.{modelOf, datum-at}
-use Rattle.page.specs.Answers.{refusal, earlier, refuse-if, written, paper-written}
+use Rattle.page.specs.Answers.{earlier, refuse-if, written, paper-written}
 use Rattle.page.specs.File.{limit, header-refusal, file-refusal}
 use Rattle.page.specs.Reading.{section-at}
 use Rattle.page.specs.Writing.{put-refusal, putOf, write-form, writeOf, strip-form, stripOf, empty-datum, fill-place, fill-refusal, fill-form, fillOf}
 use Rattle.page.specs.declared.Refusal.{Refusal}
-use Rattle.page.specs.declared.Written.the-variants as W
 use Rattle.demands.proofs.PromisesListing.{header-told, file-ranged}
 
 -- longer than the room, or than a file may be

@@ -1,23 +1,22 @@
 -- Demand: what is written is read back. For every accepted file whose written form is not too long, the form is accepted, says the same, and
 -- is its own written form. Assumes nothing.
-use mathlib.Core.Path.{_≡_, refl, ap, sym, _∙_}
-use mathlib.Core.Bool.{Bool, true, false, false≢true}
-use mathlib.Core.List.{List, [], _∷_, _++_, map}
+use mathlib.Core.Path.{_≡_, refl, ap}
+use mathlib.Core.Bool.{Bool, true, false}
+use mathlib.Core.List.{List, [], _∷_, map}
 use mathlib.Core.Logic.{_⊎_, inl, inr}
-use Prim.Native.Nat.{ℕ, zero, suc, _+_, _≤_}
+use Prim.Native.Nat.{ℕ, suc, _≤_}
 use native.Mathlib.Omega.{arith}
 use lib.Dec.{eqb}
-use lib.ListN.{length, getD}
+use lib.ListN.{length}
 use borrow.Author.Tests.{eqb-true, eqb-false}
 use Rattle.page.specs.Bytes.{Bytes, pick}
-use Rattle.page.specs.Tables.{number-at}
 use Rattle.page.specs.Cut.{Section, sections, header-lines}
 use Rattle.page.specs.Header.{headOf}
-use Rattle.page.specs.Head.{head-values, latin-in, latinOf}
+use Rattle.page.specs.Head.{head-values, latinOf}
 use Rattle.page.specs.Section.{outcome}
 use Rattle.page.specs.Records.{recordsOf, table-of}
 use Rattle.page.specs.Trailer.{trailerOf}
-use Rattle.page.specs.Model.{Content, Model, contentOf, modelOf}
+use Rattle.page.specs.Model.{contentOf, modelOf}
 use Rattle.page.specs.Answers.{refusal, sound, earlier, refuse-if}
 use Rattle.page.specs.File.{limit, too-long, found, header-refusal, row-of, rowOf, rowsOf, first-unsound, first-again, filedOf, record-refusal, section-refusal, file-refusal}
 use Rattle.page.specs.Form.{formOf}
@@ -27,7 +26,7 @@ use Rattle.page.specs.declared.Row.{Row}
 use Rattle.page.specs.declared.Finding.{Finding}
 use Rattle.page.specs.declared.Outcome.{Outcome}
 use Rattle.demands.specs.Begins.{begins}
-use Rattle.demands.specs.Round.{SoundContent, SoundHead, SoundModel}
+use Rattle.demands.specs.Round.{SoundContent, SoundModel}
 use Rattle.demands.specs.RoundKeys.{KeysHold}
 use Rattle.demands.proofs.Accepts.{denotes-accepted}
 use Rattle.demands.proofs.Readings.{denoted-known, handed-denoted}

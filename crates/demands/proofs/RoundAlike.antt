@@ -1,21 +1,18 @@
 -- Keys and references do not depend on texts that may be marked: stripping and filling keep 17 to 20. Assumes nothing.
-use mathlib.Core.Path.{_≡_, refl, ap, sym, _∙_}
+use mathlib.Core.Path.{_≡_, refl, sym, _∙_}
 use mathlib.Core.Bool.{Bool, true, false, not, _&&_, _||_, false≢true}
 use mathlib.Core.List.{List, [], _∷_, _++_, map}
-use Prim.Native.Nat.{ℕ, zero, suc, _+_, _<_, _≤_}
-use native.Mathlib.Omega.{arith}
+use Prim.Native.Nat.{ℕ, zero, suc, _+_}
 use lib.Dec.{eqb, leb}
-use lib.ListN.{length, getD}
+use lib.ListN.{getD}
 use borrow.Author.Tests.{not-true}
-use Rattle.page.specs.Bytes.{Bytes, bytes, pick}
-use Rattle.page.specs.Tables.{Named, Reference, no-column, all-tables, table-at, table-named, columns, number-at, points-from}
+use Rattle.page.specs.Tables.{Named, Reference, no-column, all-tables, table-at, columns, number-at, points-from}
 use Rattle.page.specs.Records.{Datum, number, words, Record}
 use Rattle.page.specs.Model.{Content}
-use Rattle.page.specs.File.{any, Filed, same-record, key-in, key-of, by-primary, by-second, has-key, repeats, referred, meets, lost}
-use Rattle.page.specs.Rules.{Every, none-left, one-more}
+use Rattle.page.specs.File.{any, Filed, same-record, key-in, key-of, by-primary, by-second, repeats, referred, meets, lost}
 use Rattle.page.specs.declared.Column.{Column}
-use Rattle.demands.specs.Round.{Fits, a-number, a-text, a-suggestion, FitAll, no-value, a-value, amount-of, amount-in, points-alike, SoundRecord}
-use Rattle.demands.specs.RoundKeys.{again, breaks, placeless, filed-content, KeysHold}
+use Rattle.demands.specs.Round.{Fits, a-number, FitAll, no-value, a-value, amount-of, amount-in, points-alike, SoundRecord}
+use Rattle.demands.specs.RoundKeys.{breaks, placeless, filed-content, KeysHold}
 use Rattle.demands.specs.RoundAlike.{Pairs, no-pair, a-pair, Alike, alike-none, alike-same, alike-text, AlikeContent}
 use Rattle.demands.proofs.WrittenScans.{and-l, and-r}
 

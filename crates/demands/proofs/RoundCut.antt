@@ -1,38 +1,35 @@
 -- The cut of the written form into header, sections and trailer is its parts. Assumes nothing.
 use mathlib.Core.Path.{_≡_, refl, ap, sym, _∙_}
-use mathlib.Core.Bool.{Bool, true, false, not, _&&_, _||_}
+use mathlib.Core.Bool.{Bool, true, false}
 use mathlib.Core.List.{List, [], _∷_, _++_, map, append-nil, append-assoc}
 use mathlib.Core.Option.{Option, none, some}
-use Prim.Native.Nat.{ℕ, zero, suc, _+_, _<_, _≤_, _^_}
+use Prim.Native.Nat.{ℕ, suc, _+_, _<_}
 use Prim.Native.String.{String}
 use native.Mathlib.Omega.{arith}
 use lib.Dec.{eqb}
-use lib.ListN.{length, getD}
-use borrow.Author.Tests.{eq-eqb}
-use Rattle.page.specs.Bytes.{Bytes, bytes, pick, all}
-use Rattle.page.specs.Lines.{lines, joined, content, command, rest, allowed, clean, Tbl, Eof}
-use Rattle.page.specs.Fields.{digit, fields, numberOf}
+use lib.ListN.{length}
+use Rattle.page.specs.Bytes.{Bytes, all}
+use Rattle.page.specs.Lines.{lines, joined, allowed, Tbl, Eof}
+use Rattle.page.specs.Fields.{digit}
 use Rattle.page.specs.Tables.{table-at, table-count}
-use Rattle.page.specs.Cut.{begins-table, begins-end, Piece, a-table, a-trailer, Cut, put, cut, Section, placed, placed-piece, piece-lines, header-lines, sections, from-end, trailer-lines}
-use Rattle.page.specs.Trailer.{counts, eof-ok, all-blank, trailer-of, trailerOf}
-use Rattle.page.specs.Records.{Datum, number, words, Record}
+use Rattle.page.specs.Cut.{begins-table, begins-end, Piece, a-table, a-trailer, Cut, put, cut, Section, placed, header-lines, sections, from-end, trailer-lines}
+use Rattle.page.specs.Records.{number, words, Record}
 use Rattle.page.specs.Model.{Content, Model}
 use Rattle.page.specs.Head.{Head}
-use Rattle.page.specs.Form.{separated, line, decimal, datum-text, mark-line, head-form, content-form, tables-form, formOf}
+use Rattle.page.specs.Form.{separated, line, decimal, tables-form, formOf}
 use Rattle.page.specs.Rules.{Every, none-left, one-more}
 use Rattle.page.specs.declared.Owner.the-variants as O
-use Rattle.page.specs.declared.Finding.{Finding}
 use Rattle.page.proofs.LineLaws.{Ended, Laid, none as no-line, next, joined-append, lines-joined}
 use Rattle.demands.specs.Round.{PrintedIf, SoundRecord, SoundContent, SoundHead, SoundModel}
 use Rattle.demands.proofs.WrittenScans.{all-mono}
-use Rattle.demands.proofs.WrittenNumbers.{number-decimal, decimal-all}
+use Rattle.demands.proofs.WrittenNumbers.{decimal-all}
 use Rattle.demands.proofs.WrittenFields.{no-field, a-field, decimal-field}
 use Rattle.demands.proofs.WrittenLines.{commands, Seen, seen, separated-more, separated-none}
 use Rattle.demands.proofs.RoundRecords.{digit-allowed, width-back}
 use Rattle.demands.proofs.RoundSteps.{mark-lines-of, mark-lines, mark-seen, end-seen, rec-seen}
-use Rattle.demands.proofs.RoundHeads.{Heads, heads, tbl-line, atr-line, frm-line, tbl-ended, atr-ended, frm-ended}
+use Rattle.demands.proofs.RoundHeads.{Heads, heads, tbl-line, tbl-ended, atr-ended, frm-ended}
 use Rattle.demands.proofs.RoundSections.{record-lines, body-lines, after-tbl, content-lines, joined-content, some-columns}
-use Rattle.demands.proofs.RoundHeader.{mod-line, src-line, chs-line, text-line, lines-if, head-lines, joined-head, mod-seen, src-seen, chs-seen, text-seen}
+use Rattle.demands.proofs.RoundHeader.{text-line, lines-if, head-lines, joined-head, mod-seen, src-seen, chs-seen, text-seen}
 
 -- one line, and not the trailer's
 pub record Line (l : Bytes) : Type 0 where

@@ -1,36 +1,31 @@
 -- The written form of what may be said is an accepted file that says it. Assumes nothing.
 use mathlib.Core.Path.{_≡_, refl, ap, sym, _∙_}
-use mathlib.Core.Bool.{Bool, true, false, not, _&&_, _||_}
+use mathlib.Core.Bool.{Bool}
 use mathlib.Core.List.{List, [], _∷_, _++_, map}
-use Prim.Native.Nat.{ℕ, zero, suc, _+_, _<_, _≤_, _^_}
+use Prim.Native.Nat.{_<_, _≤_, _^_}
 use Prim.Native.String.{String}
 use native.Mathlib.Omega.{arith}
-use lib.Dec.{eqb}
-use lib.ListN.{length, getD, length-append, length-map}
+use lib.ListN.{length, length-append, length-map}
 use borrow.Author.Tests.{eq-eqb, le-ltb}
-use Rattle.page.specs.Bytes.{Bytes, bytes, pick}
-use Rattle.page.specs.Lines.{content, rest, clean}
-use Rattle.page.specs.Fields.{fields, numberOf}
+use Rattle.page.specs.Bytes.{Bytes, bytes}
+use Rattle.page.specs.Lines.{clean}
 use Rattle.page.specs.Tables as Tables
-use Rattle.page.specs.Cut.{Section, sections, header-lines, trailer-lines}
-use Rattle.page.specs.Header.{headOf}
-use Rattle.page.specs.Head.{Head, head-values, latin-in, latinOf}
-use Rattle.page.specs.Section.{outcome}
+use Rattle.page.specs.Cut.{Section, sections}
+use Rattle.page.specs.Head.{latinOf}
 use Rattle.page.specs.Records.{Record, recordsOf, table-of}
 use Rattle.page.specs.Model.{Content, Model, contentOf, modelOf}
-use Rattle.page.specs.Trailer.{counts, eof-ok, all-blank, trailer-of, trailerOf}
+use Rattle.page.specs.Trailer.{eof-ok, all-blank, trailer-of, trailerOf}
 use Rattle.page.specs.Answers.{sound, earlier, refuse-if}
-use Rattle.page.specs.File.{limit, too-long, found, header-refusal, section-refusal, file-refusal}
+use Rattle.page.specs.File.{limit, too-long, header-refusal, file-refusal}
 use Rattle.page.specs.Form.{line, line-end, separated, datum-text, decimal, marks, record-form, records-form, table-head, content-form, tables-form, head-form, formOf}
 use Rattle.page.specs.Rules.{Every, none-left, one-more}
-use Rattle.page.specs.declared.Finding.{Finding}
-use Rattle.demands.specs.Round.{SoundContent, SoundHead, SoundModel}
+use Rattle.demands.specs.Round.{SoundContent, SoundModel}
 use Rattle.demands.specs.RoundKeys.{KeysHold}
 use Rattle.demands.proofs.WrittenNumbers.{number-decimal}
 use Rattle.demands.proofs.RoundSections.{content-lines, outcome-back, table-back, records-back}
-use Rattle.demands.proofs.RoundHeader.{head-lines, header-back}
+use Rattle.demands.proofs.RoundHeader.{header-back}
 use Rattle.demands.proofs.RoundHeaderValues.{latin-back, values-back}
-use Rattle.demands.proofs.RoundCut.{eof-line, eof-seen, header-form, section-lines, trailer-form}
+use Rattle.demands.proofs.RoundCut.{eof-seen, header-form, section-lines, trailer-form}
 use Rattle.demands.proofs.RoundKeys.{SoundSection, keys-sound}
 
 -- a form has at least as many bytes as records

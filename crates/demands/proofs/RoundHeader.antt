@@ -1,25 +1,20 @@
 -- A written header is read back: sound, with its values. Assumes nothing.
-use mathlib.Core.Path.{_≡_, refl, ap, sym, _∙_}
-use mathlib.Core.Bool.{Bool, true, false, not, _&&_, _||_}
-use mathlib.Core.List.{List, [], _∷_, _++_, append-nil, append-assoc}
+use mathlib.Core.Path.{_≡_, refl, _∙_}
+use mathlib.Core.Bool.{Bool, true, false}
+use mathlib.Core.List.{List, [], _∷_, _++_, append-nil}
 use mathlib.Core.Option.{Option, none, some}
-use Prim.Native.Nat.{ℕ, zero, suc, _+_, _≤_}
+use Prim.Native.Nat.{ℕ}
 use Prim.Native.String.{String}
 use native.Mathlib.Omega.{arith}
-use lib.Dec.{eqb, leb}
-use lib.ListN.{length, getD}
-use Rattle.page.specs.Bytes.{Bytes, bytes, pick, same, all}
-use Rattle.page.specs.Lines.{joined, content, blank, command, rest, allowed, Mod, Src, Chs, Ver, Ifv, Dve, Fft, Com, Tbl, Eof}
-use Rattle.page.specs.Fields.{fields, textOf, digit}
-use Rattle.page.specs.Dates.{dateOf, timeOf, date-ok, time-ok, real-date, real-time}
-use Rattle.page.specs.Header.{is-text, form-named, mod-form, src-ok, names-ascii, names-latin, chs-ok, text-ok, holds, met-before, meet, met-none, head-choose, mod-step, other-step, head-step, complete, head-end, head-continue, head-run, headOf}
-use Rattle.page.specs.Records.{own-bytes}
-use Rattle.page.specs.Places.{stands, line-of}
-use Rattle.page.specs.Head.{Head, field-in, text-in, stands-in, form-in, latin-in, text-if, head-values}
+use lib.Dec.{eqb}
+use Rattle.page.specs.Bytes.{Bytes, bytes, same, all}
+use Rattle.page.specs.Lines.{joined, content, allowed, Mod, Src, Chs, Ver, Ifv, Dve, Fft, Com}
+use Rattle.page.specs.Fields.{digit}
+use Rattle.page.specs.Header.{form-named, mod-form, src-ok, names-ascii, names-latin, chs-ok, text-ok, holds, met-before, meet, met-none, head-choose, mod-step, other-step, head-step, complete, head-end, head-continue, head-run, headOf}
+use Rattle.page.specs.Head.{Head}
 use Rattle.page.specs.Form.{separated, line, quoted, doubled, padded, date-text, time-text, charset-name, line-if, head-form}
 use Rattle.page.specs.declared.Met.{Met}
 use Rattle.page.specs.declared.Heading.the-variants as H
-use Rattle.page.specs.declared.Finding.{Finding}
 use Rattle.page.specs.declared.Date.{Date}
 use Rattle.page.specs.declared.Time.{Time}
 use Rattle.page.proofs.LineLaws.{joined-append}
@@ -27,9 +22,9 @@ use Rattle.demands.specs.Round.{Printed, PrintedIf, SoundHead}
 use Rattle.demands.proofs.WrittenScans.{all-append, all-mono}
 use Rattle.demands.proofs.WrittenNumbers.{padded-all}
 use Rattle.demands.proofs.WrittenTexts.{text-quoted, quoted-all}
-use Rattle.demands.proofs.WrittenFields.{solid, Field, Fields, no-field, a-field, solid-field, quoted-field}
+use Rattle.demands.proofs.WrittenFields.{solid, no-field, a-field, solid-field, quoted-field}
 use Rattle.demands.proofs.WrittenLines.{Named, commands, Seen, seen, separated-more, separated-none}
-use Rattle.demands.proofs.WrittenDates.{date-again, date-ok-again, time-again, time-ok-again}
+use Rattle.demands.proofs.WrittenDates.{date-ok-again, time-ok-again}
 use Rattle.demands.proofs.RoundRecords.{digit-allowed}
 
 -- the written lines

@@ -1,30 +1,29 @@
 -- What an accepted header says may be said: texts of allowed bytes, a real date of four digits, a real time. Assumes nothing.
-use mathlib.Core.Path.{_≡_, refl, ap, sym, _∙_}
-use mathlib.Core.Bool.{Bool, true, false, not, _&&_, _||_, false≢true}
-use mathlib.Core.List.{List, [], _∷_, _++_, map}
+use mathlib.Core.Path.{_≡_, refl, sym, _∙_}
+use mathlib.Core.Bool.{Bool, true, false, _&&_, _||_, false≢true}
+use mathlib.Core.List.{List, [], _∷_}
 use mathlib.Core.Option.{Option, none, some}
-use Prim.Native.Nat.{ℕ, zero, suc, _+_, _-_, _*_, _<_, _≤_}
+use Prim.Native.Nat.{ℕ, zero, suc, _+_, _≤_}
 use native.Mathlib.Omega.{arith}
 use lib.Dec.{eqb, leb}
 use lib.ListN.{length, getD, take, drop, length-take}
-use borrow.Author.Tests.{eqb-true, eqb-false, ne-eqb, eq-eqb, leb-true}
+use borrow.Author.Tests.{eqb-true, ne-eqb, leb-true}
 use Rattle.page.specs.Bytes.{Bytes, pick, all, until}
 use Rattle.page.specs.Lines.{content, blank, semicolon, command, rest, allowed, clean, Mod, Src, Chs, Ver, Ifv, Dve, Fft, Com, Missing}
 use Rattle.page.specs.Fields.{fields, textOf, digit, value}
 use Rattle.page.specs.Dates.{real-date, real-time, number-in, digits-in, byte-is, quoted-size, dateOf, date-shape, date-ok, timeOf, time-shape, time-ok}
-use Rattle.page.specs.Header.{is-text, mod-form, src-ok, chs-ok, text-ok, holds}
+use Rattle.page.specs.Header.{is-text, mod-form, src-ok, text-ok, holds}
 use Rattle.page.specs.Records.{own-bytes}
 use Rattle.page.specs.Places.{line-of}
-use Rattle.page.specs.Head.{Head, field-in, text-in, stands-in, form-in, latin-in, text-if, head-values}
-use Rattle.page.specs.Form.{quoted}
+use Rattle.page.specs.Head.{field-in, text-in, stands-in, form-in, text-if, head-values}
 use Rattle.page.specs.Grammar.{fields-of}
 use Rattle.page.specs.Rules.{Every, none-left, one-more, spoken, times, HeadLine, SoundHeader}
 use Rattle.page.specs.declared.Date.{Date}
 use Rattle.demands.specs.Round.{Printed, PrintedIf, SoundHead}
 use Rattle.demands.proofs.WrittenScans.{and-l, and-r}
 use Rattle.demands.proofs.WrittenTexts.{text-exactly, all-quoted}
-use Rattle.demands.proofs.RoundHeaderValues.{pass-line, pass-stands, hit-line, hit-stands}
-use Rattle.demands.proofs.RoundReads.{Passing, fields-all, all-drop, split-all, trim-each}
+use Rattle.demands.proofs.RoundHeaderValues.{pass-line, pass-stands, hit-line}
+use Rattle.demands.proofs.RoundReads.{Passing, all-drop, split-all, trim-each}
 use Rattle.demands.proofs.Tests.{blank-missing}
 
 front : (k : ℕ) (l : Bytes) (xs ys : List Bytes) → stands-in k xs ≡ stands-in k ys → stands-in k (l ∷ xs) ≡ stands-in k (l ∷ ys)

@@ -1,24 +1,23 @@
 -- The values of a written header are the ones that were written. Assumes nothing.
-use mathlib.Core.Path.{_≡_, refl, ap, sym, _∙_}
-use mathlib.Core.Bool.{Bool, true, false, not, _&&_, _||_}
+use mathlib.Core.Path.{_≡_, refl, _∙_}
+use mathlib.Core.Bool.{Bool, true, false}
 use mathlib.Core.List.{List, [], _∷_, _++_}
 use mathlib.Core.Option.{Option, none, some}
-use Prim.Native.Nat.{ℕ, zero, suc, _+_}
+use Prim.Native.Nat.{ℕ, _+_}
 use lib.Dec.{eqb}
 use lib.ListN.{length, getD}
 use borrow.Author.Tests.{eq-eqb}
 use Rattle.page.specs.Bytes.{Bytes, bytes, pick, same}
 use Rattle.page.specs.Lines.{content, command, rest, Mod, Src, Chs, Ver, Ifv, Dve, Fft}
 use Rattle.page.specs.Fields.{fields, textOf}
-use Rattle.page.specs.Dates.{dateOf, timeOf}
-use Rattle.page.specs.Header.{form-named, mod-form, names-latin}
+use Rattle.page.specs.Header.{form-named, mod-form}
 use Rattle.page.specs.Records.{own-bytes}
-use Rattle.page.specs.Places.{Standing, stands, line-of}
+use Rattle.page.specs.Places.{stands, line-of}
 use Rattle.page.specs.Head.{Head, field-in, text-in, stands-in, form-in, latin-in, text-if, head-values}
 use Rattle.page.specs.Form.{quoted, date-text, time-text, charset-name}
-use Rattle.demands.specs.Round.{Printed, PrintedIf, SoundHead}
+use Rattle.demands.specs.Round.{PrintedIf, SoundHead}
 use Rattle.demands.proofs.WrittenTexts.{text-quoted}
-use Rattle.demands.proofs.WrittenLines.{commands, Seen}
+use Rattle.demands.proofs.WrittenLines.{commands}
 use Rattle.demands.proofs.WrittenDates.{date-again, time-again}
 use Rattle.demands.proofs.RoundHeader.{mod-line, src-line, chs-line, text-line, lines-if, head-lines, mod-seen, src-seen, chs-seen, text-seen, charset-back}
 

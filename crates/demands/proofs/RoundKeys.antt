@@ -1,21 +1,20 @@
 -- 17 to 20 depend only on what a file says, not on where it stands. Assumes nothing.
-use mathlib.Core.Path.{_≡_, refl, ap, sym, _∙_}
+use mathlib.Core.Path.{_≡_, refl, sym, _∙_}
 use mathlib.Core.Bool.{Bool, true, false, not, _&&_, _||_, false≢true}
 use mathlib.Core.List.{List, [], _∷_, _++_, map}
-use Prim.Native.Nat.{ℕ, zero, suc, _+_}
+use Prim.Native.Nat.{ℕ, suc}
 use native.Mathlib.Omega.{arith}
 use lib.Dec.{eqb}
-use lib.ListN.{length, getD}
 use borrow.Author.Tests.{eqb-true, eqb-false, ne-eqb}
-use Rattle.page.specs.Bytes.{Bytes, bytes, pick}
-use Rattle.page.specs.Tables.{Reference, number-at, table-at, table-named, columns}
+use Rattle.page.specs.Bytes.{Bytes, pick}
+use Rattle.page.specs.Tables.{Reference, number-at, table-at}
 use Rattle.page.specs.Cut.{Section, sections}
 use Rattle.page.specs.Head.{latinOf}
 use Rattle.page.specs.Section.{outcome}
-use Rattle.page.specs.Records.{Datum, Record, Entry, entriesOf, recordsOf, table-of}
-use Rattle.page.specs.Model.{Content, Model, contentOf, modelOf}
+use Rattle.page.specs.Records.{Entry, entriesOf, recordsOf, table-of}
+use Rattle.page.specs.Model.{Content, contentOf, modelOf}
 use Rattle.page.specs.Answers.{refusal, sound, earlier}
-use Rattle.page.specs.File.{row-of, rowOf, rowsOf, first-unsound, any, first-again, Filed, filed-in, filed, same-record, key-of, by-primary, by-second, has-key, repeats, referred, meets, lost, first-record, filedOf, record-refusal, section-refusal}
+use Rattle.page.specs.File.{row-of, rowOf, rowsOf, first-unsound, any, first-again, Filed, filed-in, filed, same-record, key-of, by-primary, by-second, repeats, meets, lost, first-record, filedOf, record-refusal, section-refusal}
 use Rattle.page.specs.Rules.{Every, none-left, one-more}
 use Rattle.page.specs.declared.Column.{Column}
 use Rattle.page.specs.declared.Row.{Row}

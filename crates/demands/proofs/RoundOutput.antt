@@ -1,12 +1,11 @@
 -- What a call has put into lent output is a file that is accepted and says what it should. Assumes nothing.
-use mathlib.Core.Path.{_≡_, refl, ap, sym, _∙_}
-use mathlib.Core.List.{List, [], _∷_, _++_}
-use Prim.Native.Nat.{ℕ, _≤_}
+use mathlib.Core.Path.{_≡_}
+use Prim.Native.Nat.{ℕ}
 use lib.ListN.{length, take, drop}
 use lib.Seq.{take-append-seam}
 use Rattle.page.specs.Bytes.{Bytes}
 use Rattle.page.specs.Answers.{sound, checked}
-use Rattle.page.specs.File.{limit, file-refusal, checkOf}
+use Rattle.page.specs.File.{file-refusal, checkOf}
 use Rattle.page.specs.Model.{Model, modelOf, fill-model, strip-model}
 use Rattle.page.specs.Writing.{put-after, write-form, writeOf, write-after, strip-form, stripOf, strip-after, fill-refusal, fill-form, fillOf, fill-after}
 use Rattle.page.specs.declared.Refusal.{Refusal}

@@ -1,34 +1,27 @@
 -- What an accepted record says may be said: values in range and of their size, of allowed bytes. Assumes nothing.
 use mathlib.Core.Path.{_≡_, refl, ap, sym, _∙_}
 use mathlib.Core.Bool.{Bool, true, false, not, _&&_, _||_, false≢true}
-use mathlib.Core.List.{List, [], _∷_, _++_, map, List·Memᴰ, List·Memᴰ·head, List·Memᴰ·tail}
-use mathlib.Core.Option.{Option, none, some}
-use Prim.Native.Nat.{ℕ, zero, suc, _+_, _-_, _<_, _≤_, _^_}
+use mathlib.Core.List.{List, [], _∷_, map, List·Memᴰ, List·Memᴰ·head, List·Memᴰ·tail}
+use Prim.Native.Nat.{ℕ, zero, suc, _+_, _-_, _<_, _≤_}
 use native.Mathlib.Omega.{arith}
-use lib.Dec.{eqb, leb, ltb}
+use lib.Dec.{eqb, leb}
 use lib.ListN.{length, getD, take, drop}
-use borrow.Author.Tests.{eqb-true, eqb-false, ne-eqb}
-use Rattle.page.specs.Bytes.{Bytes, pick, all, until, keep, space, no-space, trimOf, part, trim}
-use Rattle.page.specs.Lines.{content, blank, semicolon, command, rest, allowed, clean, Missing, Rec}
-use Rattle.page.specs.Fields.{quote, parts-here, inside-after, into, split, fields, textOf, numberOf}
+use borrow.Author.Tests.{eqb-true, eqb-false}
+use Rattle.page.specs.Bytes.{Bytes, pick, all, until, trimOf, trim}
+use Rattle.page.specs.Lines.{content, semicolon, rest, allowed, clean, Rec}
+use Rattle.page.specs.Fields.{parts-here, inside-after, into, split, fields}
 use Rattle.page.specs.Tables.{Named, no-column, all-tables, table-at, columns, standing, points-from}
-use Rattle.page.specs.Marks.{may-mark, owner-of}
-use Rattle.page.specs.Section.{first-of, record-text, text-field, number-field, fieldOf, field-number, first-wrong, amount, amount-at, points-same, same-points, no-bytes, empty-marked, rec-verdict}
-use Rattle.page.specs.Records.{Datum, number, words, Record, own-bytes, datumOf, valuesOf, record-in}
-use Rattle.page.specs.Form.{quoted}
+use Rattle.page.specs.Marks.{may-mark}
+use Rattle.page.specs.Section.{record-text}
+use Rattle.page.specs.Records.{number, words, Record}
 use Rattle.page.specs.Grammar as Grammar
-use Rattle.page.specs.Grammar.{Says, marked, owner-by, Values, no-field, a-field, SamePoints, RecLine, MarkLine, Then, found, skip, Records, pause, a-mark, a-record, the-end, Denotes}
+use Rattle.page.specs.Grammar.{Says, marked, owner-by, Values, no-field, a-field, SamePoints, RecLine, Then, found, skip, Records, pause, a-mark, a-record, the-end, Denotes}
 use Rattle.page.specs.Rules.{Every, none-left, one-more}
 use Rattle.page.specs.declared.Column.{Column}
-use Rattle.page.specs.declared.Field.the-variants as F
-use Rattle.page.specs.declared.Number.{Number}
-use Rattle.page.specs.declared.Number.the-variants as N
-use Rattle.page.specs.declared.Owner.{Owner}
 use Rattle.page.specs.declared.Owner.the-variants as O
 use Rattle.demands.specs.Round.{Fits, a-number, a-text, a-suggestion, FitAll, no-value, a-value, amount-of, amount-in, points-alike, SoundRecord}
 use Rattle.demands.proofs.WrittenScans.{and-l, and-r}
 use Rattle.demands.proofs.WrittenTexts.{text-exactly, all-quoted}
-use Rattle.demands.proofs.RoundRecords.{quoted-none}
 
 -- a test that all bytes of a line pass, each field passes
 

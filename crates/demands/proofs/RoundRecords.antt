@@ -1,35 +1,29 @@
 -- A written record, its marks and a written `end` line are taken back by the section's machine. Assumes nothing.
-use mathlib.Core.Path.{_≡_, refl, ap, sym, _∙_}
-use mathlib.Core.Bool.{Bool, true, false, not, _&&_, _||_, false≢true}
-use mathlib.Core.List.{List, [], _∷_, _++_, map, append-nil}
-use mathlib.Core.Option.{Option, none, some}
-use mathlib.Core.Logic.{_⊎_, inl, inr}
-use Prim.Native.Nat.{ℕ, zero, suc, _+_, _-_, _<_, _≤_, _^_}
+use mathlib.Core.Path.{_≡_, refl, ap}
+use mathlib.Core.Bool.{Bool, true, false, not, _&&_, _||_}
+use mathlib.Core.List.{List, [], _∷_, _++_, map}
+use Prim.Native.Nat.{ℕ, zero, suc, _<_, _≤_, _^_}
 use native.Mathlib.Omega.{arith}
-use lib.Dec.{eqb, leb, ltb}
-use lib.ListN.{length, getD, length-map}
-use borrow.Author.Tests.{eq-eqb, ne-eqb, le-leb, leb-true, lt-ltb, ltb-true}
+use lib.Dec.{leb, ltb}
+use lib.ListN.{length}
+use borrow.Author.Tests.{le-leb, leb-true, ltb-true}
 use Rattle.page.specs.Bytes.{Bytes, bytes, pick, all}
-use Rattle.page.specs.Lines.{allowed, Rec, End, Com}
-use Rattle.page.specs.Fields.{digit, digits, value, textOf, numberOf}
-use Rattle.page.specs.Tables.{Named, no-column, all-tables, table-at, columns, width, standing, points-from, table-count}
-use Rattle.page.specs.Marks.{remarkOf, may-mark, owner-of}
-use Rattle.page.specs.Section.{choose, record-text, text-field, number-field, fieldOf, field-number, first-wrong, amount, amount-at, points-same, same-points, empty-marked, no-bytes, rec-verdict, rec-step, count-step, end-step, mark-step, com-step, line-step, content-step, step}
-use Rattle.page.specs.Records.{Datum, number, words, Record, datumOf, own-bytes, valuesOf}
-use Rattle.page.specs.Form.{separated, line, decimal, doubled, quoted, datum-text, mark-line}
+use Rattle.page.specs.Lines.{allowed}
+use Rattle.page.specs.Fields.{digit, digits, value, numberOf}
+use Rattle.page.specs.Tables.{Named, all-tables, table-at, columns}
+use Rattle.page.specs.Marks.{owner-of}
+use Rattle.page.specs.Section.{record-text, text-field, number-field, fieldOf, field-number, first-wrong, amount, amount-at}
+use Rattle.page.specs.Records.{Datum, number, words, Record, datumOf, valuesOf}
+use Rattle.page.specs.Form.{separated, decimal, doubled, quoted, datum-text}
 use Rattle.page.specs.declared.Column.{Column}
 use Rattle.page.specs.declared.Number.the-variants as N
 use Rattle.page.specs.declared.Owner.{Owner}
 use Rattle.page.specs.declared.Owner.the-variants as O
-use Rattle.page.specs.declared.Phase.the-variants as P
-use Rattle.page.specs.declared.Step.the-variants as S
-use Rattle.demands.specs.Round.{Fits, a-number, a-text, a-suggestion, FitAll, no-value, a-value, amount-of, amount-in, points-alike}
+use Rattle.demands.specs.Round.{Fits, a-number, a-text, a-suggestion, FitAll, no-value, a-value, amount-of, amount-in}
 use Rattle.demands.proofs.WrittenScans.{and-l, and-r, all-mono, all-append}
 use Rattle.demands.proofs.WrittenNumbers.{number-decimal, decimal-all}
 use Rattle.demands.proofs.WrittenTexts.{text-quoted, quoted-all}
 use Rattle.demands.proofs.WrittenFields.{Field, Fields, no-field, a-field, quoted-field, decimal-field}
-use Rattle.demands.proofs.WrittenLines.{Named as Command, commands, Seen, seen, allowed-wider}
-use Rattle.demands.proofs.WrittenDates.{mark-again}
 
 -- columns of the eight tables: their bounds are small, and at most one of them may be marked
 

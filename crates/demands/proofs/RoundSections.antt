@@ -1,36 +1,30 @@
 -- A written section is read back: sound, with its records, their values and owners. Assumes nothing.
-use mathlib.Core.Path.{_≡_, refl, ap, sym, _∙_}
-use mathlib.Core.Bool.{Bool, true, false, not, _&&_, _||_, false≢true}
+use mathlib.Core.Path.{_≡_, refl, sym, _∙_}
+use mathlib.Core.Bool.{Bool, true, false}
 use mathlib.Core.List.{List, [], _∷_, _++_, map, append-nil, append-assoc}
-use mathlib.Core.Option.{Option, none, some}
-use Prim.Native.Nat.{ℕ, zero, suc, _+_, _-_, _<_, _≤_, _^_}
-use native.Mathlib.Nat.{zero-add}
+use mathlib.Core.Option.{some}
+use Prim.Native.Nat.{ℕ, suc, _+_, _-_, _<_, _≤_, _^_}
 use native.Mathlib.Omega.{arith}
-use lib.Dec.{eqb, leb, ltb}
-use lib.ListN.{length, getD, length-map, length-append}
+use lib.ListN.{length, getD}
 use borrow.Author.Tests.{le-leb}
-use Rattle.page.specs.Bytes.{Bytes, bytes, pick}
-use Rattle.page.specs.Lines.{joined, content, command, rest, Tbl, Rec, Com, Eof}
-use Rattle.page.specs.Fields.{fields}
-use Rattle.page.specs.Tables.{Named, no-column, number-at, table-at, columns, standing, width, table-count}
-use Rattle.page.specs.Cut.{begins-table, begins-end}
-use Rattle.page.specs.Marks.{remarkOf, may-mark}
-use Rattle.page.specs.Section.{record-text, empty-marked, no-bytes, step, table-in, finish, continue, run, outcome}
-use Rattle.page.specs.Records.{Datum, number, words, Record, Entry, valuesOf, waits, waiting, record-in, entries, table-of, entriesOf, recordsOf}
+use Rattle.page.specs.Bytes.{Bytes}
+use Rattle.page.specs.Lines.{joined}
+use Rattle.page.specs.Tables.{no-column, number-at, table-at, columns, standing, table-count}
+use Rattle.page.specs.Marks.{may-mark}
+use Rattle.page.specs.Section.{record-text, empty-marked, finish, continue, run, outcome}
+use Rattle.page.specs.Records.{Datum, number, words, Record, Entry, waits, record-in, entries, table-of, entriesOf, recordsOf}
 use Rattle.page.specs.Model.{Content}
 use Rattle.page.specs.Form.{line, decimal, quoted, datum-text, mark-line, mark-of, marks, record-form, records-form, table-head, content-form}
 use Rattle.page.specs.Rules.{Every, none-left, one-more}
 use Rattle.page.specs.declared.Owner.the-variants as O
 use Rattle.page.specs.declared.Phase.the-variants as P
-use Rattle.page.specs.declared.Step.the-variants as S
 use Rattle.page.specs.declared.Outcome.{Outcome}
-use Rattle.page.proofs.LineLaws.{Ended, joined-append}
-use Rattle.demands.specs.Round.{FitAll, SoundRecord, SoundContent}
+use Rattle.page.proofs.LineLaws.{joined-append}
+use Rattle.demands.specs.Round.{SoundRecord, SoundContent}
 use Rattle.demands.proofs.WrittenTexts.{text-quoted}
-use Rattle.demands.proofs.WrittenLines.{Seen}
-use Rattle.demands.proofs.RoundRecords.{Tame, tame, Owned, values-back, width-back}
+use Rattle.demands.proofs.RoundRecords.{tame, Owned, values-back, width-back}
 use Rattle.demands.proofs.RoundSteps.{mark-lines-of, mark-lines, Marked, unmarked, marked, marks-back, mark-seen, mark-reads, mark-step-back, end-seen, end-step-back, rec-seen, rec-step-back}
-use Rattle.demands.proofs.RoundHeads.{Heads, heads, tbl-line, atr-line, frm-line, tbl-ended, atr-ended, frm-ended}
+use Rattle.demands.proofs.RoundHeads.{Heads, heads, tbl-line, atr-line, frm-line}
 
 -- the written lines
 

@@ -1,35 +1,31 @@
 -- The section's machine takes a written record with its marks, and a written `end`. Assumes nothing.
-use mathlib.Core.Path.{_≡_, refl, ap, sym, _∙_}
+use mathlib.Core.Path.{_≡_, refl, sym, _∙_}
 use mathlib.Core.Bool.{Bool, true, false, not, _&&_, _||_, false≢true}
 use mathlib.Core.List.{List, [], _∷_, _++_, map, append-nil}
-use mathlib.Core.Option.{Option, none, some}
-use mathlib.Core.Logic.{_⊎_, inl, inr}
-use Prim.Native.Nat.{ℕ, zero, suc, _+_, _-_, _<_, _≤_, _^_}
+use Prim.Native.Nat.{ℕ, suc, _+_, _<_, _≤_, _^_}
 use native.Mathlib.Omega.{arith}
-use lib.Dec.{eqb, leb, ltb}
 use lib.ListN.{length, getD, length-map}
-use borrow.Author.Tests.{eq-eqb, ne-eqb, le-leb, leb-true, lt-ltb, ltb-true, not-true}
-use Rattle.page.specs.Bytes.{Bytes, bytes, pick, all}
-use Rattle.page.specs.Lines.{content, command, rest, allowed, Rec, End, Com}
-use Rattle.page.specs.Fields.{digit, fields}
-use Rattle.page.specs.Tables.{Named, no-column, columns, width, standing, points-from, table-count}
+use borrow.Author.Tests.{eq-eqb, ne-eqb, lt-ltb, not-true}
+use Rattle.page.specs.Bytes.{Bytes, bytes, all}
+use Rattle.page.specs.Lines.{content, rest, allowed, Rec, End, Com}
+use Rattle.page.specs.Fields.{digit}
+use Rattle.page.specs.Tables.{Named, no-column, columns, width, standing, points-from}
 use Rattle.page.specs.Marks.{remarkOf, may-mark, owner-of}
-use Rattle.page.specs.Section.{choose, first-of, record-text, points-same, same-points, empty-marked, no-bytes, rec-verdict, rec-step, count-step, end-step, mark-step, com-step, line-step, content-step, step}
+use Rattle.page.specs.Section.{choose, points-same, same-points, empty-marked, rec-verdict, rec-step, count-step, end-step, mark-step, com-step, line-step, content-step, step}
 use Rattle.page.specs.Records.{Datum, number, words, Record}
 use Rattle.page.specs.Form.{separated, line, decimal, quoted, datum-text, mark-line}
-use Rattle.page.specs.declared.Owner.{Owner}
 use Rattle.page.specs.declared.Owner.the-variants as O
 use Rattle.page.specs.declared.Phase.the-variants as P
 use Rattle.page.specs.declared.Remark.the-variants as R
 use Rattle.page.specs.declared.Step.the-variants as S
-use Rattle.demands.specs.Round.{Fits, a-number, a-text, a-suggestion, FitAll, no-value, a-value, points-alike, SoundRecord}
-use Rattle.demands.proofs.WrittenScans.{and-l, and-r, all-mono, all-append}
+use Rattle.demands.specs.Round.{a-number, a-text, a-suggestion, FitAll, no-value, a-value, points-alike, SoundRecord}
+use Rattle.demands.proofs.WrittenScans.{and-l, and-r, all-mono}
 use Rattle.demands.proofs.WrittenNumbers.{number-decimal, decimal-all}
-use Rattle.demands.proofs.WrittenTexts.{text-quoted, quoted-all}
-use Rattle.demands.proofs.WrittenFields.{Fields, no-field, a-field, quoted-field, decimal-field}
+use Rattle.demands.proofs.WrittenTexts.{quoted-all}
+use Rattle.demands.proofs.WrittenFields.{no-field, a-field, quoted-field, decimal-field}
 use Rattle.demands.proofs.WrittenLines.{commands, Seen, seen, separated-more, separated-none}
 use Rattle.demands.proofs.WrittenDates.{mark-again}
-use Rattle.demands.proofs.RoundRecords.{Tame, tame, small, fillable-in, one-fillable, digit-allowed, Owned, no-owner, of-number, of-words, wrong-back, values-back, width-back, fields-stand, separated-allowed, amount-back}
+use Rattle.demands.proofs.RoundRecords.{tame, small, fillable-in, one-fillable, digit-allowed, Owned, no-owner, of-number, of-words, wrong-back, width-back, fields-stand, separated-allowed, amount-back}
 
 -- the marks of a record, line by line
 unfoldable pub mark-lines-of : ℕ → Datum → List Bytes

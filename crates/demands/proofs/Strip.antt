@@ -1,13 +1,12 @@
 -- Stripping leaves no suggestion, empties the marked texts and changes nothing else; stripping again changes nothing. Assumes nothing.
-use mathlib.Core.Path.{_≡_, refl, ap, sym, _∙_}
-use mathlib.Core.List.{List, [], _∷_, _++_, map}
-use Prim.Native.Nat.{ℕ, zero, suc, _-_, _≤_, _<_}
+use mathlib.Core.Path.{_≡_, refl}
+use mathlib.Core.List.{List, [], _∷_, map}
+use Prim.Native.Nat.{ℕ, _-_}
 use native.Mathlib.Omega.{arith}
-use lib.ListN.{length, getD, length-map, List·getD-map}
+use lib.ListN.{getD, List·getD-map}
 use Rattle.page.specs.Bytes.{Bytes}
 use Rattle.page.specs.Records.{Datum, number, words, Record}
-use Rattle.page.specs.Model.{Content, Model, modelOf, strip-datum, strip-words, strip-content, strip-model, datum-at}
-use Rattle.page.specs.declared.Owner.{Owner}
+use Rattle.page.specs.Model.{Content, Model, strip-datum, strip-content, strip-model, datum-at}
 use Rattle.page.specs.declared.Owner.the-variants as O
 
 -- no suggestion is left

@@ -1,21 +1,20 @@
 -- A stripped file is an accepted file that says the same with the suggestions emptied. Assumes nothing.
-use mathlib.Core.Path.{_≡_, refl, ap, sym, _∙_}
-use mathlib.Core.Bool.{Bool, true, false}
-use mathlib.Core.List.{List, [], _∷_, _++_, map}
-use Prim.Native.Nat.{ℕ, zero, suc, _≤_}
+use mathlib.Core.Path.{_≡_, refl, ap, _∙_}
+use mathlib.Core.Bool.{Bool}
+use mathlib.Core.List.{List, map}
+use Prim.Native.Nat.{ℕ, _≤_}
 use native.Mathlib.Omega.{arith}
 use lib.ListN.{length}
 use Rattle.page.specs.Bytes.{Bytes, all}
 use Rattle.page.specs.Tables.{Named, columns}
-use Rattle.page.specs.Records.{Datum, number, words, Record}
-use Rattle.page.specs.Model.{Content, Model, modelOf, strip-datum, strip-words, strip-content, strip-model}
+use Rattle.page.specs.Records.{number, Record}
+use Rattle.page.specs.Model.{Content, Model, modelOf, strip-datum, strip-content, strip-model}
 use Rattle.page.specs.Answers.{sound}
 use Rattle.page.specs.File.{limit, file-refusal}
 use Rattle.page.specs.Form.{formOf}
 use Rattle.page.specs.Writing.{write-form, strip-form}
 use Rattle.page.specs.Rules.{Every, none-left, one-more}
-use Rattle.page.specs.declared.Owner.the-variants as O
-use Rattle.demands.specs.Round.{Fits, a-number, a-text, a-suggestion, FitAll, no-value, a-value, SoundRecord, SoundContent, SoundModel}
+use Rattle.demands.specs.Round.{a-number, a-text, a-suggestion, FitAll, no-value, a-value, SoundRecord, SoundContent, SoundModel}
 use Rattle.demands.specs.RoundKeys.{KeysHold}
 use Rattle.demands.specs.RoundAlike.{Pairs, no-pair, a-pair, Alike, alike-none, alike-same, alike-text, AlikeContent}
 use Rattle.demands.proofs.RoundForm.{form-model, form-sound}

@@ -1,26 +1,25 @@
 -- Dates, times, formats and marks come back as they were written. Assumes nothing.
-use mathlib.Core.Path.{_≡_, refl, ap, sym, _∙_}
-use mathlib.Core.Bool.{Bool, true, false, not, _&&_, _||_, false≢true}
-use mathlib.Core.List.{List, [], _∷_, _++_, append-assoc, append-nil}
-use Prim.Native.Nat.{ℕ, zero, suc, _+_, _-_, _/_, _%_, _<_, _≤_, _^_}
-use Prim.Native.String.{String}
+use mathlib.Core.Path.{_≡_, refl}
+use mathlib.Core.Bool.{Bool, true, false, not, _&&_}
+use mathlib.Core.List.{[], _∷_, _++_}
+use Prim.Native.Nat.{ℕ, zero, suc, _<_, _≤_, _^_}
 use native.Mathlib.Omega.{arith}
 use lib.Dec.{eqb, leb}
-use lib.ListN.{length, getD, take, drop, List·getD-eq-default}
-use lib.Seq.{take-append-seam, drop-append-seam, drop-append-add, drop-drop}
+use lib.ListN.{length, getD, List·getD-eq-default}
+use lib.Seq.{take-append-seam, drop-append-seam, drop-append-add}
 use borrow.Author.Tests.{le-leb, leb-true, leb-false, ne-eqb}
 use Rattle.page.specs.Bytes.{Bytes, bytes, pick, same, all, until}
-use Rattle.page.specs.Fields.{quote, digit, digits, value, textOf}
+use Rattle.page.specs.Fields.{quote, digit}
 use Rattle.page.specs.Dates.{days-in, leap, real-date, real-time, number-in, digits-in, byte-is, quoted-size, dateOf, date-shape, date-ok, timeOf, time-shape, time-ok}
-use Rattle.page.specs.Marks.{mark-number, mark-text, mark-in, remarkOf}
+use Rattle.page.specs.Marks.{mark-number, mark-text, remarkOf}
 use Rattle.page.specs.Section.{no-digit, size-ok, formed, format-ok}
-use Rattle.page.specs.Form.{decimal, padded, doubled, quoted, separated, date-text, time-text, format-text}
+use Rattle.page.specs.Form.{decimal, padded, doubled, quoted, date-text, time-text, format-text}
 use Rattle.page.specs.declared.Date.{Date}
 use Rattle.page.specs.declared.Time.{Time}
 use Rattle.page.specs.declared.Column.{Column}
 use Rattle.page.specs.declared.Remark.the-variants as R
 use Rattle.demands.proofs.WrittenScans.{and-l, and-r, all-append, all-mono, differ, same-self}
-use Rattle.demands.proofs.WrittenNumbers.{decimal-all, decimal-some, decimal-digits, decimal-value, decimal-lead, padded-all, padded-value}
+use Rattle.demands.proofs.WrittenNumbers.{decimal-all, decimal-digits, decimal-value, decimal-lead, padded-all, padded-value}
 use Rattle.demands.proofs.WrittenTexts.{text-quoted}
 use Rattle.demands.proofs.WrittenFields.{quoted-field}
 

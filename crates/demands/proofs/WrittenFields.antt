@@ -1,15 +1,14 @@
 -- Fields that stand by themselves: a written line falls into its fields again. Assumes nothing.
-use mathlib.Core.Path.{_≡_, refl, ap, sym, _∙_}
-use mathlib.Core.Bool.{Bool, true, false, not, _&&_, _||_, false≢true}
-use mathlib.Core.List.{List, [], _∷_, _++_, append-assoc, append-nil, map}
-use Prim.Native.Nat.{ℕ, zero, suc, _+_, _-_, _<_, _≤_}
+use mathlib.Core.Path.{_≡_, refl, _∙_}
+use mathlib.Core.Bool.{Bool, true, false, not, _&&_}
+use mathlib.Core.List.{List, [], _∷_, _++_, append-nil, map}
+use Prim.Native.Nat.{ℕ, suc, _-_, _<_}
 use native.Mathlib.Omega.{arith}
-use lib.Dec.{eqb, leb}
-use lib.ListN.{length, getD, take, drop, length-append}
+use lib.Dec.{eqb}
+use lib.ListN.{length, length-append}
 use lib.Seq.{take-length}
-use borrow.Author.Tests.{not-true}
-use Rattle.page.specs.Bytes.{Bytes, bytes, pick, all, until, keep, kept-after, space, no-space, trim}
-use Rattle.page.specs.Fields.{quote, parts-here, inside-after, into, split, fields, digit}
+use Rattle.page.specs.Bytes.{Bytes, bytes, all, until, keep, space, trim}
+use Rattle.page.specs.Fields.{parts-here, inside-after, into, split, fields, digit}
 use Rattle.page.specs.Form.{separated, decimal, doubled, quoted}
 use Rattle.page.proofs.ScanLaws.{keep-snoc}
 use Rattle.demands.proofs.WrittenScans.{and-l, and-r, all-mono, differ}

@@ -1,17 +1,17 @@
 -- A written line: its content, command, rest and fields, and that it is one line. Assumes nothing.
 use mathlib.Core.Path.{_≡_, refl, ap, sym, _∙_}
-use mathlib.Core.Bool.{Bool, true, false, not, _&&_, _||_, false≢true}
-use mathlib.Core.List.{List, [], _∷_, _++_, append-assoc, append-nil, map}
-use Prim.Native.Nat.{ℕ, zero, suc, _+_, _-_, _<_, _≤_}
+use mathlib.Core.Bool.{Bool, true, false, _&&_, _||_, false≢true}
+use mathlib.Core.List.{List, [], _∷_, _++_, append-assoc, append-nil}
+use Prim.Native.Nat.{ℕ, zero, suc, _+_, _-_, _<_}
 use Prim.Native.String.{String}
 use native.Mathlib.Omega.{arith}
-use lib.Dec.{eqb, leb, ltb}
-use lib.ListN.{length, getD, take, drop, length-append, List·getD-append}
+use lib.Dec.{eqb, leb}
+use lib.ListN.{length, getD, length-append, List·getD-append}
 use lib.Seq.{take-append-seam, drop-append-add, getD-append-seam}
 use borrow.Author.Tests.{ne-eqb, lt-ltb, le-leb, leb-true}
-use Rattle.page.specs.Bytes.{Bytes, bytes, pick, same, all, until, keep, no-space, trim}
+use Rattle.page.specs.Bytes.{Bytes, bytes, same, all, until, keep, no-space, trim}
 use Rattle.page.specs.Lines.{content-size, content, blank, known, find, semicolon, command, rest, allowed, clean, Mod, Src, Chs, Ver, Ifv, Dve, Fft, Tbl, Atr, Frm, Rec, End, Com, Eof}
-use Rattle.page.specs.Fields.{fields, digit}
+use Rattle.page.specs.Fields.{fields}
 use Rattle.page.specs.Form.{line-end, separated, line}
 use Rattle.page.proofs.LineLaws.{Ended, lf, after}
 use Rattle.page.proofs.ContentLaws.{content-lf}

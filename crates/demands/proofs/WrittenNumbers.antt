@@ -1,14 +1,14 @@
 -- Numbers come back as they were written: without leading zeros, or padded to a width. Assumes nothing.
-use mathlib.Core.Path.{_≡_, refl, ap, sym, _∙_}
-use mathlib.Core.Bool.{Bool, true, false, not, _&&_, false≢true}
-use mathlib.Core.List.{List, [], _∷_, _++_}
+use mathlib.Core.Path.{_≡_, refl, ap, _∙_}
+use mathlib.Core.Bool.{Bool, true, false, _&&_, false≢true}
+use mathlib.Core.List.{[], _∷_, _++_}
 use Prim.Native.Nat.{ℕ, zero, suc, _+_, _*_, _-_, _/_, _%_, _≤_, _<_, _^_}
 use native.Mathlib.Nat.{pow-suc}
 use native.Mathlib.Omega.{arith}
 use lib.Dec.{eqb, ltb, leb}
 use lib.ListN.{length, getD, length-append}
 use borrow.Author.Tests.{ltb-true, ltb-false, le-leb, leb-true, ne-eqb}
-use Rattle.page.specs.Bytes.{Bytes, pick, all}
+use Rattle.page.specs.Bytes.{Bytes, all}
 use Rattle.page.specs.Fields.{digit, digits, value, numberOf}
 use Rattle.page.specs.Form.{decimal-in, decimal, padded}
 use Rattle.page.specs.declared.Number.the-variants as N

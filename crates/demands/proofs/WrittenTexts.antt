@@ -1,14 +1,14 @@
 -- Texts come back as they were written, and a text field is exactly a quoted text. Assumes nothing.
-use mathlib.Core.Path.{_≡_, refl, ap, sym, _∙_}
-use mathlib.Core.Bool.{Bool, true, false, not, _&&_, false≢true}
-use mathlib.Core.List.{List, [], _∷_, _++_, append-assoc}
+use mathlib.Core.Path.{_≡_, refl}
+use mathlib.Core.Bool.{Bool, true, false, _&&_, false≢true}
+use mathlib.Core.List.{List, [], _∷_, _++_}
 use mathlib.Core.Option.{Option, none, some}
 use mathlib.Core.Logic.{_↔_}
 use Prim.Native.Nat.{ℕ}
 use lib.Dec.{eqb}
 use borrow.Author.Tests.{eqb-true}
 use Rattle.page.specs.Bytes.{Bytes, pick, all}
-use Rattle.page.specs.Fields.{quote, parts-here, inside-after, into, split, with-byte, bodyOf, textOf}
+use Rattle.page.specs.Fields.{into, split, with-byte, bodyOf, textOf}
 use Rattle.page.specs.Form.{doubled, quoted}
 use Rattle.demands.proofs.WrittenScans.{and-l, and-r, all-append, all-left}
 

@@ -5,7 +5,7 @@ use Prim.Native.Nat.{ℕ, _+_}
 use lib.ListN.{length}
 use Rattle.page.specs.Bytes.{Bytes}
 use Rattle.page.specs.Lines.{lines, joined}
-use Rattle.page.specs.Cut.{Piece, Cut, Section, cut, placed, header-lines, sections}
+use Rattle.page.specs.Cut.{Piece, Section, cut, placed, header-lines}
 use Rattle.page.specs.Head.{latinOf}
 use Rattle.page.specs.File.{rowOf}
 use Rattle.page.specs.Section.{outcome}
