@@ -57,3 +57,4 @@ pub mod Numbers
 pub mod Places
 pub mod PromisesRoom
 pub mod RoundOutput
+pub mod Viable

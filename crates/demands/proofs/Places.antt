@@ -1,19 +1,18 @@
 -- Each record that is handed out stands in its line: a `rec` line of its section, of these values.
 use mathlib.Core.Path.{_≡_, refl, ap, sym, _∙_}
-use mathlib.Core.Bool.{Bool, true, false}
-use mathlib.Core.List.{List, [], _∷_, _++_, map, append-assoc, List·Memᴰ}
+use mathlib.Core.Bool.{Bool, true}
+use mathlib.Core.List.{List, [], _∷_, _++_, map, append-assoc}
 use mathlib.Core.Logic.{_⊎_, inl, inr}
-use Prim.Native.Nat.{ℕ, zero, suc, _+_}
+use Prim.Native.Nat.{ℕ, suc}
 use native.Mathlib.Omega.{arith}
 use lib.ListN.{length, length-append}
 use Rattle.page.specs.Bytes.{Bytes}
-use Rattle.page.specs.Lines.{content, command, rest, Tbl, Atr, Frm, Rec, End, Com}
+use Rattle.page.specs.Lines.{Tbl, Atr, Frm, End}
 use Rattle.page.specs.Cut.{Section, sections}
 use Rattle.page.specs.Head.{latinOf}
 use Rattle.page.specs.Marks.{may-mark}
-use Rattle.page.specs.Section.{outcome}
-use Rattle.page.specs.Records.{Record, Entry, waits, record-in, entries, table-of, entriesOf}
-use Rattle.page.specs.File.{Filed, filed-in, filed, filedOf}
+use Rattle.page.specs.Records.{Record, Entry, waits, record-in, entries, entriesOf}
+use Rattle.page.specs.File.{filed-in, filed, filedOf}
 use Rattle.page.specs.Model.{Content}
 use Rattle.page.specs.Grammar.{MarkLine, RecLine, Then, found, skip, Silence, over, still, Records, pause, a-mark, a-record, the-end, Denotes}
 use Rattle.page.specs.Refusals.{marks-of}

@@ -10,3 +10,4 @@ pub mod Files
 pub mod Places
 pub mod Marks
 pub mod RoundAlike
+pub mod Viable
