@@ -31,6 +31,7 @@ Fits (P.Frm t) = Unit
 Fits (P.Rows t m n) = (m ≡ 0) ⊎ (may-mark t m ≡ true)
 Fits (P.Ended t n) = Unit
 
+-- that stays so from line to line
 pub fits-on : {latin : Bool} {l : Bytes} {p q : Phase} → Leads latin l p q → Fits p → Fits q
 fits-on (quiet h) x = x
 fits-on (tbl h) x = tt
@@ -40,6 +41,7 @@ fits-on (mark h) x = inr (h .may)
 fits-on (record-line h) x = inl refl
 fits-on (end h) x = tt
 
+-- a mark that may stand is the only one of its record
 pub only-mark : (t m i : ℕ) → (m ≡ 0) ⊎ (may-mark t m ≡ true) → may-mark t i ≡ true → Rises i (marks-of m) → marks-of i ≡ i ∷ marks-of m
 only-mark t m zero x e r = let z = may-mark-within t 0 e .0 in absurd (let y : ⊥ = omega arith in y)
 only-mark t zero (suc i) x e r = refl

@@ -257,6 +257,7 @@ module _ (latin : Bool) (l : Bytes) where
         (λ e. record-agrees t m n (says Rec e)) (λ e. end-agrees t m n (fields-of l) (says End e) refl)
     line-agrees (P.Ended t n) = hit (λ x. x)
 
+  -- every line, in every phase
   pub step-agrees : (p : Phase) → Agrees (Leads latin l p) (Section.step latin p l) (laws latin p l)
   unfolding Section.step Section.content-step laws
   step-agrees p =

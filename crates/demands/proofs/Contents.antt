@@ -89,10 +89,12 @@ module _ (latin : Bool) where
       let g = tables-are (every-tail e) t in
       cc
 
+  -- their tables are of the eight
   pub tables-known : {xs : List Section} {cs : List Content} → Tables latin xs cs → Every (λ c. c .table < table-count) cs
   tables-known no-table = none-left
   tables-known (a-table {c} d t) = one-more (denoted-known (c .table) (c .records) d) (tables-known t)
 
+  -- each of them denotes something
   pub tables-denoted : {x : Section} {xs : List Section} {cs : List Content} → Tables latin xs cs → List·Memᴰ x xs → (t : ℕ) × (rs : List Record) × Denotes latin (x .lines) t rs
   tables-denoted no-table m = absurd (List·Memᴰ·not-nil m)
   tables-denoted {x} (a-table {x = y} {xs} {c} d t) m = by (List·Memᴰ·cases-cons m) (λ i. tables-denoted t i)

@@ -90,5 +90,6 @@ one-end latin ls t rs =
 pub no-end-denotes-nothing : (latin : Bool) (ls : List Bytes) (t : ℕ) (rs : List Record) → times End ls ≡ 0 → ¬ Denotes latin ls t rs
 no-end-denotes-nothing latin ls t rs e d = let z = one-end latin ls t rs d in let y : ⊥ = omega arith in y
 
+-- its verdict is not 0
 pub no-end-refused : (latin : Bool) (ls : List Bytes) → times End ls ≡ 0 → ¬ (outcome latin ls .verdict ≡ 0)
 no-end-refused latin ls e h = let x = accepted-denotes latin ls h in no-end-denotes-nothing latin ls (x .0) (x .1) e (x .2)

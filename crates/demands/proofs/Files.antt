@@ -264,6 +264,7 @@ pub accepted-tables : (s : Bytes) (cs : List Content) → SoundFile s cs → cs 
 unfolding modelOf
 accepted-tables s cs f = tables-are (latinOf s) (sections-begin s) (f .tables)
 
+-- a file whose answer is 0 keeps every rule with the tables handed out
 pub accepted-says : (s : Bytes) → file-refusal s .number ≡ 0 → SoundFile s (modelOf s .tables)
 accepted-says s e = let x = accepts-exactly s .0 e in rw (accepted-tables s (x .0) (x .1)) at (x .1)
 
@@ -286,6 +287,7 @@ check-sound s = (λ e. accepts-exactly s .0 (into (eqb (file-refusal s .number) 
     into true (holds h) e = h
     into false d e = absurd (false≢true (cc))
 
+-- the refusal that it carries is the one that the file has
 pub check-refused : (s : Bytes) (v i n : ℕ) → checkOf s ≡ C.Refused (refusal v i n) ↔ FileRefused s v i n
 unfolding checkOf checked
 check-refused s v i n = (λ e. refuses-file-exactly s v i n .0 (into (eqb (file-refusal s .number) 0) (equal (file-refusal s .number) 0) e), back)

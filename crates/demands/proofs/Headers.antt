@@ -91,6 +91,7 @@ one-d : (b : Bool) → Decides (_≡_ {A = ℕ} (pick b 1 0) 1) b
 one-d true = holds refl
 one-d false = fails (λ e. omega arith)
 
+-- the test for what is missing
 pub complete-d : (q : Met) → ¬ (q .form ≡ 0) → Decides (Every (λ j. tally j q ≡ 1) (Src ∷ Chs ∷ Ver ∷ Ifv ∷ [])) (complete q)
 unfolding complete met-before
 complete-d q n =
@@ -182,6 +183,7 @@ settle m (l ∷ ls) = by (head-step m (content l)) refl (λ q. settle q ls)
         on (inl y) = inl (y .0, move e (y .1))
         on (inr y) = inr (l ∷ y .0, y .1, y .2, y .3, ap (λ (z : List Bytes). l ∷ z) (y .4), move e (y .5), y .6)
 
+-- lines that are passed give what is missing in the end
 pub passed : (ls : List Bytes) (q : Met) → Steps (met-none 0) ls q → headOf ls ≡ head-end q (length ls)
 unfolding headOf head-run
 passed ls q s = let z : head-run (met-none 0) 0 (ls ++ []) ≡ head-end q (length ls + 0) = steps-run 0 [] s in (rw append-nil at z) ∙ ap (head-end q) (omega arith)
@@ -193,9 +195,11 @@ stopped before after l q s e = steps-run 0 (l ∷ after) s ∙ rw e (ap (finding
 fit : Fit (met-none 0)
 fit = inl refl
 
+-- lines that keep the rules are passed
 pub keeps-steps : (ls : List Bytes) → Keeps ls → (q : Met) × Steps (met-none 0) ls q
 keeps-steps ls k = good-steps ls (starting refl k)
 
+-- and lines that are passed keep the rules
 pub steps-keeps : (ls : List Bytes) (q : Met) → Steps (met-none 0) ls q → Keeps ls
 steps-keeps ls q s = of (steps-good fit s)
   where

@@ -132,6 +132,7 @@ keys-to p bs seen (its-records {c} {cs} {ds} {es} h k) t a o =
     none-both (KeyAgain p) seen ds es (keys-holding p c ds seen h (apart-seen bs c seen (none-head TableAgain bs c cs t) a) (every-head o))
     (keys-to p (bs ++ (c ∷ [])) (seen ++ ds) k (none-tail TableAgain bs c cs t) (among-more bs c seen ds a h) (every-tail o))
 
+-- the keys of a whole file
 pub keys-exactly : (p : Column → Bool) (cs : List Content) (es : List Filed) → FiledAs cs es → NoneOf TableAgain [] cs → NoneOf (KeyAgain p) [] es ↔ Every (OneKey p) cs
 keys-exactly p cs es k t = (keys-from p [] [] k t none-left, keys-to p [] [] k t none-left)
 

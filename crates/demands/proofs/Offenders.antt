@@ -29,6 +29,7 @@ same-datum-d (number a) (words o t) = fails (λ e. absurd (false≢true (cc)))
 same-datum-d (words o t) (number b) = fails (λ e. absurd (false≢true (cc)))
 same-datum-d (words o t) (words p u) = when (λ e. rw e) (λ e. cc) (same-d t u)
 
+-- two keys are the same by value, whoever's their texts are
 pub same-record-d : (us vs : Record) → Decides (map bare us ≡ map bare vs) (same-record us vs)
 unfolding same-record
 same-record-d [] [] = holds refl
@@ -113,6 +114,7 @@ meets-d e d r n h =
     both (when (λ q. rw q n) (λ q. sym (name-tells (d .table) h) ∙ ap (λ (x : _). table-named (bytes x)) q) (equal (d .table) (table-named (bytes (r .target)))))
     (same-record-d (key-of by-primary d) (referred (r .columns) (e .values)))
 
+-- a reference is found among the records by the test exactly if one of them has the key
 pub found-d : (every : List Filed) → Every (λ d. d .table < table-count) every → (e : Filed) (r : Reference) → List·Memᴰ r (table-at (e .table) .references) →
     Decides (Found every e r) (any (meets e r) every)
 found-d every k e r m =

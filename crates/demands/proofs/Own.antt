@@ -54,6 +54,7 @@ pub row-count : (latin : Bool) (x : Section) → rowOf latin x .verdict ≡ 0 �
 unfolding rowOf row-of
 row-count latin x e = sound-count latin (x .lines) e
 
+-- "A refused section hands out no records, and its record count is 0."
 pub row-refused : (latin : Bool) (x : Section) → ¬ (rowOf latin x .verdict ≡ 0) → rowOf latin x .records ≡ 0
 unfolding rowOf row-of recordsOf entriesOf
 row-refused latin x n = count-handed latin (x .lines) ∙ rw (ne-eqb (outcome latin (x .lines) .verdict) 0 n)

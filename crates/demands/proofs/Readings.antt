@@ -40,6 +40,7 @@ no-mark m k c e h = rw (e, h)
 pub plain-line : (t m n k : ℕ) (l : Bytes) (ls : List Bytes) → command (content l) ≡ k → eqb k Rec ≡ false → eqb k Com ≡ false → entries t m n (l ∷ ls) ≡ entries t m (suc n) ls
 plain-line t m n k l ls e h g = other-line t m n k l ls e h ∙ ap (λ (z : ℕ). entries t z (suc n) ls) (no-mark m k (content l) e g)
 
+-- a line that says nothing hands out no record and leaves the mark
 pub quiet-line : {latin : Bool} (t m n : ℕ) (l : Bytes) (ls : List Bytes) → Quiet latin l → entries t m n (l ∷ ls) ≡ entries t m (suc n) ls
 unfolding waits
 quiet-line t m n l ls (empty ok b) = plain-line t m n Missing l ls (blank-missing (content l) b) refl refl

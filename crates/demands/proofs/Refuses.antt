@@ -84,6 +84,7 @@ module _ (latin : Bool) where
       let z : run latin P.Tbl 0 (ls ++ []) ≡ refused k v n = reach-run 0 [] g ∙ finish-six r (length ls + 0) c ∙ rw (a, f, b) (ap (refused (table-in r) 6) (omega arith)) in
       rw append-nil at z
 
+  -- the number of a refusal is one of 4 to 16
   pub refused-ranged : (ls : List Bytes) (k v n : ℕ) → Refused latin ls k v n → (4 ≤ v) × (v ≤ 16)
   refused-ranged ls k v n (at-line before after l q s g f a b) = laws-ranged latin q l v f
   refused-ranged ls k v n (unfinished q g c a f b) = (omega arith, omega arith)

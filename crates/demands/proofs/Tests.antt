@@ -78,6 +78,7 @@ command-le c = by (ltb (until semicolon c) (length c)) (find-within Mod known (t
     by true h = omega arith
     by false h = omega arith
 
+-- 5: the test on the command's number decides it
 pub unknown-d : (c : Bytes) → Decides ((command c ≡ Missing) ⊎ (command c ≡ Unknown)) (leb Unknown (command c))
 unknown-d c = when into back (at-most Unknown (command c))
   where

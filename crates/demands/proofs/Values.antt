@@ -175,6 +175,7 @@ empty-from m i l (a-field {f} {fs} h k) =
     rw (further m i f fs) at
     (when (λ s. elim s [ inl e ↦ List·Memᴰ·head e | inr x ↦ List·Memᴰ·tail x ]) (λ x. List·Memᴰ·cases-cons x) (one-of (here-d m i l h) (empty-from m (suc i) (omega arith) k)))
 
+-- the whole record
 pub empty-d : (m : ℕ) {cs : List Named} {fs : List Bytes} {vs : Record} → Values (marks-of m) 1 cs fs vs → Decides (List·Memᴰ (words O.Suggestion []) vs) (empty-marked m fs)
 unfolding empty-marked
 empty-d m h = empty-from m 1 (omega arith) h

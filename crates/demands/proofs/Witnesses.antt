@@ -54,6 +54,7 @@ faulty =
     file (day-types "rec; 7; 1; \"Monday\"\nend; 1\n" ∷ bytes "eof; 1\n" ∷ []) ∷
     []
 
+-- and their answers
 unfoldable pub answers : List Refusal
 answers =
     refusal 2 0 0 ∷ refusal 3 0 1 ∷ refusal 4 1 4 ∷ refusal 5 1 4 ∷ refusal 6 1 4 ∷ refusal 7 1 1 ∷ refusal 8 1 2 ∷ refusal 9 1 3 ∷ refusal 10 1 4 ∷ refusal 11 1 4 ∷ refusal 12 1 4 ∷
@@ -69,6 +70,7 @@ pub two-tables-accepted : file-refusal two-tables .number ≡ 0
 unfolding open-all file version two-tables versions day-types head
 two-tables-accepted = refl
 
+-- a file that keeps every rule
 pub some-file-sound : (s : Bytes) × (cs : List Content) × SoundFile s cs
 some-file-sound = (two-tables, modelOf two-tables .tables, accepted-says two-tables two-tables-accepted)
 
