@@ -1,20 +1,18 @@
 -- The machine accepts exactly the sections that the grammar denotes.
 use mathlib.Core.Path.{_≡_, refl, ap, sym, _∙_}
-use mathlib.Core.Bool.{Bool, true, false, false≢true, _&&_}
+use mathlib.Core.Bool.{Bool, true, false≢true}
 use mathlib.Core.List.{List, [], _∷_}
 use mathlib.Core.Logic.{_⊎_, inl, inr}
-use Prim.Native.Nat.{ℕ, zero, suc, _+_, _≤_, _<_}
+use Prim.Native.Nat.{ℕ, zero, suc, _+_}
 use native.Mathlib.Omega.{arith}
-use native.Mathlib.Nat.{zero-add, add-zero}
-use lib.Dec.{eqb, leb}
+use native.Mathlib.Nat.{zero-add}
 use lib.ListN.{length}
-use borrow.Author.Tests.{leb-true}
 use Rattle.page.specs.Bytes.{Bytes}
 use Rattle.page.specs.Tables.{number-at}
 use Rattle.page.specs.Marks.{may-mark}
-use Rattle.page.specs.Section.{step, continue, finish, run, outcome, refused, table-in}
+use Rattle.page.specs.Section.{step, continue, finish, run, outcome, table-in}
 use Rattle.page.specs.Records.{Record}
-use Rattle.page.specs.Grammar.{Quiet, TblLine, AtrLine, FrmLine, MarkLine, EndLine, Rises, lone, above, Then, found, skip, Silence, over, still, Records, pause, a-mark, a-record, the-end, Denotes}
+use Rattle.page.specs.Grammar.{AtrLine, FrmLine, MarkLine, Rises, above, Then, found, skip, Silence, over, still, Records, pause, a-mark, a-record, the-end, Denotes}
 use Rattle.page.specs.Refusals.{marks-of, Leads, quiet, tbl, atr, frm, mark, record-line, end}
 use Rattle.page.specs.declared.Phase.{Phase}
 use Rattle.page.specs.declared.Phase.the-variants as P

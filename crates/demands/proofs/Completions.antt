@@ -1,23 +1,21 @@
 -- Lines keep the header's rules exactly if some lines after them make a sound header: the header is refused neither too early nor too late.
-use mathlib.Core.Path.{_≡_, refl, ap, sym, _∙_}
-use mathlib.Core.Bool.{Bool, true, false, not, _&&_, _||_, false≢true}
+use mathlib.Core.Path.{_≡_, refl, _∙_}
+use mathlib.Core.Bool.{Bool, true, false}
 use mathlib.Core.List.{List, [], _∷_, _++_, List·Memᴰ, List·Memᴰ·head, List·Memᴰ·tail}
-use mathlib.Core.Logic.{_⊎_, inl, inr, _↔_}
-use Prim.Native.Nat.{ℕ, _≤_, _<_}
+use mathlib.Core.Logic.{inl, inr, _↔_}
+use Prim.Native.Nat.{ℕ, _≤_}
 use lib.Dec.{eqb}
-use lib.ListN.{length}
-use borrow.Author.Tests.{ne-eqb, eq-eqb}
+use borrow.Author.Tests.{eq-eqb}
 use native.Mathlib.Omega.{arith}
 use Rattle.page.specs.Bytes.{Bytes, bytes, pick}
-use Rattle.page.specs.Lines.{content, command, clean, Src, Chs, Ver, Ifv, Dve, Fft}
+use Rattle.page.specs.Lines.{content, command, clean, Src, Chs, Ver, Ifv}
 use Rattle.page.specs.Grammar.{fields-of}
-use Rattle.page.specs.Header.{met-before, meet, met-none, head-choose, other-step, head-step, src-ok, holds, complete, head-end, headOf}
-use Rattle.page.specs.Dates.{date-ok, date-shape, dateOf}
+use Rattle.page.specs.Header.{met-before, meet, met-none, head-step, holds, complete, head-end}
 use Rattle.page.specs.Open.{open-all}
-use Rattle.page.specs.Rules.{Every, none-left, one-more, SoundHeader}
+use Rattle.page.specs.Rules.{Every, none-left, one-more}
 use Rattle.page.specs.declared.Met.{Met}
 use Rattle.page.specs.declared.Heading.the-variants as H
-use Rattle.demands.specs.Headers.{followers, Keeps, HeaderFault, Completable}
+use Rattle.demands.specs.Headers.{followers, Keeps, Completable}
 use Rattle.demands.proofs.Decides.{tested}
 use Rattle.demands.proofs.Lists.{every-at, every-from, every-map}
 use Rattle.demands.proofs.HeaderLines.{Fit, tally, tallies, silent, other-line, other-go}

@@ -2,33 +2,30 @@
 -- condition holds, at its place.
 use mathlib.Core.Path.{_≡_, refl, ap, sym, _∙_}
 use mathlib.Core.Bool.{Bool, true, false, false≢true}
-use mathlib.Core.List.{List, [], _∷_, _++_, map, List·Memᴰ·not-nil}
+use mathlib.Core.List.{List, [], List·Memᴰ·not-nil}
 use mathlib.Core.Logic.{_⊎_, inl, inr, _↔_}
-use Prim.Native.Nat.{ℕ, zero, suc, _+_, _≤_, _<_}
+use Prim.Native.Nat.{ℕ, suc, _+_, _≤_, _<_}
 use native.Mathlib.Omega.{arith}
 use lib.Dec.{eqb, leb}
 use lib.ListN.{length}
 use borrow.Author.Tests.{ne-eqb}
 use Rattle.page.specs.Bytes.{Bytes, pick}
-use Rattle.page.specs.Tables.{number-at, table-count}
+use Rattle.page.specs.Tables.{table-count}
 use Rattle.page.specs.Cut.{Section, sections, header-lines, trailer-lines}
 use Rattle.page.specs.Header.{headOf}
 use Rattle.page.specs.Head.{latinOf}
 use Rattle.page.specs.Section.{refused}
 use Rattle.page.specs.Trailer.{trailer-of, trailerOf}
 use Rattle.page.specs.Answers.{refusal, sound, checked, paper-checked}
-use Rattle.page.specs.File.{limit, rowOf, rowsOf, first-unsound, first-again, any, by-primary, by-second, Filed, repeats, lost, first-record, filedOf, file-refusal, checkOf}
-use Rattle.page.specs.Model.{Content, contentOf, modelOf}
+use Rattle.page.specs.File.{limit, rowsOf, first-unsound, first-again, any, by-primary, by-second, Filed, repeats, lost, first-record, filedOf, file-refusal, checkOf}
+use Rattle.page.specs.Model.{Content, modelOf}
 use Rattle.page.specs.Refusals.{Refused}
-use Rattle.page.specs.Rules.{Every, Tables, Apart, SoundHeader, SoundTrailer, OneKey, Refers, SoundFile}
+use Rattle.page.specs.Rules.{Every, Tables, SoundHeader, SoundTrailer, SoundFile}
 use Rattle.page.specs.declared.Column.{Column}
-use Rattle.page.specs.declared.Finding.{Finding}
 use Rattle.page.specs.declared.Outcome.{Outcome}
 use Rattle.page.specs.declared.Refusal.{Refusal}
-use Rattle.page.specs.declared.Checked.{Checked}
 use Rattle.page.specs.declared.Checked.the-variants as C
 use Rattle.demands.specs.First.{First, NoneOf}
-use Rattle.demands.specs.Headers.{HeaderFault}
 use Rattle.demands.specs.Trailers.{TrailerFault}
 use Rattle.demands.specs.Files.{Unsound, TableAgain, KeyAgain, Lost, FileRefused, too-long, header, trailer, section, table-again, primary-again, second-again, reference-lost}
 use Rattle.demands.proofs.Decides.{Decides, holds, fails, at-most, equal}

@@ -1,27 +1,23 @@
 -- One line of a header: the machine goes on exactly if the line keeps the rules, and what may follow then is what may follow.
 use mathlib.Core.Path.{_≡_, refl, ap, sym, _∙_}
 use mathlib.Core.Bool.{Bool, true, false, not, _&&_, _||_, false≢true}
-use mathlib.Core.List.{List, [], _∷_, _++_, append-nil, List·Memᴰ, List·Memᴰ·head, List·Memᴰ·tail, List·Memᴰ·not-nil, List·Memᴰ·cases-cons}
-use mathlib.Core.Logic.{_⊎_, inl, inr, _↔_}
-use Prim.Native.Nat.{ℕ, zero, suc, _+_, _≤_, _<_}
+use mathlib.Core.List.{List, [], _∷_, List·Memᴰ, List·Memᴰ·head, List·Memᴰ·tail}
+use mathlib.Core.Logic.{_⊎_, inl, inr}
+use Prim.Native.Nat.{ℕ, _+_, _≤_}
 use native.Mathlib.Omega.{arith}
-use native.Mathlib.Nat.{zero-add}
 use lib.Dec.{eqb}
-use lib.ListN.{length}
 use borrow.Author.Tests.{eqb-true, ne-eqb, eq-eqb}
 use Rattle.page.specs.Bytes.{Bytes, pick}
 use Rattle.page.specs.Lines.{content, blank, command, rest, clean, Mod, Src, Chs, Ver, Ifv, Dve, Fft, Com}
 use Rattle.page.specs.Fields.{fields}
-use Rattle.page.specs.Header.{mod-form, holds, met-before, meet, met-none, head-choose, mod-step, other-step, head-step, complete, head-end, head-continue, head-run, headOf}
+use Rattle.page.specs.Header.{mod-form, holds, met-before, meet, met-none, head-choose, mod-step, other-step, head-step}
 use Rattle.page.specs.Grammar.{fields-of}
-use Rattle.page.specs.Rules.{Every, none-left, one-more, spoken, times, HeadLine, SoundHeader}
+use Rattle.page.specs.Rules.{Every, none-left, one-more, spoken, times, HeadLine}
 use Rattle.page.specs.declared.Met.{Met}
-use Rattle.page.specs.declared.Heading.{Heading}
 use Rattle.page.specs.declared.Heading.the-variants as H
-use Rattle.page.specs.declared.Finding.{Finding}
-use Rattle.demands.specs.Headers.{followers, Begun, Keeps, HeaderFault, at-line, missing}
+use Rattle.demands.specs.Headers.{followers, Begun, Keeps}
 use Rattle.demands.proofs.Decides.{Decides, holds as yes-it-holds, fails, equal}
-use Rattle.demands.proofs.Lists.{every-head, every-tail, every-at, every-from, every-map}
+use Rattle.demands.proofs.Lists.{every-head, every-tail, every-at, every-from}
 
 -- how often a command has been met
 abbrev pub tally : ℕ → Met → ℕ

@@ -1,25 +1,24 @@
 -- The header: accepted exactly if it keeps the rules, and else refused exactly at the first line that breaks one, or for what is missing.
 use mathlib.Core.Path.{_≡_, refl, ap, sym, _∙_}
-use mathlib.Core.Bool.{Bool, true, false, not, _&&_, false≢true}
+use mathlib.Core.Bool.{Bool, true, false, false≢true}
 use mathlib.Core.List.{List, [], _∷_, _++_, append-nil}
 use mathlib.Core.Logic.{_⊎_, inl, inr, _↔_}
-use Prim.Native.Nat.{ℕ, zero, suc, _+_, _≤_, _<_}
+use Prim.Native.Nat.{ℕ, suc, _+_, _≤_}
 use native.Mathlib.Omega.{arith}
 use native.Mathlib.Nat.{zero-add}
-use lib.Dec.{eqb}
 use lib.ListN.{length}
 use borrow.Author.Tests.{ne-eqb}
 use Rattle.page.specs.Bytes.{Bytes, pick}
-use Rattle.page.specs.Lines.{content, Src, Chs, Ver, Ifv, Dve, Fft}
-use Rattle.page.specs.Header.{mod-form, met-before, met-none, head-step, complete, head-end, head-continue, head-run, headOf}
+use Rattle.page.specs.Lines.{content, Src, Chs, Ver, Ifv}
+use Rattle.page.specs.Header.{met-before, met-none, head-step, complete, head-end, head-continue, head-run, headOf}
 use Rattle.page.specs.Rules.{Every, none-left, one-more, spoken, times, SoundHeader}
 use Rattle.page.specs.declared.Met.{Met}
 use Rattle.page.specs.declared.Heading.{Heading}
 use Rattle.page.specs.declared.Heading.the-variants as H
 use Rattle.page.specs.declared.Finding.{Finding}
 use Rattle.demands.specs.Headers.{followers, Begun, Keeps, HeaderFault, at-line, missing}
-use Rattle.demands.proofs.Decides.{Decides, holds, fails, fact, lie, tested, untested, when, both}
-use Rattle.demands.proofs.Lists.{every-head, every-tail, every-at, every-from, every-map}
+use Rattle.demands.proofs.Decides.{Decides, holds, fails, fact, tested, when, both}
+use Rattle.demands.proofs.Lists.{every-head, every-tail, every-at, every-from}
 use Rattle.demands.proofs.HeaderLines.{tally, Good, starting, started, Fit, good-go, go-good, good-nil, fit-go, tally-go, mod-go}
 
 abbrev finding : ℕ → ℕ → Finding

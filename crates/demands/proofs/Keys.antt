@@ -1,17 +1,15 @@
 -- The records of a file, filed in order, and the tables that it says: keys and references of the one are those of the other.
 use mathlib.Core.Path.{_≡_, refl, ap, sym, _∙_}
-use mathlib.Core.Bool.{Bool, true, false, false≢true}
-use mathlib.Core.List.{List, [], _∷_, _++_, map, append-nil, List·Memᴰ, List·Memᴰ·head, List·Memᴰ·tail, List·Memᴰ·not-nil, List·Memᴰ·cases-cons, Memᴰ·append-left, Memᴰ·append-right, List·Memᴰ·append-cases, List·Memᴰ·eq-of-singleton}
+use mathlib.Core.Bool.{Bool, true}
+use mathlib.Core.List.{List, [], _∷_, _++_, map, List·Memᴰ, List·Memᴰ·head, List·Memᴰ·tail, List·Memᴰ·not-nil, List·Memᴰ·cases-cons, Memᴰ·append-left, Memᴰ·append-right, List·Memᴰ·append-cases}
 use mathlib.Core.Logic.{_⊎_, inl, inr, _↔_}
-use Prim.Native.Nat.{ℕ, zero, suc, _+_, _<_, _≤_}
-use lib.ListN.{length, getD}
-use Rattle.page.specs.Bytes.{Bytes}
+use Prim.Native.Nat.{ℕ, suc, _<_}
 use Rattle.page.specs.Tables.{Reference, table-at, table-count}
 use Rattle.page.specs.Cut.{Section}
 use Rattle.page.specs.Records.{Record, Entry, entriesOf, recordsOf, table-of}
-use Rattle.page.specs.File.{Filed, filed-in, filed, by-primary, has-key, referred}
+use Rattle.page.specs.File.{Filed, filed-in, filed}
 use Rattle.page.specs.Model.{Content}
-use Rattle.page.specs.Rules.{Every, none-left, one-more, Tables, no-table, a-table, bare, key, Apart, OneKey, Meets, Refers}
+use Rattle.page.specs.Rules.{Every, none-left, one-more, Tables, no-table, a-table, key, OneKey, Meets, Refers}
 use Rattle.page.specs.declared.Column.{Column}
 use Rattle.demands.specs.Begins.{begins}
 use Rattle.demands.specs.First.{NoneOf}

@@ -54,5 +54,7 @@ pub mod Own
 pub mod Witnesses
 pub mod Completions
 pub mod Numbers
+pub mod Places
 pub mod PromisesRoom
 pub mod RoundOutput
+pub mod Viable

@@ -1,20 +1,22 @@
 -- Each table of an accepted file is its own section's: as many tables as sections, each with the records that its own lines denote.
-use mathlib.Core.Path.{_≡_, refl, ap, sym, _∙_}
-use mathlib.Core.Bool.{Bool, true, false}
-use mathlib.Core.List.{List, [], _∷_}
+use mathlib.Core.Path.{_≡_, refl, ap, _∙_}
+use mathlib.Core.Bool.{Bool}
+use mathlib.Core.List.{List, []}
 use Prim.Native.Nat.{ℕ, zero, suc, _<_}
 use native.Mathlib.Omega.{arith}
 use lib.ListN.{length, getD}
+use borrow.Author.Tests.{ne-eqb}
 use Rattle.page.specs.Bytes.{Bytes}
 use Rattle.page.specs.Lines.{Rec}
 use Rattle.page.specs.Cut.{Section, sections}
 use Rattle.page.specs.Head.{latinOf}
-use Rattle.page.specs.File.{file-refusal}
-use Rattle.page.specs.Model.{Content, modelOf}
+use Rattle.page.specs.Section.{outcome}
+use Rattle.page.specs.Records.{entriesOf, recordsOf}
+use Rattle.page.specs.File.{row-of, rowOf}
+use Rattle.page.specs.Model.{Content}
 use Rattle.page.specs.Grammar.{Denotes}
 use Rattle.page.specs.Rules.{Tables, no-table, a-table, times, SoundFile}
-use Rattle.demands.proofs.Counts.{records-counted}
-use Rattle.demands.proofs.Readings.{one-reading}
+use Rattle.demands.proofs.Counts.{records-counted, sound-count, count-handed}
 
 -- the section and the content past the end of a list
 abbrev no-section : Section
@@ -46,3 +48,12 @@ own-table s cs f i h = own i h (f .tables)
 pub own-count : (s : Bytes) (cs : List Content) → SoundFile s cs → (i : ℕ) → i < length cs →
     length (getD cs i no-content .records) ≡ times Rec (getD (sections s) i no-section .lines)
 own-count s cs f i h = records-counted (latinOf s) (getD (sections s) i no-section .lines) (getD cs i no-content .table) (getD cs i no-content .records) (own-table s cs f i h)
+
+-- a row of the listing: a sound table's record count is the number of its `rec` lines, and a refused one's is 0
+pub row-count : (latin : Bool) (x : Section) → rowOf latin x .verdict ≡ 0 → rowOf latin x .records ≡ times Rec (x .lines)
+unfolding rowOf row-of
+row-count latin x e = sound-count latin (x .lines) e
+
+pub row-refused : (latin : Bool) (x : Section) → ¬ (rowOf latin x .verdict ≡ 0) → rowOf latin x .records ≡ 0
+unfolding rowOf row-of recordsOf entriesOf
+row-refused latin x n = count-handed latin (x .lines) ∙ rw (ne-eqb (outcome latin (x .lines) .verdict) 0 n)

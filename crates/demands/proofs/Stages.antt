@@ -1,17 +1,15 @@
 -- The file's answer, stage by stage: what it is where the stages before it are clear.
-use mathlib.Core.Path.{_≡_, refl, ap, sym, _∙_}
-use mathlib.Core.Bool.{Bool, true, false}
-use mathlib.Core.List.{List, [], _∷_}
+use mathlib.Core.Path.{_≡_, _∙_}
+use mathlib.Core.List.{[]}
 use Prim.Native.Nat.{ℕ, _≤_, _<_}
-use lib.Dec.{eqb, ltb}
 use lib.ListN.{length}
 use borrow.Author.Tests.{lt-ltb, le-ltb, ne-eqb}
-use Rattle.page.specs.Bytes.{Bytes, pick}
+use Rattle.page.specs.Bytes.{Bytes}
 use Rattle.page.specs.Cut.{header-lines}
 use Rattle.page.specs.Header.{headOf}
 use Rattle.page.specs.Trailer.{trailerOf}
 use Rattle.page.specs.Answers.{refusal, sound, earlier, refuse-if}
-use Rattle.page.specs.File.{limit, too-long, found, header-refusal, rowsOf, first-unsound, first-again, by-primary, by-second, Filed, repeats, lost, first-record, filedOf, record-refusal, section-refusal, file-refusal}
+use Rattle.page.specs.File.{limit, too-long, header-refusal, rowsOf, first-unsound, first-again, by-primary, by-second, repeats, lost, first-record, filedOf, record-refusal, section-refusal, file-refusal}
 use Rattle.page.specs.declared.Finding.{Finding}
 use Rattle.page.specs.declared.Refusal.{Refusal}
 

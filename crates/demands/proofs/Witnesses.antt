@@ -1,14 +1,12 @@
 -- Files that are accepted, and files that are refused by each number: no theorem of this crate holds for want of a file.
-use mathlib.Core.Path.{_≡_, refl, ap, sym, _∙_}
-use mathlib.Core.Bool.{Bool, true, false}
+use mathlib.Core.Path.{_≡_, refl, ap}
 use mathlib.Core.List.{List, [], _∷_, _++_, map}
-use Prim.Native.Nat.{ℕ, suc, _<_}
-use Prim.Native.String.{String}
+use Prim.Native.Nat.{ℕ, _<_}
 use native.Mathlib.Omega.{arith}
-use lib.ListN.{replicate, length-replicate}
+use lib.ListN.{getD, replicate, length-replicate}
 use Rattle.page.specs.Bytes.{Bytes, bytes}
 use Rattle.page.specs.Lines.{joined}
-use Rattle.page.specs.Records.{Datum, number, words}
+use Rattle.page.specs.Records.{number, words}
 use Rattle.page.specs.Answers.{refusal}
 use Rattle.page.specs.File.{limit, file-refusal}
 use Rattle.page.specs.Model.{Content, modelOf}
@@ -73,6 +71,14 @@ two-tables-accepted = refl
 
 pub some-file-sound : (s : Bytes) × (cs : List Content) × SoundFile s cs
 some-file-sound = (two-tables, modelOf two-tables .tables, accepted-says two-tables two-tables-accepted)
+
+-- nor do all files have one answer
+pub two-answers : (s : Bytes) × (t : Bytes) × ¬ (file-refusal s .number ≡ file-refusal t .number)
+unfolding faulty answers
+two-answers = (two-tables, [], λ e. let a = two-tables-accepted in let b = ap (λ (r : Refusal). r .number) nothing in let z : ⊥ = omega arith in z)
+  where
+    nothing : file-refusal [] ≡ refusal 2 0 0
+    nothing = ap (λ (rs : List Refusal). getD rs 0 (refusal 0 0 0)) each-number
 
 -- the second table's records are its own
 pub two-tables-say :

@@ -7,5 +7,7 @@ pub mod Headers
 pub mod Trailers
 pub mod First
 pub mod Files
+pub mod Places
 pub mod Marks
 pub mod RoundAlike
+pub mod Viable
