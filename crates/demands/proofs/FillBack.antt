@@ -24,7 +24,7 @@ use Rattle.page.specs.declared.Owner.the-variants as O
 use Rattle.demands.specs.Round.{a-suggestion, FitAll, no-value, a-value, SoundRecord, SoundContent, SoundModel}
 use Rattle.demands.specs.RoundKeys.{KeysHold}
 use Rattle.demands.specs.RoundAlike.{Pairs, no-pair, a-pair, Alike, alike-none, alike-same, alike-text, AlikeContent}
-use Rattle.demands.proofs.WrittenScans.{and-l, and-r}
+use Rattle.demands.proofs.WrittenScans.{and-l, and-r, or-false}
 use Rattle.demands.proofs.Counts.{count-handed}
 use Rattle.demands.proofs.RoundRecords.{width-back}
 use Rattle.demands.proofs.RoundKeys.{earlier-none}
@@ -38,10 +38,6 @@ open-if : (b : Bool) (v : ℕ) → ¬ (v ≡ 0) → refuse-if b v .number ≡ 0 
 unfolding refuse-if
 open-if true v n h = absurd (n h)
 open-if false v n h = refl
-
-or-false : (a b : Bool) → (a || b) ≡ false → (a ≡ false) × (b ≡ false)
-or-false true b e = absurd (false≢true (sym e))
-or-false false b e = (refl, e)
 
 inside : (i n : ℕ) → outside i n ≡ false → (0 < i) × (i ≤ n)
 unfolding outside

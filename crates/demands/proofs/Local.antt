@@ -81,7 +81,7 @@ front-some : (ps : List Piece) (f g : List Bytes) → 0 < length ps → front-by
 front-some [] f g h = absurd (omega arith)
 front-some (p ∷ ps) f g h = refl
 
-map-append : {A B : Type 0} (f : A → B) (x y : List A) → map f (x ++ y) ≡ map f x ++ map f y
+pub map-append : {A B : Type 0} (f : A → B) (x y : List A) → map f (x ++ y) ≡ map f x ++ map f y
 map-append f [] y = refl
 map-append f (a ∷ x) y = rw (map-append f x y)
 

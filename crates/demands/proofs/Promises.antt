@@ -26,6 +26,7 @@ use Rattle.page.specs.declared.Written.{Written}
 use Rattle.page.specs.declared.Written.the-variants as W
 use Rattle.page.specs.declared.Row.{Row}
 use Rattle.demands.specs.Promises.{Kept, Checks, ReadsHeader, ReadsSection, ReadsValue, Lists, Writes, Strips, Fills}
+use Rattle.demands.proofs.WrittenScans.{or-false}
 
 one-answer : {A : Type 0} {x r q : A} → r ≡ x → q ≡ x → r ≡ q
 one-answer p q = p ∙ sym q
@@ -93,10 +94,6 @@ pub record Done (r : Refusal) (form out : Bytes) (n : ℕ) : Type 0 where
   pub small : length form ≤ limit
   pub holds : put-after r form out ≡ form ++ drop (length form) out
   pub as-long : length (put-after r form out) ≡ length out
-
-or-false : (a b : Bool) → (a || b) ≡ false → (a ≡ false) × (b ≡ false)
-or-false true b e = absurd (false≢true (sym e))
-or-false false b e = (refl, e)
 
 pub done-put : (r : Refusal) (form out : Bytes) (n : ℕ) → putOf r form (length out) ≡ W.Length n → Done r form out n
 unfolding putOf put-after put-refusal written earlier refuse-if

@@ -46,10 +46,7 @@ rows-sound i (r ∷ rs) h = by (rows-sound (suc i) rs) (eqb (r .verdict) 0) refl
     by : (first-unsound (suc i) rs .number ≡ 0 → Every (λ (q : Row). q .verdict ≡ 0) rs) → (b : Bool) → eqb (r .verdict) 0 ≡ b →
         pick b (first-unsound (suc i) rs) (refusal (r .verdict) i (r .line)) .number ≡ 0 → Every (λ (q : Row). q .verdict ≡ 0) (r ∷ rs)
     by ih true e h = one-more (eqb-true (r .verdict) 0 e) (ih h)
-    by ih false e h = one-more h (all-from h)
-      where
-        all-from : r .verdict ≡ 0 → Every (λ (q : Row). q .verdict ≡ 0) rs
-        all-from z = absurd (eqb-false (r .verdict) 0 e z)
+    by ih false e h = absurd (eqb-false (r .verdict) 0 e h)
 
 module _ (latin : Bool) where
   section-sound : (x : Section) → begins (x .lines) ≡ true → outcome latin (x .lines) .verdict ≡ 0 → SoundSection latin x

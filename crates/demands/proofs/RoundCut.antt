@@ -30,6 +30,7 @@ use Rattle.demands.proofs.RoundSteps.{mark-lines-of, mark-lines, mark-s
 use Rattle.demands.proofs.RoundHeads.{Heads, heads, tbl-line, tbl-ended, atr-ended, frm-ended}
 use Rattle.demands.proofs.RoundSections.{record-lines, body-lines, after-tbl, content-lines, joined-content, some-columns}
 use Rattle.demands.proofs.RoundHeader.{text-line, lines-if, head-lines, joined-head, mod-seen, src-seen, chs-seen, text-seen}
+use Rattle.demands.proofs.Lists.{every-append, every-map}
 
 -- one line, and not the trailer's
 pub record Line (l : Bytes) : Type 0 where
@@ -44,14 +45,6 @@ pub record Inner (l : Bytes) : Type 0 where
 inner-of : {latin : Bool} {l : Bytes} {k : ℕ} {f : Bytes} {fs : List Bytes} → Seen latin l k f fs → eqb k Tbl ≡ false → eqb k Eof ≡ false → Inner l
 unfolding begins-table begins-end
 inner-of s a b = record { whole = record { ended = s .ended; no-end = rw (s .named) b }; no-table = rw (s .named) a }
-
-pub every-append : {A : Type 0} {Q : A → Type 0} {x y : List A} → Every Q x → Every Q y → Every Q (x ++ y)
-every-append none-left q = q
-every-append (one-more a p) q = one-more a (every-append p q)
-
-pub every-mono : {A : Type 0} {Q R : A → Type 0} {x : List A} → ((a : A) → Q a → R a) → Every Q x → Every R x
-every-mono f none-left = none-left
-every-mono f (one-more {x} a p) = one-more (f x a) (every-mono f p)
 
 -- the lines of a header, of a record, of a section after its first
 
@@ -101,7 +94,7 @@ module _ (latin : Bool) (c : Content) (s : SoundContent latin c) where
   pub line-content : Every Line (content-lines c)
   unfolding content-lines begins-end
   line-content =
-      one-more (record { ended = tbl-ended latin (c .table) (table-at (c .table)) the-heads; no-end = rw (the-heads .tbl-named) }) (every-mono (λ l i. i .whole) inner-after)
+      one-more (record { ended = tbl-ended latin (c .table) (table-at (c .table)) the-heads; no-end = rw (the-heads .tbl-named) }) (every-map (λ l i. i .whole) inner-after)
 
   tbl-begins : begins-table (tbl-line (table-at (c .table))) ≡ true
   unfolding begins-table
@@ -193,7 +186,7 @@ map-lines at (c ∷ cs) e = rw (map-lines (at + length (joined (content-lines c)
 
 module _ (m : Model) (s : SoundModel m) where
   before-end : Every Line (head-lines (m .head) ++ tables-lines (m .tables))
-  before-end = every-append (every-mono (λ l i. i .whole) (inner-head (m .head) (s .head))) (lines-tables (m .head .latin) (s .tables))
+  before-end = every-append (every-map (λ l i. i .whole) (inner-head (m .head) (s .head))) (lines-tables (m .head .latin) (s .tables))
 
   form-split : form-lines m ≡ (head-lines (m .head) ++ tables-lines (m .tables)) ++ (eof-line (length (m .tables)) ∷ [])
   unfolding form-lines
@@ -203,7 +196,7 @@ module _ (m : Model) (s : SoundModel m) where
   pub lines-form : lines (formOf m) ≡ form-lines m
   lines-form =
       rw (← joined-form m)
-      (lines-joined (laid-lines (rw form-split (every-append (every-mono (λ l i. i .ended) before-end) (one-more (eof-seen (length (m .tables)) .ended) none-left)))))
+      (lines-joined (laid-lines (rw form-split (every-append (every-map (λ l i. i .ended) before-end) (one-more (eof-seen (length (m .tables)) .ended) none-left)))))
 
   pub cut-form : cut (lines (formOf m)) ≡ record { front = head-lines (m .head); pieces = table-pieces (m .tables) (eof-line (length (m .tables))) }
   unfolding form-lines

@@ -23,7 +23,7 @@ use Rattle.demands.proofs.WrittenScans.{all-append, all-mono}
 use Rattle.demands.proofs.WrittenNumbers.{padded-all}
 use Rattle.demands.proofs.WrittenTexts.{text-quoted, quoted-all}
 use Rattle.demands.proofs.WrittenFields.{solid, no-field, a-field, solid-field, quoted-field}
-use Rattle.demands.proofs.WrittenLines.{Named, commands, Seen, seen, separated-more, separated-none}
+use Rattle.demands.proofs.WrittenLines.{Named, commands, Seen, seen, separated-more, separated-none, quote-allowed}
 use Rattle.demands.proofs.WrittenDates.{date-ok-again, time-ok-again}
 use Rattle.demands.proofs.RoundRecords.{digit-allowed}
 
@@ -59,10 +59,6 @@ unfolding head-lines mod-line src-line chs-line head-form joined
 joined-head h = rw (joined-append (lines-if "dve" (h .dve)) (lines-if "fft" (h .fft)), joined-if "dve" (h .dve), joined-if "fft" (h .fft))
 
 -- as the definitions see them
-
-quote-allowed : allowed false 34 ≡ true
-unfolding allowed
-quote-allowed = refl
 
 pub mod-seen : Seen false mod-line Mod (bytes "DD.MM.YYYY") (bytes "HH:MM:SS" ∷ bytes "free" ∷ [])
 unfolding mod-line bytes all solid allowed separated

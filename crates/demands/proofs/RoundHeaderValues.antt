@@ -45,10 +45,6 @@ module _ (k : ℕ) (l : Bytes) (ls : List Bytes) where
   unfolding line-of stands
   hit-line a e = rw (e, eq-eqb k k refl)
 
-  pub hit-stands : command (content l) ≡ k → stands-in k (l ∷ ls) ≡ true
-  unfolding stands-in
-  hit-stands e = rw (e, eq-eqb k k refl)
-
 module _ (h : Head) (s : SoundHead h) where
   abbrev the-rest : List Bytes
   the-rest = lines-if "dve" (h .dve) ++ lines-if "fft" (h .fft)

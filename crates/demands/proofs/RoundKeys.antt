@@ -1,7 +1,7 @@
 -- 17 to 20 depend only on what a file says, not on where it stands. Assumes nothing.
 use mathlib.Core.Path.{_≡_, refl, sym, _∙_}
-use mathlib.Core.Bool.{Bool, true, false, not, _&&_, _||_, false≢true}
-use mathlib.Core.List.{List, [], _∷_, _++_, map}
+use mathlib.Core.Bool.{Bool, true, false, not, _&&_, _||_}
+use mathlib.Core.List.{List, [], _∷_, map}
 use Prim.Native.Nat.{ℕ, suc}
 use native.Mathlib.Omega.{arith}
 use lib.Dec.{eqb}
@@ -20,10 +20,8 @@ use Rattle.page.specs.declared.Column.{Column}
 use Rattle.page.specs.declared.Row.{Row}
 use Rattle.page.specs.declared.Refusal.{Refusal}
 use Rattle.demands.specs.RoundKeys.{again, breaks, placeless, filed-content, KeysHold, keys-number}
-
-or-false : (a b : Bool) → (a || b) ≡ false → (a ≡ false) × (b ≡ false)
-or-false true b e = absurd (false≢true (sym e))
-or-false false b e = (refl, e)
+use Rattle.demands.proofs.WrittenScans.{or-false}
+use Rattle.demands.proofs.Local.{map-append}
 
 -- a record without its place
 abbrev forget : Filed → Filed
@@ -140,10 +138,6 @@ pass-sound b = refl
 map-map : {A B C : Type 0} (g : B → C) (f : A → B) (xs : List A) → map g (map f xs) ≡ map (λ (x : A). g (f x)) xs
 map-map g f [] = refl
 map-map g f (x ∷ xs) = rw (map-map g f xs)
-
-map-append : {A B : Type 0} (f : A → B) (x y : List A) → map f (x ++ y) ≡ map f x ++ map f y
-map-append f [] y = refl
-map-append f (a ∷ x) y = rw (map-append f x y)
 
 forget-in : (latin : Bool) (i : ℕ) (x : Section) → map forget (filed-in latin i x) ≡ map (placeless (table-of (x .lines))) (recordsOf latin (x .lines))
 unfolding filed-in recordsOf

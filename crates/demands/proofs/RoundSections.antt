@@ -18,7 +18,6 @@ use Rattle.page.specs.Form.{line, decimal, quoted, datum-text, mark-line, mark-
 use Rattle.page.specs.Rules.{Every, none-left, one-more}
 use Rattle.page.specs.declared.Owner.the-variants as O
 use Rattle.page.specs.declared.Phase.the-variants as P
-use Rattle.page.specs.declared.Outcome.{Outcome}
 use Rattle.page.proofs.LineLaws.{joined-append}
 use Rattle.demands.specs.Round.{SoundRecord, SoundContent}
 use Rattle.demands.proofs.WrittenTexts.{text-quoted}
@@ -79,9 +78,6 @@ full-of j b u fs q =
 -- the machine over a record's lines, and the record
 
 module _ (latin : Bool) (t : ℕ) (known : t < table-count) where
-  abbrev read-so : Outcome → ℕ → Type 0
-  read-so o c = o ≡ record { table = number-at t; records = c; verdict = 0; line = 0 }
-
   -- what the lines of a record lead to, and the line where it stands
   record Read (vs : Record) (k n : ℕ) (ls : List Bytes) : Type 0 where
     at : ℕ

@@ -1,6 +1,6 @@
 -- The section's machine takes a written record with its marks, and a written `end`. Assumes nothing.
 use mathlib.Core.Path.{_≡_, refl, sym, _∙_}
-use mathlib.Core.Bool.{Bool, true, false, not, _&&_, _||_, false≢true}
+use mathlib.Core.Bool.{Bool, true, false, not, _&&_, false≢true}
 use mathlib.Core.List.{List, [], _∷_, _++_, map, append-nil}
 use Prim.Native.Nat.{ℕ, suc, _+_, _<_, _≤_, _^_}
 use native.Mathlib.Omega.{arith}
@@ -19,11 +19,11 @@ use Rattle.page.specs.declared.Phase.the-variants as P
 use Rattle.page.specs.declared.Remark.the-variants as R
 use Rattle.page.specs.declared.Step.the-variants as S
 use Rattle.demands.specs.Round.{a-number, a-text, a-suggestion, FitAll, no-value, a-value, points-alike, SoundRecord}
-use Rattle.demands.proofs.WrittenScans.{and-l, and-r, all-mono}
+use Rattle.demands.proofs.WrittenScans.{and-l, and-r, all-mono, or-false}
 use Rattle.demands.proofs.WrittenNumbers.{number-decimal, decimal-all}
 use Rattle.demands.proofs.WrittenTexts.{quoted-all}
 use Rattle.demands.proofs.WrittenFields.{no-field, a-field, quoted-field, decimal-field}
-use Rattle.demands.proofs.WrittenLines.{commands, Seen, seen, separated-more, separated-none}
+use Rattle.demands.proofs.WrittenLines.{commands, Seen, seen, separated-more, separated-none, quote-allowed}
 use Rattle.demands.proofs.WrittenDates.{mark-again}
 use Rattle.demands.proofs.RoundRecords.{tame, small, fillable-in, one-fillable, digit-allowed, Owned, no-owner, of-number, of-words, wrong-back, width-back, fields-stand, separated-allowed, amount-back}
 
@@ -51,30 +51,22 @@ owner-same : (i : ℕ) → owner-of i i ≡ O.Suggestion
 unfolding owner-of
 owner-same i = rw (eq-eqb i i refl)
 
-or-l : (a b : Bool) → (a || b) ≡ false → a ≡ false
-or-l true b e = e
-or-l false b e = refl
-
-or-r : (a b : Bool) → (a || b) ≡ false → b ≡ false
-or-r true b e = absurd (false≢true (sym e))
-or-r false b e = e
-
 -- columns of which none may be marked hold no suggestion
 module _ (latin : Bool) where
   none-marked : (i : ℕ) {cs : List Named} {vs : Record} → FitAll latin cs vs → fillable-in cs ≡ false → mark-lines i vs ≡ []
   unfolding mark-lines mark-lines-of fillable-in
   none-marked i no-value e = refl
-  none-marked i (a-value {c} {cs} (a-number x l h) g) e = none-marked (suc i) g (or-r (c .column .fillable) (fillable-in cs) e)
-  none-marked i (a-value {c} {cs} (a-text x h a) g) e = none-marked (suc i) g (or-r (c .column .fillable) (fillable-in cs) e)
-  none-marked i (a-value {c} {cs} (a-suggestion x f p h a) g) e = absurd (false≢true (sym (or-l (c .column .fillable) (fillable-in cs) e) ∙ f))
+  none-marked i (a-value {c} {cs} (a-number x l h) g) e = none-marked (suc i) g (or-false (c .column .fillable) (fillable-in cs) e .1)
+  none-marked i (a-value {c} {cs} (a-text x h a) g) e = none-marked (suc i) g (or-false (c .column .fillable) (fillable-in cs) e .1)
+  none-marked i (a-value {c} {cs} (a-suggestion x f p h a) g) e = absurd (false≢true (sym (or-false (c .column .fillable) (fillable-in cs) e .0) ∙ f))
 
   none-owned : (m i : ℕ) {cs : List Named} {vs : Record} → FitAll latin cs vs → fillable-in cs ≡ false → m < i → Owned m i vs
   unfolding fillable-in
   none-owned m i no-value e h = no-owner
-  none-owned m i (a-value {c} {cs} (a-number x l q) g) e h = of-number (none-owned m (suc i) g (or-r (c .column .fillable) (fillable-in cs) e) (omega arith))
+  none-owned m i (a-value {c} {cs} (a-number x l q) g) e h = of-number (none-owned m (suc i) g (or-false (c .column .fillable) (fillable-in cs) e .1) (omega arith))
   none-owned m i (a-value {c} {cs} (a-text x q a) g) e h =
-      of-words (sym (owner-other m i (λ (z : m ≡ i). omega arith))) (none-owned m (suc i) g (or-r (c .column .fillable) (fillable-in cs) e) (omega arith))
-  none-owned m i (a-value {c} {cs} (a-suggestion x f p q a) g) e h = absurd (false≢true (sym (or-l (c .column .fillable) (fillable-in cs) e) ∙ f))
+      of-words (sym (owner-other m i (λ (z : m ≡ i). omega arith))) (none-owned m (suc i) g (or-false (c .column .fillable) (fillable-in cs) e .1) (omega arith))
+  none-owned m i (a-value {c} {cs} (a-suggestion x f p q a) g) e h = absurd (false≢true (sym (or-false (c .column .fillable) (fillable-in cs) e .0) ∙ f))
 
   -- a value of the operator's, or a number, in front
   onto : (i m : ℕ) (c : Named) {cs : List Named} {v : Datum} {vs : Record} → mark-lines-of i v ≡ [] →
@@ -121,10 +113,6 @@ module _ (latin : Bool) (t : ℕ) where
   suggested : (i : ℕ) → all (allowed false) (bytes "SUGGESTED " ++ decimal i) ≡ true
   unfolding bytes all allowed
   suggested i = all-mono digit (allowed false) (digit-allowed false) (decimal i) (decimal-all i)
-
-  quote-allowed : allowed false 34 ≡ true
-  unfolding allowed
-  quote-allowed = refl
 
   mark-allowed : (i : ℕ) → all (allowed false) (separated (quoted (bytes "SUGGESTED " ++ decimal i) ∷ [])) ≡ true
   mark-allowed i =

@@ -1,7 +1,7 @@
 -- A written line: its content, command, rest and fields, and that it is one line. Assumes nothing.
-use mathlib.Core.Path.{_≡_, refl, ap, sym, _∙_}
-use mathlib.Core.Bool.{Bool, true, false, _&&_, _||_, false≢true}
-use mathlib.Core.List.{List, [], _∷_, _++_, append-assoc, append-nil}
+use mathlib.Core.Path.{_≡_, refl, sym, _∙_}
+use mathlib.Core.Bool.{Bool, true, false, _&&_}
+use mathlib.Core.List.{List, [], _∷_, _++_, append-assoc}
 use Prim.Native.Nat.{ℕ, zero, suc, _+_, _-_, _<_}
 use Prim.Native.String.{String}
 use native.Mathlib.Omega.{arith}
@@ -58,18 +58,9 @@ allowed-printed wide b h = by (leb 32 b) refl
         let k : (leb 161 b && leb b 255 && wide) ≡ true = rw e at h in
         le-leb 32 b (omega (arith, leb-true 161 b (and-l (leb 161 b) (leb b 255) (and-l (leb 161 b && leb b 255) wide k))))
 
--- what is allowed everywhere is allowed in `rec` lines
-pub allowed-wider : (wide : Bool) (b : ℕ) → allowed false b ≡ true → allowed wide b ≡ true
+pub quote-allowed : allowed false 34 ≡ true
 unfolding allowed
-allowed-wider wide b h = by (leb 32 b && leb b 126) refl
-  where
-    by : (q : Bool) → (leb 32 b && leb b 126) ≡ q → ((leb 32 b && leb b 126) || (leb 161 b && leb b 255 && wide)) ≡ true
-    by true e = rw e
-    by false e = absurd (false≢true (sym (no-false (leb 161 b && leb b 255)) ∙ rw e at h))
-      where
-        no-false : (x : Bool) → (x && false) ≡ false
-        no-false true = refl
-        no-false false = refl
+quote-allowed = refl
 
 -- what the definitions compute at a command's name
 pub record Named (s : String) (k : ℕ) : Type 0 where
@@ -153,10 +144,6 @@ module _ {s : String} {k : ℕ} (n : Named s k) (f : Bytes) (fs : List Bytes) wh
       }
 
 -- the bytes of the fields, with what separates them
-pub separated-one : (f : Bytes) → separated (f ∷ []) ≡ 59 ∷ 32 ∷ f
-unfolding separated bytes
-separated-one f = ap (λ (x : Bytes). 59 ∷ 32 ∷ x) (append-nil f)
-
 pub separated-more : (wide : Bool) (f : Bytes) (fs : List Bytes) → all (allowed wide) f ≡ true → all (allowed wide) (separated fs) ≡ true →
     all (allowed wide) (separated (f ∷ fs)) ≡ true
 unfolding separated bytes all allowed
