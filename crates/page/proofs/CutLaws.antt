@@ -64,7 +64,7 @@ cut-whole (l ∷ ls) = put-whole (begins-table l) (begins-end l) l (cut ls) ∙ 
 -- the cut from a place, whose line ends at e
 pub cut-step : (s : Bytes) (at e : ℕ) → at < length s → e ≡ at + line-size (drop at s)
     → cut (lines (drop at s))
-      ≡ put (begins-table (take (e - at) (drop at s))) (begins-end (take (e - at) (drop at s))) (take (e - at) (drop at s)) (cut (lines (drop e s)))
+    ≡ put (begins-table (take (e - at) (drop at s))) (begins-end (take (e - at) (drop at s))) (take (e - at) (drop at s)) (cut (lines (drop e s)))
 unfolding cut
 cut-step s at e h q = rw (cut-at s at e h q)
 
