@@ -1,1 +1,3 @@
 pub mod MagnitudeLaws
+pub mod SizeLaws
+pub mod ColumnLaws

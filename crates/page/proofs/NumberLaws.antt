@@ -1,7 +1,7 @@
 -- Digits and numbers: the laws of `digit`, `value` and `digits` at a place, and how large a value can be.
 -- Assumes nothing.
-use mathlib.Core.Path.{_≡_, refl, sym, ap, _∙_}
-use mathlib.Core.Bool.{Bool, true, false, _&&_}
+use mathlib.Core.Path.{_≡_, sym, ap, _∙_}
+use mathlib.Core.Bool.{true, false, _&&_}
 use mathlib.Core.List.{[], _∷_}
 use Prim.Native.Nat.{ℕ, suc, _+_, _-_, _*_, _^_, _<_, _≤_}
 use native.Mathlib.Numerals.{add-one}
@@ -13,14 +13,7 @@ use lib.Dec.{leb, lit<}
 use lib.Seq.{drop-cons}
 use Rattle.page.specs.Bytes.{Bytes, all}
 use Rattle.page.specs.Fields.{digit, value, digits}
-
-pub and-left : (a b : Bool) → (a && b) ≡ true → a ≡ true
-and-left true b e = refl
-and-left false b e = e
-
-pub and-right : (a b : Bool) → (a && b) ≡ true → b ≡ true
-and-right true b e = e
-and-right false b e = absurd (let z : _≡_ {A = ℕ} 0 1 = cc in omega arith)
+use Rattle.page.proofs.TestLaws.{and-left, and-right}
 
 module _ (s : Bytes) (i v : ℕ) where
   pub value-more : i < length s → value v (drop i s) ≡ value (v * 10 + (getD s i 0 - 48)) (drop (i + 1) s)
