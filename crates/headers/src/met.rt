@@ -68,7 +68,13 @@ pub fn end_header(m: Met, n: usize) -> Finding
     ensures { λ r. ⌜ r ≡ head-end m n ⌝ }
 {
     if is_complete(m) {
-        return Finding { verdict: 0, line: 0 };
+        return Finding {
+            verdict: 0,
+            line: 0,
+        };
     }
-    Finding { verdict: 2, line: n }
+    Finding {
+        verdict: 2,
+        line: n,
+    }
 }
