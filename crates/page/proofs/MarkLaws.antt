@@ -3,16 +3,18 @@
 use mathlib.Core.Path.{_≡_, refl, ap, sym, _∙_}
 use mathlib.Core.Bool.{Bool, true, false, not, _&&_}
 use mathlib.Core.List.{[], _∷_}
-use Prim.Native.Nat.{ℕ, suc}
+use mathlib.Core.Option.{some}
+use Prim.Native.Nat.{ℕ, suc, _-_, _<_, _≤_}
 use native.Mathlib.Omega.{arith}
-use borrow.Author.Tests.{ne-eqb, eqb-true, eqb-false, lt-leb, not-true}
+use borrow.Author.Tests.{eq-eqb, ne-eqb, eqb-true, eqb-false, lt-leb, not-true}
 use lib.Dec.{eqb, leb}
-use lib.ListN.{length, take, drop}
+use lib.ListN.{length, getD, take, drop, length-take}
 use Rattle.page.specs.Bytes.{Bytes, bytes, pick, same, all}
-use Rattle.page.specs.Fields.{quote, digit, digits}
-use Rattle.page.specs.Marks.{mark-number, mark-text}
+use Rattle.page.specs.Fields.{quote, digit, digits, value, textOf}
+use Rattle.page.specs.Marks.{mark-number, mark-text, mark-in}
+use Rattle.page.proofs.ScanLaws.{same-length}
 use Rattle.page.proofs.TestLaws.{false-true, and-left, and-right}
-use Rattle.page.proofs.TextLaws.{doubled}
+use Rattle.page.proofs.TextLaws.{doubled, text-between}
 use Rattle.page.specs.declared.Remark.the-variants as R
 
 pub plain : ℕ → Bool
@@ -101,3 +103,41 @@ mark-doubled t = by (same (take 10 t) (bytes "SUGGESTED ")) refl
     by true q =
         rw (doubled-begins (bytes "SUGGESTED ") t refl, q, doubled-past (bytes "SUGGESTED ") t refl q) (number-doubled (drop 10 t))
     by false q = rw (doubled-begins (bytes "SUGGESTED ") t refl, q)
+
+-- a mark by the bytes that code looks at: those between the quotes of a field that is a text
+pub mark-between : (f t : Bytes) → textOf f ≡ some t → mark-in (textOf f) ≡ mark-text (take (length f - 1 - 1) (drop 1 f))
+mark-between f t e =
+    let n : length f - 1 - 1 ≡ length f - 2 = omega arith in
+    ap mark-in e ∙ sym (mark-doubled t) ∙ ap mark-text (sym (text-between f t e)) ∙ ap (λ (k : ℕ). mark-text (take k (drop 1 f))) (sym n)
+
+-- `mark-text` and `mark-number` by their tests
+module _ (t : Bytes) where
+  pub mark-short : length t < 10 → mark-text t ≡ R.Comment
+  unfolding mark-text bytes
+  mark-short h =
+      rw
+      (same-length (take 10 t) (bytes "SUGGESTED ")
+      (λ (e : length (take 10 t) ≡ 10).
+      let z : length (take 10 t) ≤ length t = simp length-take (omega arith) in
+      omega arith))
+
+  pub mark-other : same (take 10 t) (bytes "SUGGESTED ") ≡ false → mark-text t ≡ R.Comment
+  unfolding mark-text
+  mark-other e = rw e
+
+  pub mark-word : same (take 10 t) (bytes "SUGGESTED ") ≡ true → mark-text t ≡ mark-number (drop 10 t)
+  unfolding mark-text
+  mark-word e = rw e
+
+module _ (w : Bytes) where
+  pub mark-no-number : digits w ≡ false → mark-number w ≡ R.Unreadable
+  unfolding mark-number
+  mark-no-number d = rw d
+
+  pub mark-zero : digits w ≡ true → getD w 0 0 ≡ 48 → mark-number w ≡ R.Unreadable
+  unfolding mark-number
+  mark-zero d e = rw (d, eq-eqb (getD w 0 0) 48 e)
+
+  pub mark-value : digits w ≡ true → (getD w 0 0 ≡ 48 → ⊥) → mark-number w ≡ R.Mark (value 0 w)
+  unfolding mark-number
+  mark-value d e = rw (d, ne-eqb (getD w 0 0) 48 e)

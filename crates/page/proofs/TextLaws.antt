@@ -4,7 +4,7 @@ use mathlib.Core.Path.{_≡_, refl, ap, sym, _∙_}
 use mathlib.Core.Bool.{Bool, true, false}
 use mathlib.Core.List.{[], _∷_, _++_}
 use mathlib.Core.Option.{Option, none, some}
-use Prim.Native.Nat.{ℕ, suc, _+_, _-_, _<_, _≤_}
+use Prim.Native.Nat.{ℕ, _+_, _-_, _<_, _≤_}
 use native.Mathlib.Omega.{arith}
 use native.Mathlib.Numerals.{add-one}
 use borrow.Author.Tests.{eq-eqb, ne-eqb, eqb-true}
@@ -184,23 +184,3 @@ no-bytes-same f = both-ways (no-bytes (textOf f)) (same f (34 ∷ 34 ∷ [])) (t
 
     back : same f (34 ∷ 34 ∷ []) ≡ true → no-bytes (textOf f) ≡ true
     back h = ap (λ (l : Bytes). no-bytes (textOf l)) (same-true f (34 ∷ 34 ∷ []) h) ∙ ap no-bytes empty-text
-
--- doubled quotes, byte by byte
-
-pub doubled-first : (t : Bytes) → getD (doubled t) 0 0 ≡ getD t 0 0
-unfolding doubled
-doubled-first [] = refl
-doubled-first (b ∷ t) = by (eqb b 34)
-  where
-    by : (q : Bool) → getD (pick q (b ∷ b ∷ doubled t) (b ∷ doubled t)) 0 0 ≡ b
-    by true = refl
-    by false = refl
-
-pub doubled-longer : (t : Bytes) → length t ≤ length (doubled t)
-unfolding doubled
-doubled-longer [] = omega arith
-doubled-longer (b ∷ t) = by (eqb b 34) (doubled-longer t)
-  where
-    by : (q : Bool) → length t ≤ length (doubled t) → suc (length t) ≤ length (pick q (b ∷ b ∷ doubled t) (b ∷ doubled t))
-    by true ih = omega arith
-    by false ih = omega arith
