@@ -1,0 +1,13 @@
+mod; DD.MM.YYYY; HH:MM:SS; free
+src; ""; "29.02.2024"; "00:00:00"
+chs; "ISO8859-1"
+ver; ""
+ifv; ""
+dve; ""
+fft; ""
+tbl; MENGE_BASIS_VERSIONEN
+atr; BASIS_VERSION; BASIS_VERSION_TEXT
+frm; num[9.0]; char[40]
+rec; 7; "Winter"
+end; 1
+eof; 1

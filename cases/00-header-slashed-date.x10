@@ -1,0 +1,11 @@
+mod; YYYY/MM/DD; HH:MM:SS; aligned
+src; "Desk"; "2000/02/29"; "12:30:00"
+chs; "ISO-8859-1"
+ver; "1"
+ifv; "1.0"
+tbl; MENGE_BASIS_VERSIONEN
+atr; BASIS_VERSION; BASIS_VERSION_TEXT
+frm; num[9.0]; char[40]
+rec; 7; "Winter"
+end; 1
+eof; 1

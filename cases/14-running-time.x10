@@ -1,0 +1,22 @@
+mod; DD.MM.YYYY; HH:MM:SS; free
+src; "Desk"; "01.02.2024"; "06:00:00"
+chs; "ISO8859-1"
+ver; "1"
+ifv; "1.0"
+tbl; MENGE_BASIS_VERSIONEN
+atr; BASIS_VERSION; BASIS_VERSION_TEXT
+frm; num[9.0]; char[40]
+rec; 7; "Winter"
+end; 1
+tbl; MENGE_ONR_TYP
+atr; BASIS_VERSION; ONR_TYP_NR; STR_ONR_TYP; ONR_TYP_TEXT
+frm; num[9.0]; num[2.0]; char[6]; char[40]
+rec; 7; 1; "HP"; "Haltepunkt"
+rec; 7; 2; "BHOF"; "Betriebshof"
+end; 2
+tbl; UEB_FZT
+atr; BASIS_VERSION; BEREICH_NR; FGR_NR; ONR_TYP_NR; ORT_NR; UEB_ZIEL_TYP; UEB_ZIEL; UEB_FAHRZEIT
+frm; num[9.0]; num[3.0]; num[9.0]; num[2.0]; num[6.0]; num[2.0]; num[6.0]; num[6.0]
+rec; 7; 0; 1; 1; 5; 1; 5; 60
+end; 1
+eof; 3

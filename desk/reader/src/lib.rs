@@ -1,0 +1,27 @@
+//! An independent reader of VDV 451 planning files with the eight VDV 452
+//! tables, written from document 01 alone. It shares no code, no tables and no
+//! expectations with the library it is compared with.
+//!
+//! Every place is a section (from 1; 0 for header and trailer) and a line.
+
+mod answer;
+mod fields;
+mod file;
+mod forms;
+mod header;
+mod keys;
+mod lines;
+mod listing;
+mod marks;
+mod section;
+mod tables;
+
+pub use answer::{number, Answer, Verdict, LIMIT};
+pub use fields::Text;
+pub use file::{
+    check, header, list, list_into, sections, table, trailer, value, Listed, Row, TableView,
+};
+pub use forms::{fill, strip, write};
+pub use header::{Charset, Date, Header, Time};
+pub use listing::{listing, LISTED};
+pub use section::{Owner, Record, Value};

@@ -1,0 +1,362 @@
+//! One section, read line by line: its records, or its first failing line.
+
+use std::borrow::Cow;
+use std::ops::Range;
+
+use crate::answer::{number, Verdict};
+use crate::fields::{read_number, Fields, Text};
+use crate::header::Charset;
+use crate::lines::{is_latin, is_plain, Command, Head, Lines, Part};
+use crate::marks::{Comment, Marks};
+use crate::tables::{self, Kind, Table, WIDEST};
+
+/// Whose a text is.
+#[derive(Clone, Copy, Debug, PartialEq, Eq)]
+pub enum Owner {
+    Operator,
+    Suggestion,
+}
+
+/// A field of a record as handed out.
+#[derive(Clone, Debug, PartialEq, Eq)]
+pub enum Value<'a> {
+    Number(i64),
+    Text {
+        /// The text with its doubled quotes undone.
+        bytes: Cow<'a, [u8]>,
+        /// Where it stands in the file, between its quotes.
+        span: Range<usize>,
+        owner: Owner,
+    },
+}
+
+#[derive(Clone, Copy, Debug, PartialEq, Eq)]
+pub enum Field<'a> {
+    Number(i64),
+    Text(Text<'a>),
+}
+
+/// A `rec` line that passed, with the marks that stood before it.
+#[derive(Clone, Copy, Debug, PartialEq, Eq)]
+pub struct Record<'a> {
+    pub line: usize,
+    width: usize,
+    fields: [Field<'a>; WIDEST],
+    marks: Marks,
+}
+
+impl<'a> Record<'a> {
+    pub fn len(&self) -> usize {
+        self.width
+    }
+
+    pub fn is_empty(&self) -> bool {
+        self.width == 0
+    }
+
+    /// The value of a field, counted from 1.
+    pub fn value(&self, field: usize) -> Option<Value<'a>> {
+        let value = self.fields().get(field.checked_sub(1)?)?;
+        Some(match value {
+            Field::Number(value) => Value::Number(*value),
+            Field::Text(text) => Value::Text {
+                bytes: text.undone(),
+                span: text.span(),
+                owner: self.owner(field),
+            },
+        })
+    }
+
+    pub fn values(&self) -> impl Iterator<Item = Value<'a>> + '_ {
+        (1..=self.width).filter_map(|field| self.value(field))
+    }
+
+    pub(crate) fn fields(&self) -> &[Field<'a>] {
+        &self.fields[..self.width]
+    }
+
+    /// The number in a column, counted from 0; texts have none.
+    pub(crate) fn number(&self, column: usize) -> i64 {
+        match self.fields[column] {
+            Field::Number(value) => value,
+            Field::Text(_) => 0,
+        }
+    }
+
+    pub(crate) fn is_marked(&self, field: usize) -> bool {
+        self.marks.has(field)
+    }
+
+    fn owner(&self, field: usize) -> Owner {
+        if self.is_marked(field) {
+            Owner::Suggestion
+        } else {
+            Owner::Operator
+        }
+    }
+}
+
+/// What must or may come next, besides blank lines and comments.
+#[derive(Clone, Copy, PartialEq, Eq)]
+enum Stage {
+    Tbl,
+    Atr,
+    Frm,
+    Records,
+    Ended,
+}
+
+/// The records of a section in turn. The reader stops at the first failing
+/// line; only after the last line is the section known to be sound.
+pub struct Records<'a> {
+    lines: Lines<'a>,
+    charset: Charset,
+    stage: Stage,
+    line: usize,
+    table: Option<&'static Table>,
+    count: usize,
+    waiting: Marks,
+    /// The record last read, kept here so that none is copied on the way.
+    record: Record<'a>,
+}
+
+impl<'a> Records<'a> {
+    pub fn of(file: &'a [u8], region: Range<usize>, charset: Charset) -> Records<'a> {
+        Records {
+            lines: Lines::of(file, region),
+            charset,
+            stage: Stage::Tbl,
+            line: 0,
+            table: None,
+            count: 0,
+            waiting: Marks::default(),
+            record: Record {
+                line: 0,
+                width: 0,
+                fields: [Field::Number(0); WIDEST],
+                marks: Marks::default(),
+            },
+        }
+    }
+
+    /// The table, once its `tbl` line passed.
+    pub fn table(&self) -> Option<&'static Table> {
+        self.table
+    }
+
+    /// The table by the first line alone, for whoever needs it before the
+    /// first record.
+    pub fn heading(&mut self) -> Option<&'static Table> {
+        if self.line == 0 {
+            let line = self.lines.next()?;
+            self.line = 1;
+            self.take(line).ok()?;
+        }
+        self.table
+    }
+
+    /// The next record, none after a sound section's last line, or the
+    /// section's refusal.
+    pub fn next(&mut self) -> Result<Option<&Record<'a>>, Verdict> {
+        while let Some(line) = self.lines.next() {
+            self.line += 1;
+            let before = self.count;
+            self.take(line).map_err(|n| Verdict::new(n, self.line))?;
+            if self.count > before {
+                return Ok(Some(&self.record));
+            }
+        }
+        if self.stage == Stage::Ended {
+            Ok(None)
+        } else {
+            Err(Verdict::new(number::ORDER, self.line))
+        }
+    }
+
+    /// In one line the first of 4, 5, 6, then the command's own.
+    fn take(&mut self, line: Part<'a>) -> Result<(), u8> {
+        let head = Head::of(line);
+        let wide = self.charset == Charset::Latin1 && matches!(head, Head::Known(Command::Rec, _));
+        let allowed = if wide {
+            is_latin(line.bytes)
+        } else {
+            is_plain(line.bytes)
+        };
+        if !allowed {
+            return Err(number::BYTE);
+        }
+        let (command, rest) = match head {
+            Head::Blank => return Ok(()),
+            Head::Bare | Head::Unknown => return Err(number::COMMAND),
+            Head::Known(command, rest) => (command, rest),
+        };
+        match (command, self.stage, self.table) {
+            (Command::Com, _, _) => self.comment(rest),
+            (Command::Tbl, Stage::Tbl, _) => self.tbl(rest),
+            (Command::Atr, Stage::Atr, Some(table)) => self.atr(rest, table),
+            (Command::Frm, Stage::Frm, Some(table)) => self.frm(rest, table),
+            (Command::Rec, Stage::Records, Some(table)) => self.rec(rest, table),
+            (Command::End, Stage::Records, _) => self.end(rest),
+            _ => Err(number::ORDER),
+        }
+    }
+
+    fn comment(&mut self, rest: Part<'a>) -> Result<(), u8> {
+        let field = match Comment::read(rest) {
+            Comment::Ordinary => return Ok(()),
+            Comment::Unreadable => return Err(number::MARK),
+            Comment::Mark(field) => field,
+        };
+        let markable = self.table.and_then(|table| table.markable);
+        let placed = self.stage == Stage::Records && markable == Some(field);
+        if placed && self.waiting.add(field) {
+            Ok(())
+        } else {
+            Err(number::MARK)
+        }
+    }
+
+    fn tbl(&mut self, rest: Part<'a>) -> Result<(), u8> {
+        let name = Fields::only(rest).ok_or(number::FIELD_COUNT)?;
+        self.table = Some(tables::named(name.bytes).ok_or(number::UNKNOWN_TABLE)?);
+        self.stage = Stage::Atr;
+        Ok(())
+    }
+
+    fn atr(&mut self, rest: Part<'a>, table: &Table) -> Result<(), u8> {
+        let names = Fields::of(rest).map(|f| f.bytes);
+        if !names.eq(table.columns.iter().map(|c| c.name.as_bytes())) {
+            return Err(number::ATR);
+        }
+        self.stage = Stage::Frm;
+        Ok(())
+    }
+
+    fn frm(&mut self, rest: Part<'a>, table: &Table) -> Result<(), u8> {
+        let mut formats = Fields::of(rest);
+        let fits = table.columns.iter().all(|column| {
+            formats
+                .next()
+                .is_some_and(|format| column.takes_format(format.bytes))
+        });
+        if !fits || formats.next().is_some() {
+            return Err(number::FRM);
+        }
+        self.stage = Stage::Records;
+        Ok(())
+    }
+
+    fn rec(&mut self, rest: Part<'a>, table: &Table) -> Result<(), u8> {
+        let record = &mut self.record;
+        record.line = self.line;
+        record.width = table.columns.len();
+        record.marks = self.waiting;
+        read_fields(rest, table, &mut record.fields)?;
+        if table.points.is_some_and(|points| meet(record, points)) {
+            return Err(number::SAME_POINTS);
+        }
+        if has_marked_empty_text(record) {
+            return Err(number::MARK);
+        }
+        self.count += 1;
+        self.waiting = Marks::default();
+        Ok(())
+    }
+
+    fn end(&mut self, rest: Part<'a>) -> Result<(), u8> {
+        if !self.waiting.is_empty() {
+            return Err(number::MARK);
+        }
+        let field = Fields::only(rest).ok_or(number::FIELD_COUNT)?;
+        let count = read_number(field.bytes).ok_or(number::NOT_A_NUMBER)?;
+        if usize::try_from(count) != Ok(self.count) {
+            return Err(number::END_COUNT);
+        }
+        self.stage = Stage::Ended;
+        Ok(())
+    }
+}
+
+/// "10, each field from the left (11 or 12, then 13)": a wrong count is known
+/// only at the line's end, so a field's refusal waits for it.
+fn read_fields<'a>(
+    rest: Part<'a>,
+    table: &Table,
+    fields: &mut [Field<'a>; WIDEST],
+) -> Result<(), u8> {
+    let mut refusal = None;
+    let mut split = Fields::of(rest);
+    for (field, column) in fields.iter_mut().zip(table.columns) {
+        let part = split.next().ok_or(number::FIELD_COUNT)?;
+        if refusal.is_none() {
+            match read_field(part, column.kind) {
+                Ok(value) => *field = value,
+                Err(number) => refusal = Some(number),
+            }
+        }
+    }
+    if split.next().is_some() {
+        return Err(number::FIELD_COUNT);
+    }
+    refusal.map_or(Ok(()), Err)
+}
+
+fn read_field(part: Part<'_>, kind: Kind) -> Result<Field<'_>, u8> {
+    match kind {
+        Kind::Number { low, high } => {
+            let value = read_number(part.bytes).ok_or(number::NOT_A_NUMBER)?;
+            if !(low..=high).contains(&value) {
+                return Err(number::RANGE);
+            }
+            Ok(Field::Number(value))
+        }
+        Kind::Text { size } => {
+            let text = Text::read(part).ok_or(number::NOT_A_TEXT)?;
+            if text.size() > size {
+                return Err(number::RANGE);
+            }
+            Ok(Field::Text(text))
+        }
+    }
+}
+
+/// "the two points, type and number together, differ".
+fn meet(record: &Record<'_>, points: [(usize, usize); 2]) -> bool {
+    let [from, to] = points;
+    record.number(from.0) == record.number(to.0) && record.number(from.1) == record.number(to.1)
+}
+
+fn has_marked_empty_text(record: &Record<'_>) -> bool {
+    !record.marks.is_empty()
+        && record.fields().iter().enumerate().any(|(column, field)| {
+            matches!(field, Field::Text(text) if text.is_empty()) && record.is_marked(column + 1)
+        })
+}
+
+/// What a section gives by itself. "A refused section hands out no records,
+/// and its record count is 0."
+#[derive(Clone, Copy, Debug)]
+pub struct Section {
+    pub table: Option<&'static Table>,
+    pub records: usize,
+    pub verdict: Verdict,
+}
+
+impl Section {
+    pub fn read(file: &[u8], region: Range<usize>, charset: Charset) -> Section {
+        let mut records = Records::of(file, region, charset);
+        let mut count = 0;
+        let verdict = loop {
+            match records.next() {
+                Ok(Some(_)) => count += 1,
+                Ok(None) => break Verdict::SOUND,
+                Err(verdict) => break verdict,
+            }
+        };
+        Section {
+            table: records.table(),
+            records: if verdict.is_sound() { count } else { 0 },
+            verdict,
+        }
+    }
+}
