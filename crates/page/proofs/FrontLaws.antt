@@ -1,13 +1,13 @@
 -- The laws of a file's lines before its first section, from its first `eof` line on, and of its `tbl` lines. Assumes nothing.
-use mathlib.Core.Path.{_≡_, refl, ap, sym, _∙_}
+use mathlib.Core.Path.{_≡_, refl, ap, sym}
 use mathlib.Core.Bool.{Bool, true, false, _||_}
-use mathlib.Core.List.{List, [], _∷_, _++_}
+use mathlib.Core.List.{List, [], _∷_}
 use Prim.Native.Nat.{ℕ, suc, _+_, _-_, _<_, _≤_}
 use native.Mathlib.Omega.{arith}
 use lib.ListN.{length, take, drop, length-append}
 use Rattle.page.specs.Bytes.{Bytes, pick}
 use Rattle.page.specs.Lines.{lines, joined}
-use Rattle.page.specs.Cut.{begins-table, begins-end, Piece, Cut, put, cut, placed, header-lines, sections, from-end, trailer-lines}
+use Rattle.page.specs.Cut.{begins-table, begins-end, Cut, put, cut, placed, header-lines, sections, from-end}
 use Rattle.page.proofs.ScanLaws.{part-length}
 use Rattle.page.proofs.LineLaws.{line-size, line-in, cut-at, lines-end, run-within, run-lines}
 use Rattle.page.proofs.CutLaws.{flat, cut-whole, cut-step, cut-end}

@@ -1,21 +1,15 @@
-use Rattle.lines.proofs.CursorLaws.{handed}
-use Rattle.page.specs.Lines.{lines, joined}
-use Rattle.page.specs.Cut.{sections}
-use Rattle.page.proofs.FrontLaws.{tables-in, sections-tables, tables-more, tables-same, tables-none}
-use borrow.Author.Needs.{needs}
-use Prim.Native.Nat.{ℕ, suc, _+_, _-_, _*_, _<_, _≤_}
-use mathlib.Core.Path.{_≡_, refl, ap, sym, _∙_}
-use mathlib.Core.Logic.{⊎-elim}
-use mathlib.Core.Bool.{Bool, true, false}
+-- `headers::cut::count_sections` meets its contract. The invariant: the `tbl` lines passed, and those that are left, are all.
+-- Assumes nothing.
+use mathlib.Core.Path.{_≡_, sym, _∙_}
+use Prim.Native.Nat.{_+_, _-_, _≤_}
 use native.Mathlib.Omega.{arith}
-use borrow.Author.Tests.{lt-ltb, le-ltb, le-leb, lt-leb, eq-eqb, ne-eqb}
-use lib.ListN.{length, getD, take, drop}
+use borrow.Author.Needs.{needs}
+use lib.ListN.{length, drop}
+use Rattle.page.specs.Lines.{lines}
+use Rattle.page.proofs.FrontLaws.{tables-in, sections-tables, tables-more, tables-same, tables-none}
+use Rattle.lines.proofs.CursorLaws.{handed}
 use Rattle.headers.proofs.cut.count_sections.Statement.{statement}
 use Rattle.headers.proofs.cut.count_sections.Tie as tie
-use Rattle.headers.proofs.cut.count_sections.Reads as reads
-use Rattle.headers.proofs.cut.count_sections.Lts as lts
-use Rattle.lines.proofs.begins_table.Reads as begins-table-reads
-use Rattle.lines.proofs.cursor.Cursor.line.Reads as line-reads
 
 abbrev Inv-loop : tie.InvT-loop
 Inv-loop s c₀ n₀ c n =

@@ -1,21 +1,16 @@
-use Rattle.lines.proofs.CursorLaws.{handed}
-use Rattle.page.specs.Lines.{lines, joined}
+-- `headers::cut::find_end` meets its contract. The invariant: the trailer's lines are those of what is left, from its first `eof` line on.
+-- Assumes nothing.
+use mathlib.Core.Path.{_≡_, refl, sym, _∙_}
+use Prim.Native.Nat.{_-_, _≤_}
+use native.Mathlib.Omega.{arith}
+use borrow.Author.Needs.{needs}
+use lib.ListN.{length, drop}
+use Rattle.page.specs.Lines.{lines}
 use Rattle.page.specs.Cut.{from-end, trailer-lines}
 use Rattle.page.proofs.FrontLaws.{end-stop, end-more, end-none}
-use borrow.Author.Needs.{needs}
-use Prim.Native.Nat.{ℕ, suc, _+_, _-_, _*_, _<_, _≤_}
-use mathlib.Core.Path.{_≡_, refl, ap, sym, _∙_}
-use mathlib.Core.Logic.{⊎-elim}
-use mathlib.Core.Bool.{Bool, true, false}
-use native.Mathlib.Omega.{arith}
-use borrow.Author.Tests.{lt-ltb, le-ltb, le-leb, lt-leb, eq-eqb, ne-eqb}
-use lib.ListN.{length, getD, take, drop}
+use Rattle.lines.proofs.CursorLaws.{handed}
 use Rattle.headers.proofs.cut.find_end.Statement.{statement}
 use Rattle.headers.proofs.cut.find_end.Tie as tie
-use Rattle.headers.proofs.cut.find_end.Reads as reads
-use Rattle.headers.proofs.cut.find_end.Lts as lts
-use Rattle.lines.proofs.begins_end.Reads as begins-end-reads
-use Rattle.lines.proofs.cursor.Cursor.line.Reads as line-reads
 
 abbrev Inv-loop : tie.InvT-loop
 Inv-loop s c₀ c =

@@ -1,21 +1,16 @@
-use Rattle.lines.proofs.CursorLaws.{handed}
-use Rattle.page.specs.Lines.{lines, joined}
-use Rattle.page.specs.Cut.{header-lines}
-use Rattle.page.proofs.FrontLaws.{front-size, front-all, front-within, front-lines, front-stop, front-more, front-none}
-use borrow.Author.Needs.{needs}
-use Prim.Native.Nat.{ℕ, suc, _+_, _-_, _*_, _<_, _≤_}
-use mathlib.Core.Path.{_≡_, refl, ap, sym, _∙_}
-use mathlib.Core.Logic.{⊎-elim}
-use mathlib.Core.Bool.{Bool, true, false}
+-- `headers::cut::header_size` meets its contract. The invariant: the bytes passed, and those before the next `tbl` or `eof` line, are the header's.
+-- Assumes nothing.
+use mathlib.Core.Path.{_≡_, sym, _∙_}
+use Prim.Native.Nat.{_+_, _-_, _≤_}
 use native.Mathlib.Omega.{arith}
-use borrow.Author.Tests.{lt-ltb, le-ltb, le-leb, lt-leb, eq-eqb, ne-eqb}
-use lib.ListN.{length, getD, take, drop}
+use borrow.Author.Needs.{needs}
+use lib.ListN.{length, drop}
+use Rattle.page.specs.Lines.{joined}
+use Rattle.page.specs.Cut.{header-lines}
+use Rattle.page.proofs.FrontLaws.{front-size, front-all, front-lines, front-stop, front-more, front-none}
+use Rattle.lines.proofs.CursorLaws.{handed}
 use Rattle.headers.proofs.cut.header_size.Statement.{statement}
 use Rattle.headers.proofs.cut.header_size.Tie as tie
-use Rattle.headers.proofs.cut.header_size.Reads as reads
-use Rattle.headers.proofs.cut.header_size.Lts as lts
-use Rattle.headers.proofs.cut.begins_part.Reads as begins-part-reads
-use Rattle.lines.proofs.cursor.Cursor.line.Reads as line-reads
 
 abbrev Inv-loop : tie.InvT-loop
 Inv-loop s c₀ c =
