@@ -7,7 +7,8 @@ use borrow.Author.Needs.{needs}
 use lib.ListN.{length, drop}
 use Rattle.page.specs.Lines.{lines}
 use Rattle.page.specs.Cut.{from-end, trailer-lines}
-use Rattle.page.proofs.FrontLaws.{end-stop, end-more, end-none}
+use Rattle.page.proofs.LineLaws.{lines-end}
+use Rattle.page.proofs.CutLaws.{trailer-here, trailer-more, trailer-none}
 use Rattle.lines.proofs.CursorLaws.{handed}
 use Rattle.headers.proofs.cut.find_end.Statement.{statement}
 use Rattle.headers.proofs.cut.find_end.Tie as tie
@@ -51,7 +52,7 @@ returns c =
     let s = c .before .before .before .before .before .before .before .before .args .s .now in
     let at = c .before .before .before .before .before .before .loop .c .at in
     let t = handed s at (c .before .before .before .line .result) (c .before .before .before .before .if1 .taken) (c .before .before .before .line .ensures) in
-    (omega arith, sym (end-stop s at (c .before .before .before .line .result .span .to) (c .before .before .before .before .if1 .taken) (t .size) (sym (c .before .begins-end .ensures) ∙ c .if2 .taken)) ∙ c .before .before .before .before .before .before .loop .inv .1)
+    (omega arith, sym (trailer-here s at (c .before .before .before .line .result .span .to) (c .before .before .before .before .if1 .taken) (t .size) (sym (c .before .begins-end .ensures) ∙ c .if2 .taken)) ∙ c .before .before .before .before .before .before .loop .inv .1)
 
 loop-less : tie.Need-loop-less Inv-loop μ-loop
 loop-less c =
@@ -63,13 +64,14 @@ loop-again c =
     let s = c .before .before .before .before .before .before .before .before .before .args .s .now in
     let at = c .before .before .before .before .before .before .before .loop .c .at in
     let t = handed s at (c .before .before .before .before .line .result) (c .before .before .before .before .before .if1 .taken) (c .before .before .before .before .line .ensures) in
-    (omega arith, rw (t .next) (sym (end-more s at (c .before .before .before .before .line .result .span .to) (c .before .before .before .before .before .if1 .taken) (t .size) (sym (c .before .before .begins-end .ensures) ∙ c .before .if2 .left)) ∙ c .before .before .before .before .before .before .before .loop .inv .1))
+    (omega arith, rw (t .next) (sym (trailer-more s at (c .before .before .before .before .line .result .span .to) (c .before .before .before .before .before .if1 .taken) (t .size) (sym (c .before .before .begins-end .ensures) ∙ c .before .if2 .left)) ∙ c .before .before .before .before .before .before .before .loop .inv .1))
 
 returns-2 : tie.Need-returns-2 Inv-loop μ-loop
 returns-2 c =
     let s = c .before .before .before .before .args .s .now in
-    let e : length s ≡ c .before .before .loop .c .at = omega arith in
-    (omega arith, rw e (sym (end-none s (c .before .before .loop .c .at) (c .if1 .left)) ∙ c .before .before .loop .inv .1))
+    let at = c .before .before .loop .c .at in
+    let e : length s ≡ at = omega arith in
+    (omega arith, rw e (lines-end s at (c .if1 .left) ∙ sym (trailer-none s at (c .if1 .left)) ∙ c .before .before .loop .inv .1))
 
 pub find-end-spec : {M : Type 1} → statement M
 find-end-spec =
