@@ -11,7 +11,7 @@ use borrow.Author.Tests.{leb-true, ltb-true, eqb-true, not-true}
 use Rattle.page.specs.declared.Column.{Column}
 use Rattle.page.specs.Bytes.{Bytes, bytes, pick, same}
 use Rattle.page.specs.Lines.{find}
-use Rattle.page.specs.Tables.{Named, Table, all-tables, no-table, no-column, table-at, number-at, columns, width, column-at, standing, table-named}
+use Rattle.page.specs.Tables.{Named, Table, all-tables, no-table, no-column, table-at, number-at, columns, width, column-at, name-at, standing, table-named}
 use Rattle.page.specs.Marks.{may-mark}
 use Rattle.page.proofs.NameLaws.{and-true, find-within, found}
 
@@ -30,23 +30,29 @@ fill-at d (suc n) (x ∷ xs) zero h = refl
 fill-at d (suc n) (x ∷ xs) (suc k) h = fill-at d n xs k (omega arith)
 
 -- a property of the columns, as an array has it: a row of eight places a table
-module _ {B : Type 0} (f : Column → B) where
-  abbrev property : Named → B
-  property c = f (c .column)
-
+module _ {B : Type 0} (f : Named → B) where
   unfoldable pub array : List Table → List (List B)
-  array xs = map (λ (x : Table). fill 8 (property no-column) (map property (x .columns))) xs
+  array xs = map (λ (x : Table). fill 8 (f no-column) (map f (x .columns))) xs
 
   array-at : (xs : List Table) (t k : ℕ) → k < 8
-      → getD (getD (array xs) t []) k (property no-column) ≡ property (getD (getD xs t no-table .columns) k no-column)
+      → getD (getD (array xs) t []) k (f no-column) ≡ f (getD (getD xs t no-table .columns) k no-column)
   unfolding array
   array-at [] t k h = refl
-  array-at (x ∷ xs) zero k h = fill-at (property no-column) 8 (map property (x .columns)) k h ∙ List·getD-map property (x .columns) k no-column
+  array-at (x ∷ xs) zero k h = fill-at (f no-column) 8 (map f (x .columns)) k h ∙ List·getD-map f (x .columns) k no-column
   array-at (x ∷ xs) (suc t) k h = array-at xs t k h
 
-  pub column-property : (t k : ℕ) → k < 8 → getD (getD (array all-tables) t []) k (f (no-column .column)) ≡ f (column-at t k)
-  unfolding column-at columns table-at
-  column-property t k h = array-at all-tables t k h
+  pub entry : (t k : ℕ) → k < 8 → getD (getD (array all-tables) t []) k (f no-column) ≡ f (getD (columns t) k no-column)
+  unfolding columns table-at
+  entry t k h = array-at all-tables t k h
+
+pub column-entry : {B : Type 0} (f : Column → B) (t k : ℕ) → k < 8
+    → getD (getD (array (λ (c : Named). f (c .column)) all-tables) t []) k (f (no-column .column)) ≡ f (column-at t k)
+unfolding column-at
+column-entry f t k h = entry (λ (c : Named). f (c .column)) t k h
+
+pub name-entry : (t k : ℕ) → k < 8 → getD (getD (array (λ (c : Named). c .name) all-tables) t []) k "" ≡ name-at t k
+unfolding name-at
+name-entry t k h = entry (λ (c : Named). c .name) t k h
 
 -- past the tables, and past a table's columns
 pub past-tables : (t : ℕ) → 8 ≤ t → table-at t ≡ no-table
@@ -95,6 +101,10 @@ column-bounds t k = (
   leb-true _ _ (column-test (λ (c : Column). leb (c .hi) 999999999) refl refl t k),
   leb-true _ _ (column-test (λ (c : Column). leb (c .size) 40) refl refl t k),
 )
+
+pub past-names : (t k : ℕ) → width t ≤ k → name-at t k ≡ ""
+unfolding name-at width
+past-names t k h = ap (λ (c : Named). c .name) (List·getD-eq-default (columns t) no-column h)
 
 pub past-columns : (t k : ℕ) → width t ≤ k → column-at t k ≡ no-column .column
 unfolding column-at width

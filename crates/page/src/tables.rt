@@ -7,8 +7,8 @@ use crate::Column;
 
 pub const TABLES: usize = 8;
 
-// The widest table's; past a table's own, its places are empty.
-const COLUMNS: usize = 8;
+// The columns of the widest table; past a table's own columns its places are empty.
+pub const WIDEST: usize = 8;
 
 const NUMBERS: [u32; TABLES] = [485, 993, 348, 290, 998, 332, 225, 247];
 
@@ -17,7 +17,7 @@ const WIDTHS: [usize; TABLES] = [2, 2, 4, 3, 4, 3, 7, 8];
 // The column, from 0, where the four of the two points begin.
 const POINTS: [usize; TABLES] = [0, 0, 0, 0, 0, 0, 2, 3];
 
-const TEXT: [[bool; COLUMNS]; TABLES] = [
+const TEXT: [[bool; WIDEST]; TABLES] = [
     [false, true, false, false, false, false, false, false],
     [false, false, false, false, false, false, false, false],
     [false, false, true, false, false, false, false, false],
@@ -28,7 +28,7 @@ const TEXT: [[bool; COLUMNS]; TABLES] = [
     [false, false, false, false, false, false, false, false],
 ];
 
-const LOW: [[u64; COLUMNS]; TABLES] = [
+const LOW: [[u64; WIDEST]; TABLES] = [
     [1, 0, 0, 0, 0, 0, 0, 0],
     [1, 1, 0, 0, 0, 0, 0, 0],
     [1, 1, 0, 1, 0, 0, 0, 0],
@@ -39,7 +39,7 @@ const LOW: [[u64; COLUMNS]; TABLES] = [
     [1, 0, 1, 1, 1, 1, 1, 1],
 ];
 
-const HIGH: [[u64; COLUMNS]; TABLES] = [
+const HIGH: [[u64; WIDEST]; TABLES] = [
     [999999999, 40, 0, 0, 0, 0, 0, 0],
     [99999999, 999999999, 0, 0, 0, 0, 0, 0],
     [999999999, 99999999, 40, 999, 0, 0, 0, 0],
@@ -50,7 +50,7 @@ const HIGH: [[u64; COLUMNS]; TABLES] = [
     [999999999, 252, 999999999, 2, 999999, 2, 999999, 65532],
 ];
 
-const SIZE: [[u64; COLUMNS]; TABLES] = [
+const SIZE: [[u64; WIDEST]; TABLES] = [
     [9, 40, 0, 0, 0, 0, 0, 0],
     [8, 9, 0, 0, 0, 0, 0, 0],
     [9, 8, 40, 3, 0, 0, 0, 0],
@@ -61,7 +61,7 @@ const SIZE: [[u64; COLUMNS]; TABLES] = [
     [9, 3, 9, 2, 6, 2, 6, 6],
 ];
 
-const PRIMARY: [[bool; COLUMNS]; TABLES] = [
+const PRIMARY: [[bool; WIDEST]; TABLES] = [
     [true, false, false, false, false, false, false, false],
     [true, false, false, false, false, false, false, false],
     [true, true, false, false, false, false, false, false],
@@ -72,7 +72,7 @@ const PRIMARY: [[bool; COLUMNS]; TABLES] = [
     [true, true, true, true, true, true, true, false],
 ];
 
-const SECOND: [[bool; COLUMNS]; TABLES] = [
+const SECOND: [[bool; WIDEST]; TABLES] = [
     [false, false, false, false, false, false, false, false],
     [false, false, false, false, false, false, false, false],
     [false, false, false, false, false, false, false, false],
@@ -83,7 +83,7 @@ const SECOND: [[bool; COLUMNS]; TABLES] = [
     [false, false, false, false, false, false, false, false],
 ];
 
-const FILLABLE: [[bool; COLUMNS]; TABLES] = [
+const FILLABLE: [[bool; WIDEST]; TABLES] = [
     [false, true, false, false, false, false, false, false],
     [false, false, false, false, false, false, false, false],
     [false, false, true, false, false, false, false, false],
@@ -127,7 +127,7 @@ pub fn find_column(t: usize, k: usize) -> Column
     ensures { λ r. ⌜ r ≡ column-at t k ⌝ }
 {
     if t < TABLES {
-        if k < COLUMNS {
+        if k < WIDEST {
             return Column {
                 text: TEXT[t][k],
                 lo: LOW[t][k],

@@ -3,7 +3,7 @@ use native.Mathlib.Omega.{arith}
 use borrow.Author.Needs.{needs}
 use Rattle.page.specs.declared.Column.{Column}
 use Rattle.page.specs.Tables.{all-tables}
-use Rattle.page.proofs.TableLaws.{fill, array, column-property, width-le, past-columns, past-width}
+use Rattle.page.proofs.TableLaws.{fill, array, column-entry, width-le, past-columns, past-width}
 use Rattle.page.proofs.tables.find_column.Statement.{statement}
 use Rattle.page.proofs.tables.find_column.Tie as tie
 
@@ -87,13 +87,13 @@ returns c =
     let h = o .if2 .taken in
     λ i.
     record {
-      text = column-property (λ (x : Column). x .text) (a .t) (a .k) h i;
-      lo = column-property (λ (x : Column). x .lo) (a .t) (a .k) h i;
-      hi = column-property (λ (x : Column). x .hi) (a .t) (a .k) h i;
-      size = column-property (λ (x : Column). x .size) (a .t) (a .k) h i;
-      primary = column-property (λ (x : Column). x .primary) (a .t) (a .k) h i;
-      second = column-property (λ (x : Column). x .second) (a .t) (a .k) h i;
-      fillable = column-property (λ (x : Column). x .fillable) (a .t) (a .k) h i;
+      text = column-entry (λ (x : Column). x .text) (a .t) (a .k) h i;
+      lo = column-entry (λ (x : Column). x .lo) (a .t) (a .k) h i;
+      hi = column-entry (λ (x : Column). x .hi) (a .t) (a .k) h i;
+      size = column-entry (λ (x : Column). x .size) (a .t) (a .k) h i;
+      primary = column-entry (λ (x : Column). x .primary) (a .t) (a .k) h i;
+      second = column-entry (λ (x : Column). x .second) (a .t) (a .k) h i;
+      fillable = column-entry (λ (x : Column). x .fillable) (a .t) (a .k) h i;
     }
 
 returns-2 : tie.Need-returns-2
