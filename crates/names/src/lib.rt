@@ -1,7 +1,9 @@
 // The names of the tables and of their columns.
 ghost use mathlib.Core.Path.{_≡_};
 ghost use Rattle.page.specs.Bytes.{bytes, same};
-ghost use Rattle.page.specs.Tables.{table-at, name-at, table-named};
+ghost use Rattle.page.specs.Tables.{table-at, columns, name-at, table-named};
+ghost use Rattle.page.specs.Fields.{fields};
+ghost use Rattle.page.specs.Section.{names-same};
 ghost use Rattle.names.specs.Words.{word, Reads};
 use page::Span;
 use page::tables::TABLES;
@@ -147,4 +149,25 @@ pub fn find_table(w: &[u8]) -> usize
         t += 1;
     }
     t
+}
+
+// "`atr` with exactly the columns below in this order": w is what stands after the line's first `;`.
+pub fn names_match(w: &[u8], t: usize) -> bool
+    ensures { λ r. ⌜ r ≡ names-same (columns t) (fields (now (w .entry))) ⌝ }
+{
+    let n = page::tables::find_width(t);
+    let mut k = 0;
+    let mut at = 0;
+    while k < n {
+        if w.len() < at {
+            return false;
+        }
+        let e = lines::field_end(w, at);
+        if !is_name(lines::trimmed(&w[at..e]), t, k) {
+            return false;
+        }
+        at = e + 1;
+        k += 1;
+    }
+    w.len() < at
 }

@@ -11,10 +11,11 @@ use lib.Dec.{eqb, leb}
 use lib.ListN.{length, getD, take, drop, length-take}
 use Rattle.page.specs.Bytes.{Bytes, bytes, pick, same, all}
 use Rattle.page.specs.Fields.{quote, digit, digits, value, textOf}
+use Rattle.page.specs.Form.{doubled}
 use Rattle.page.specs.Marks.{mark-number, mark-text, mark-in}
 use Rattle.page.proofs.ScanLaws.{same-length}
 use Rattle.page.proofs.TestLaws.{false-true, and-left, and-right}
-use Rattle.page.proofs.TextLaws.{doubled, text-between}
+use Rattle.page.proofs.TextLaws.{text-between}
 use Rattle.page.specs.declared.Remark.the-variants as R
 
 pub plain : ℕ → Bool

@@ -12,16 +12,10 @@ use lib.Dec.{eqb}
 use lib.ListN.{length, getD, take, drop, drop-of-length-le, length-append}
 use lib.Seq.{drop-cons, take-at}
 use Rattle.page.specs.Bytes.{Bytes, pick, same}
-use Rattle.page.specs.Fields.{quote, with-byte, bodyOf, textOf}
+use Rattle.page.specs.Fields.{with-byte, bodyOf, textOf}
 use Rattle.page.specs.Section.{no-bytes}
+use Rattle.page.specs.Form.{doubled, quoted}
 use Rattle.page.proofs.TestLaws.{false-true, same-refl, same-true, both-ways}
-
-unfoldable pub doubled : Bytes → Bytes
-doubled [] = []
-doubled (b ∷ bs) = pick (quote b) (b ∷ b ∷ doubled bs) (b ∷ doubled bs)
-
-unfoldable pub quoted : Bytes → Bytes
-quoted t = 34 ∷ (doubled t ++ (34 ∷ []))
 
 -- what follows an opening quote, at a place
 
