@@ -1,8 +1,7 @@
 // One section of a file, by value.
+mod machine;
 mod records;
 
-pub use records::find_wrong;
+pub use machine::step;
+pub use records::amount_at;
 pub use records::judge_record;
-pub use records::marks_empty;
-pub use records::match_formats;
-pub use records::same_points;
