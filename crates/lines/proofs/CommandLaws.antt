@@ -56,35 +56,39 @@ both : (a b : Bool) → a && b ≡ true → (a ≡ true) × (b ≡ true)
 both true b e = (refl, e)
 both false b e = absurd (false≢true e)
 
-module _ (w : Bytes) where
-  same-key : length w ≡ 3 → getD w 1 0 < 256 → getD w 2 0 < 256 → (n : Bytes) → three n ≡ true → same w n ≡ eqb (key w) (key n)
+module _ (w : Bytes) (h : length w ≡ 3) (hb : getD w 1 0 < 256) (hc : getD w 2 0 < 256) where
+  same-key : (n : Bytes) → three n ≡ true → same w n ≡ eqb (key w) (key n)
   unfolding key
-  same-key h hb hc n t =
+  same-key n t =
       let e = both (eqb (length n) 3) (ltb (getD n 1 0) 256 && ltb (getD n 2 0) 256) t in
       let f = both (ltb (getD n 1 0) 256) (ltb (getD n 2 0) 256) (e .1) in
-      ap (λ (v : Bytes). same v n) (shape w h) ∙ ap (same (getD w 0 0 ∷ getD w 1 0 ∷ getD w 2 0 ∷ [])) (shape n (eqb-true (length n) 3 (e .0)))
-      ∙ three-same (getD w 0 0) (getD w 1 0) (getD w 2 0) (getD n 0 0) (getD n 1 0) (getD n 2 0) hb hc (ltb-true (getD n 1 0) 256 (f .0)) (ltb-true (getD n 2 0) 256 (f .1))
+      let y = ltb-true (getD n 1 0) 256 (f .0) in
+      let z = ltb-true (getD n 2 0) 256 (f .1) in
+      ap (λ (v : Bytes). same v n) (shape w h)
+      ∙ ap (same (getD w 0 0 ∷ getD w 1 0 ∷ getD w 2 0 ∷ [])) (shape n (eqb-true (length n) 3 (e .0)))
+      ∙ three-same (getD w 0 0) (getD w 1 0) (getD w 2 0) (getD n 0 0) (getD n 1 0) (getD n 2 0) hb hc y z
 
-  find-three : length w ≡ 3 → getD w 1 0 < 256 → getD w 2 0 < 256 → (ns : List String) (i : ℕ) → all-three ns ≡ true → find i ns w ≡ find-key i ns (key w)
+  find-three : (ns : List String) (i : ℕ) → all-three ns ≡ true → find i ns w ≡ find-key i ns (key w)
   unfolding find find-key
-  find-three h hb hc [] i t = refl
-  find-three h hb hc (n ∷ ns) i t =
+  find-three [] i t = refl
+  find-three (n ∷ ns) i t =
       let e = both (three (bytes n)) (all-three ns) t in
-      rw (same-key h hb hc (bytes n) (e .0), find-three h hb hc ns (suc i) (e .1))
+      rw (same-key (bytes n) (e .0), find-three ns (suc i) (e .1))
 
-  find-other : (length w ≡ 3 → ⊥) → (ns : List String) (i : ℕ) → all-three ns ≡ true → find i ns w ≡ i + length ns
+  pub command-three : find Mod known w ≡ find-key Mod known (key w)
+  unfolding known bytes
+  command-three = find-three known Mod refl
+
+module _ (w : Bytes) (h : length w ≡ 3 → ⊥) where
+  find-other : (ns : List String) (i : ℕ) → all-three ns ≡ true → find i ns w ≡ i + length ns
   unfolding find
-  find-other h [] i t = omega arith
-  find-other h (n ∷ ns) i t =
+  find-other [] i t = omega arith
+  find-other (n ∷ ns) i t =
       let e = both (three (bytes n)) (all-three ns) t in
       let f = both (eqb (length (bytes n)) 3) (ltb (getD (bytes n) 1 0) 256 && ltb (getD (bytes n) 2 0) 256) (e .0) in
       let ne : length w ≡ length (bytes n) → ⊥ = λ (x : length w ≡ length (bytes n)). h (x ∙ eqb-true (length (bytes n)) 3 (f .0)) in
-      rw (same-length w (bytes n) ne, find-other h ns (suc i) (e .1)) (omega arith)
+      rw (same-length w (bytes n) ne, find-other ns (suc i) (e .1)) (omega arith)
 
-  pub command-three : length w ≡ 3 → getD w 1 0 < 256 → getD w 2 0 < 256 → find Mod known w ≡ find-key Mod known (key w)
+  pub command-other : find Mod known w ≡ Unknown
   unfolding known bytes
-  command-three h hb hc = find-three h hb hc known Mod refl
-
-  pub command-other : (length w ≡ 3 → ⊥) → find Mod known w ≡ Unknown
-  unfolding known bytes
-  command-other h = find-other h known Mod refl
+  command-other = find-other known Mod refl

@@ -6,7 +6,7 @@ use mathlib.Core.List.{List, [], _∷_, _++_, append-assoc, append-nil}
 use Prim.Native.Nat.{ℕ, zero, suc, _+_, _-_, _<_, _≤_}
 use native.Mathlib.Numerals.{add-one}
 use native.Mathlib.Omega.{arith}
-use borrow.Author.Tests.{eq-eqb, ne-eqb}
+use borrow.Author.Tests.{ne-eqb}
 use lib.Dec.{eqb}
 use lib.ListN.{length, take, drop, getD, drop-of-length-le, length-append, length-drop, take-append-drop}
 use lib.Seq.{drop-cons, drop-drop, take-append-seam, drop-append-seam}
@@ -237,3 +237,27 @@ module _ (s : Bytes) (a b c : List Bytes) (e : lines s ≡ a ++ (b ++ c)) where
 
   pub run-lines : lines (take (length (joined b)) (drop (length (joined a)) s)) ≡ b
   run-lines = rw run-bytes (lines-joined (laid-left b c (laid-right a (b ++ c) (rw e at (laid-lines s)))))
+
+-- line k: "a place is the length of what stands before"
+module _ (s : Bytes) (k : ℕ) (h : k < length (lines s)) where
+  abbrev before : List Bytes
+  before = take k (lines s)
+
+  abbrev line : Bytes
+  line = getD (lines s) k []
+
+  around : lines s ≡ before ++ ((line ∷ []) ++ drop (suc k) (lines s))
+  around = sym (take-append-drop k (lines s)) ∙ ap (λ (x : List Bytes). before ++ x) (drop-cons (lines s) k [] h)
+
+  one-line : joined (line ∷ []) ≡ line
+  unfolding joined
+  one-line = append-nil line
+
+  pub line-within : length (joined (take k (lines s))) + length (getD (lines s) k []) ≤ length s
+  line-within = rw one-line at (run-within s before (line ∷ []) (drop (suc k) (lines s)) around)
+
+  pub line-bytes : take (length (getD (lines s) k [])) (drop (length (joined (take k (lines s)))) s) ≡ getD (lines s) k []
+  line-bytes = rw one-line at (run-bytes s before (line ∷ []) (drop (suc k) (lines s)) around)
+
+  pub line-rest : lines (drop (length (joined (take k (lines s)))) s) ≡ drop k (lines s)
+  line-rest = run-rest s before (line ∷ []) (drop (suc k) (lines s)) around ∙ sym (drop-cons (lines s) k [] h)

@@ -25,8 +25,10 @@ find-name-requires c κs = search needs
 
 returns : tie.Need-returns
 returns c =
-    c .find-name .ensures ∙ ap (find Mod known) (c .before .trimmed .ensures)
-    ∙ sym (command-some (c .before .before .before .before .before .before .args .c .now) _ (c .before .before .before .before .find-semicolon .ensures) (search needs))
+    let s = c .before .before .before .before .before .before .args .c .now in
+    c .find-name .ensures
+    ∙ ap (find Mod known) (c .before .trimmed .ensures)
+    ∙ sym (command-some s _ (c .before .before .before .before .find-semicolon .ensures) (search needs))
 
 returns-2 : tie.Need-returns-2
 returns-2 c = sym (command-none (c .before .before .before .args .c .now) _ (c .before .find-semicolon .ensures) (c .if1 .left))

@@ -34,7 +34,9 @@ returns-2 c =
     let w = c .before .before .before .before .before .before .before .args .w .now in
     let b : getD w 1 0 < 256 = omega (arith, c .before .before .before .before .before .before .shared-slice-known .given 1) in
     let d : getD w 2 0 < 256 = omega (arith, c .before .before .before .before .before .before .shared-slice-known .given 2) in
-    c .by-key .ensures ∙ ap (find-key Mod known) (c .before .pack .ensures) ∙ sym (command-three w (c .before .before .before .before .before .if1 .left) b d)
+    c .by-key .ensures
+    ∙ ap (find-key Mod known) (c .before .pack .ensures)
+    ∙ sym (command-three w (c .before .before .before .before .before .if1 .left) b d)
 
 pub find-name-spec : {M : Type 1} → statement M
 find-name-spec =

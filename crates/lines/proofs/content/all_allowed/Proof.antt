@@ -11,15 +11,13 @@ use Rattle.lines.proofs.content.all_allowed.Statement.{statement}
 use Rattle.lines.proofs.content.all_allowed.Tie as tie
 
 abbrev Inv-loop : tie.InvT-loop
-Inv-loop c wide i₀ i =
-    all (allowed wide) c ≡ all (allowed wide) (drop i c)
+Inv-loop c wide i₀ i = all (allowed wide) c ≡ all (allowed wide) (drop i c)
 
 abbrev μ-loop : tie.MeasureT-loop
 μ-loop c wide i₀ i = length c - i
 
 loop-holds : tie.Need-loop-holds Inv-loop μ-loop
-loop-holds c =
-    refl
+loop-holds c = refl
 
 shared-slice-read-b : tie.Need-shared-slice-read-b Inv-loop μ-loop
 shared-slice-read-b c = search needs
@@ -29,8 +27,9 @@ is-allowed-requires c κs = search needs
 
 returns : tie.Need-returns Inv-loop μ-loop
 returns c =
-    let l = c .before .before .before .before .loop in let s = c .before .before .before .before .before .before .args .c .now in
-    sym (l .inv ∙ all-not (allowed (c .before .before .before .before .before .before .args .wide)) s (l .i) (search needs) (sym (c .before .is-allowed .ensures) ∙ not-true _ (c .if1 .taken)))
+    let l = c .before .before .before .before .loop in
+    let a = c .before .before .before .before .before .before .args in
+    sym (l .inv ∙ all-not (allowed (a .wide)) (a .c .now) (l .i) (search needs) (sym (c .before .is-allowed .ensures) ∙ not-true _ (c .if1 .taken)))
 
 add-i : tie.Need-add-i Inv-loop μ-loop
 add-i c = search needs
@@ -40,13 +39,15 @@ loop-less c = search needs
 
 loop-again : tie.Need-loop-again Inv-loop μ-loop
 loop-again c =
-    let l = c .before .before .before .before .loop in let s = c .before .before .before .before .before .before .args .c .now in
-    l .inv ∙ all-more (allowed (c .before .before .before .before .before .before .args .wide)) s (l .i) (search needs) (sym (c .before .is-allowed .ensures) ∙ not-false _ (c .if1 .left))
+    let l = c .before .before .before .before .loop in
+    let a = c .before .before .before .before .before .before .args in
+    l .inv ∙ all-more (allowed (a .wide)) (a .c .now) (l .i) (search needs) (sym (c .before .is-allowed .ensures) ∙ not-false _ (c .if1 .left))
 
 returns-2 : tie.Need-returns-2 Inv-loop μ-loop
 returns-2 c =
-    let l = c .before .loop in let s = c .before .before .before .args .c .now in
-    sym (l .inv ∙ all-end (allowed (c .before .before .before .args .wide)) s (l .i) (search needs))
+    let l = c .before .loop in
+    let a = c .before .before .before .args in
+    sym (l .inv ∙ all-end (allowed (a .wide)) (a .c .now) (l .i) (search needs))
 
 pub all-allowed-spec : {M : Type 1} → statement M
 all-allowed-spec =

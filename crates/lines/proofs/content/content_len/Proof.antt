@@ -6,8 +6,7 @@ use Rattle.lines.proofs.content.content_len.Statement.{statement}
 use Rattle.lines.proofs.content.content_len.Tie as tie
 
 returns : tie.Need-returns
-returns c =
-    sym (content-none (c .before .args .l .now) (c .if1 .taken))
+returns c = sym (content-none (c .before .args .l .now) (c .if1 .taken))
 
 sub-a : tie.Need-sub-a
 sub-a c = search needs
@@ -16,8 +15,7 @@ shared-slice-read-if2 : tie.Need-shared-slice-read-if2
 shared-slice-read-if2 c = search needs
 
 returns-2 : tie.Need-returns-2
-returns-2 c =
-    sym (content-whole (c .before .before .before .args .l .now) (c .if2 .taken))
+returns-2 c = sym (content-whole (c .before .before .before .args .l .now) (c .if2 .taken))
 
 returns-3 : tie.Need-returns-3
 returns-3 c =

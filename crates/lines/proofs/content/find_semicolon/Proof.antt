@@ -12,8 +12,7 @@ use Rattle.lines.proofs.content.find_semicolon.Statement.{statement}
 use Rattle.lines.proofs.content.find_semicolon.Tie as tie
 
 abbrev Inv-loop : tie.InvT-loop
-Inv-loop c i₀ i =
-    until semicolon c ≡ i + until semicolon (drop i c)
+Inv-loop c i₀ i = until semicolon c ≡ i + until semicolon (drop i c)
 
 abbrev μ-loop : tie.MeasureT-loop
 μ-loop c i₀ i = length c - i
@@ -26,7 +25,8 @@ shared-slice-read-if1 c = search needs
 
 returns : tie.Need-returns Inv-loop μ-loop
 returns c =
-    omega (arith, until-hit semicolon (c .before .before .before .before .args .c .now) (c .before .before .before .loop .i) (search needs) (eq-eqb _ _ (c .if1 .taken)))
+    let s = c .before .before .before .before .args .c .now in
+    omega (arith, until-hit semicolon s (c .before .before .before .loop .i) (search needs) (eq-eqb _ _ (c .if1 .taken)))
 
 add-i : tie.Need-add-i Inv-loop μ-loop
 add-i c = search needs
@@ -36,7 +36,8 @@ loop-less c = search needs
 
 loop-again : tie.Need-loop-again Inv-loop μ-loop
 loop-again c =
-    omega (arith, until-more semicolon (c .before .before .before .before .args .c .now) (c .before .before .before .loop .i) (search needs) (ne-eqb _ _ (c .if1 .left)))
+    let s = c .before .before .before .before .args .c .now in
+    omega (arith, until-more semicolon s (c .before .before .before .loop .i) (search needs) (ne-eqb _ _ (c .if1 .left)))
 
 returns-2 : tie.Need-returns-2 Inv-loop μ-loop
 returns-2 c =

@@ -24,7 +24,9 @@ add-result : tie.Need-add-result Inv-loop μ-loop
 add-result c = search needs
 
 returns : tie.Need-returns Inv-loop μ-loop
-returns c = omega (arith, size-hit (c .before .before .before .before .args .s .now) (c .before .before .before .loop .i) (search needs) (search needs))
+returns c =
+    let s = c .before .before .before .before .args .s .now in
+    omega (arith, size-hit s (c .before .before .before .loop .i) (search needs) (search needs))
 
 add-i : tie.Need-add-i Inv-loop μ-loop
 add-i c = search needs
@@ -34,8 +36,8 @@ loop-less c = search needs
 
 loop-again : tie.Need-loop-again Inv-loop μ-loop
 loop-again c =
-    let e = size-more (c .before .before .before .before .args .s .now) (c .before .before .before .loop .i) (search needs) (search needs) in
-    (search needs, omega (arith, e))
+    let s = c .before .before .before .before .args .s .now in
+    (search needs, omega (arith, size-more s (c .before .before .before .loop .i) (search needs) (search needs)))
 
 returns-2 : tie.Need-returns-2 Inv-loop μ-loop
 returns-2 c = omega (arith, size-end (c .before .before .args .s .now) (c .before .loop .i) (search needs))

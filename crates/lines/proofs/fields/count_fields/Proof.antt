@@ -10,8 +10,7 @@ use Rattle.lines.proofs.fields.count_fields.Statement.{statement}
 use Rattle.lines.proofs.fields.count_fields.Tie as tie
 
 abbrev Inv-loop : tie.InvT-loop
-Inv-loop w n₀ at₀ n at =
-    (n ≤ at) × (at ≤ length w + 1) × (n + length (from w at) ≡ length (fields w))
+Inv-loop w n₀ at₀ n at = (n ≤ at) × (at ≤ length w + 1) × (n + length (from w at) ≡ length (fields w))
 
 abbrev μ-loop : tie.MeasureT-loop
 μ-loop w n₀ at₀ n at = length w + 1 - at
@@ -22,25 +21,39 @@ loop-holds c =
     (omega arith, omega arith, omega (arith, ap length (from-all w)))
 
 field-end-requires : tie.Need-field-end-requires Inv-loop μ-loop
-field-end-requires c κs =
-    search needs
+field-end-requires c κs = search needs
 
 add-n : tie.Need-add-n Inv-loop μ-loop
 add-n c =
-    let h = end-in (c .before .before .before .before .args .w .now) (c .before .before .loop .at) (c .field-end .result) (search needs) (c .field-end .ensures) in search needs
+    let w = c .before .before .before .before .args .w .now in
+    let l = c .before .before .loop in
+    let e = c .field-end in
+    let h = end-in w (l .at) (e .result) (search needs) (e .ensures) in
+    search needs
 
 add-at : tie.Need-add-at Inv-loop μ-loop
 add-at c =
-    let h = end-in (c .before .before .before .before .args .w .now) (c .before .before .loop .at) (c .field-end .result) (search needs) (c .field-end .ensures) in search needs
+    let w = c .before .before .before .before .args .w .now in
+    let l = c .before .before .loop in
+    let e = c .field-end in
+    let h = end-in w (l .at) (e .result) (search needs) (e .ensures) in
+    search needs
 
 loop-less : tie.Need-loop-less Inv-loop μ-loop
 loop-less c =
-    let h = end-in (c .before .before .before .before .args .w .now) (c .before .before .loop .at) (c .field-end .result) (search needs) (c .field-end .ensures) in omega arith
+    let w = c .before .before .before .before .args .w .now in
+    let l = c .before .before .loop in
+    let e = c .field-end in
+    let h = end-in w (l .at) (e .result) (search needs) (e .ensures) in
+    omega arith
 
 loop-again : tie.Need-loop-again Inv-loop μ-loop
 loop-again c =
-    let h = end-in (c .before .before .before .before .args .w .now) (c .before .before .loop .at) (c .field-end .result) (search needs) (c .field-end .ensures) in
-    let m = ap length (from-more (c .before .before .before .before .args .w .now) (c .before .before .loop .at) (c .field-end .result) (search needs) (c .field-end .ensures)) in
+    let w = c .before .before .before .before .args .w .now in
+    let l = c .before .before .loop in
+    let e = c .field-end in
+    let h = end-in w (l .at) (e .result) (search needs) (e .ensures) in
+    let m = ap length (from-more w (l .at) (e .result) (search needs) (e .ensures)) in
     (omega arith, omega arith, omega arith)
 
 returns : tie.Need-returns Inv-loop μ-loop

@@ -4,8 +4,8 @@ use Prim.Native.Nat.{_+_, _-_}
 use mathlib.Core.Path.{_≡_, sym, _∙_}
 use mathlib.Core.Bool.{false}
 use native.Mathlib.Omega.{arith}
-use lib.ListN.{length, drop}
-use Rattle.page.specs.Fields.{field-size}
+use lib.ListN.{length, drop, getD}
+use Rattle.page.specs.Fields.{parts-here, field-size}
 use Rattle.page.proofs.FieldLaws.{field-hit, field-more, field-end}
 use Rattle.lines.proofs.fields.field_end.Statement.{statement}
 use Rattle.lines.proofs.fields.field_end.Tie as tie
@@ -28,7 +28,8 @@ parts-here-requires c κs = search needs
 returns : tie.Need-returns Inv-loop μ-loop
 returns c =
     let l = c .before .before .before .before .loop in
-    omega (arith, field-hit (l .inside) (c .before .before .before .before .before .before .args .w .now) (l .i) (c .before .before .before .loop-test .taken) (sym (c .before .parts-here .ensures) ∙ c .if1 .taken))
+    let w = c .before .before .before .before .before .before .args .w .now in
+    omega (arith, field-hit (l .inside) w (l .i) (c .before .before .before .loop-test .taken) (sym (c .before .parts-here .ensures) ∙ c .if1 .taken))
 
 inside-after-requires : tie.Need-inside-after-requires Inv-loop μ-loop
 inside-after-requires c κs = search needs
@@ -42,10 +43,9 @@ loop-less c = search needs
 loop-again : tie.Need-loop-again Inv-loop μ-loop
 loop-again c =
     let l = c .before .before .before .before .before .loop in
-    omega (
-      arith,
-      field-more (l .inside) (c .before .before .before .before .before .before .before .args .w .now) (l .i) (c .inside-after .result) (c .before .before .before .before .loop-test .taken) (sym (c .before .before .parts-here .ensures) ∙ c .before .if1 .left) (c .inside-after .ensures),
-    )
+    let w = c .before .before .before .before .before .before .before .args .w .now in
+    let p : parts-here (l .inside) (getD w (l .i) 0) ≡ false = sym (c .before .before .parts-here .ensures) ∙ c .before .if1 .left in
+    omega (arith, field-more (l .inside) w (l .i) (c .inside-after .result) (c .before .before .before .before .loop-test .taken) p (c .inside-after .ensures))
 
 returns-2 : tie.Need-returns-2 Inv-loop μ-loop
 returns-2 c = let l = c .before .loop in omega (arith, field-end (l .inside) (c .before .before .before .args .w .now) (l .i) (c .loop-test .left))

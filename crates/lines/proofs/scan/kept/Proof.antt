@@ -27,13 +27,19 @@ shared-slice-read-if1 : tie.Need-shared-slice-read-if1 Inv-loop μ-loop
 shared-slice-read-if1 c = search needs
 
 returns : tie.Need-returns Inv-loop μ-loop
-returns c = omega (arith, keep-stop space (c .before .before .before .before .args .s .now) (c .before .before .before .loop .t) (c .before .before .loop-test .taken) (c .before .before .before .loop .inv .0) (ne-eqb _ _ (c .if1 .taken)))
+returns c =
+    let s = c .before .before .before .before .args .s .now in
+    let l = c .before .before .before .loop in
+    omega (arith, keep-stop space s (l .t) (c .before .before .loop-test .taken) (l .inv .0) (ne-eqb _ _ (c .if1 .taken)))
 
 loop-less : tie.Need-loop-less Inv-loop μ-loop
 loop-less c = search needs
 
 loop-again : tie.Need-loop-again Inv-loop μ-loop
-loop-again c = (omega arith, omega (arith, keep-on space (c .before .before .before .before .args .s .now) (c .before .before .before .loop .t) (c .before .before .loop-test .taken) (c .before .before .before .loop .inv .0) (eq-eqb _ _ (c .if1 .left))))
+loop-again c =
+    let s = c .before .before .before .before .args .s .now in
+    let l = c .before .before .before .loop in
+    (omega arith, omega (arith, keep-on space s (l .t) (c .before .before .loop-test .taken) (l .inv .0) (eq-eqb _ _ (c .if1 .left))))
 
 returns-2 : tie.Need-returns-2 Inv-loop μ-loop
 returns-2 c = omega (arith, keep-none space (c .before .before .args .s .now) (c .before .loop .t) (c .loop-test .left))

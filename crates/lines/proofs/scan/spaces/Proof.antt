@@ -24,7 +24,9 @@ shared-slice-read-if1 : tie.Need-shared-slice-read-if1 Inv-loop μ-loop
 shared-slice-read-if1 c = search needs
 
 returns : tie.Need-returns Inv-loop μ-loop
-returns c = omega (arith, until-hit no-space (c .before .before .before .before .args .s .now) _ (c .before .before .loop-test .taken) (ap not (ne-eqb _ _ (c .if1 .taken))))
+returns c =
+    let s = c .before .before .before .before .args .s .now in
+    omega (arith, until-hit no-space s _ (c .before .before .loop-test .taken) (ap not (ne-eqb _ _ (c .if1 .taken))))
 
 add-i : tie.Need-add-i Inv-loop μ-loop
 add-i c = search needs
@@ -33,7 +35,9 @@ loop-less : tie.Need-loop-less Inv-loop μ-loop
 loop-less c = search needs
 
 loop-again : tie.Need-loop-again Inv-loop μ-loop
-loop-again c = omega (arith, until-more no-space (c .before .before .before .before .args .s .now) _ (c .before .before .loop-test .taken) (ap not (eq-eqb _ _ (c .if1 .left))))
+loop-again c =
+    let s = c .before .before .before .before .args .s .now in
+    omega (arith, until-more no-space s _ (c .before .before .loop-test .taken) (ap not (eq-eqb _ _ (c .if1 .left))))
 
 returns-2 : tie.Need-returns-2 Inv-loop μ-loop
 returns-2 c = omega (arith, until-end no-space (c .before .before .args .s .now) _ (c .loop-test .left))
