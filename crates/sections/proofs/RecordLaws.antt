@@ -1,18 +1,16 @@
--- A line's fields from the left, against the columns of its table. Assumes nothing.
+-- A record's fields from the left, against the columns of its table. Assumes nothing.
 use mathlib.Core.Path.{_≡_, refl, sym, _∙_}
-use mathlib.Core.Bool.{Bool}
 use mathlib.Core.List.{List, [], _∷_}
 use Prim.Native.Nat.{ℕ, zero, suc, _+_, _<_, _≤_}
 use native.Mathlib.Numerals.{add-one}
 use native.Mathlib.Omega.{arith}
-use lib.ListN.{length, getD, drop, drop-of-length-le}
+use lib.ListN.{length, drop, drop-of-length-le}
 use lib.Seq.{drop-cons}
 use borrow.Author.Tests.{eq-eqb, ne-eqb}
 use Rattle.page.specs.Bytes.{Bytes}
 use Rattle.page.specs.Tables.{Named, no-column, standing, column-at, width, points-from}
-use Rattle.page.specs.Section.{fieldOf, field-number, first-of, first-wrong, format-ok}
+use Rattle.page.specs.Section.{fieldOf, field-number, first-of, first-wrong}
 use Rattle.page.proofs.TableLaws.{standing-width, standing-column}
-use Rattle.page.proofs.MatchLaws.{has-format}
 
 -- "each field from the left": no field is left, no column is left, or one of each
 
@@ -42,10 +40,6 @@ module _ (t k : ℕ) (h : k < width t) (f : Bytes) (r fs : List Bytes) (e : fs �
 
   pub wrong-more : v ≡ 0 → first-wrong (drop k (standing t)) fs ≡ first-wrong (drop (k + 1) (standing t)) r
   wrong-more n = wrong-step ∙ rw (eq-eqb v 0 n)
-
--- "one format a column"
-pub format-here : (t k : ℕ) (f : Bytes) (v : Bool) → v ≡ format-ok (column-at t k .text) f → has-format (getD (standing t) k no-column) f ≡ v
-format-here t k f v q = rw (standing-column t k) (sym q)
 
 -- the last of the four columns of the two points
 pub points-small : (t : ℕ) → points-from t ≤ 3

@@ -2,13 +2,13 @@
 use mathlib.Core.Path.{_≡_}
 use mathlib.Core.Bool.{Bool, true, false}
 use mathlib.Core.List.{List, [], _∷_}
-use Prim.Native.Nat.{ℕ, _+_, _≤_, _<_}
+use Prim.Native.Nat.{ℕ, _+_, _≤_}
 use lib.ListN.{length, take, drop}
 use Rattle.page.specs.Bytes.{Bytes, pick}
 use Rattle.page.specs.Lines.{lines}
-use Rattle.page.specs.Cut.{Section, begins-table, cut, placed}
+use Rattle.page.specs.Cut.{Section, begins-table}
 use Rattle.page.proofs.LineLaws.{line-size}
-use Rattle.page.proofs.FrontLaws.{front-size}
+use Rattle.page.proofs.CutLaws.{front-size, sections-from}
 
 -- how many bytes the section at the front has: its first line, and the lines before the next `tbl` or `eof` line
 unfoldable pub section-size : Bytes → ℕ
@@ -17,10 +17,6 @@ section-size w = line-size w + front-size (drop (line-size w) w)
 -- the section that begins at a place
 unfoldable pub section-from : Bytes → ℕ → Section
 section-from s at = record { place = at; lines = lines (take (section-size (drop at s)) (drop at s)) }
-
--- the sections among the lines from a place
-unfoldable pub sections-from : Bytes → ℕ → List Section
-sections-from s at = placed (at + front-size (drop at s)) (cut (lines (drop at s)) .pieces)
 
 -- how many bytes stand before the next `tbl` line: all of them, if there is none
 unfoldable pub next-table : List Bytes → ℕ

@@ -10,7 +10,6 @@ ghost use Rattle.page.specs.Section.{tbl-step, atr-step, frm-step, rec-step, co
 ghost use Rattle.page.specs.declared.Phase.the-variants as P;
 ghost use Rattle.sections.specs.Counts.{records-in};
 use crate::records::judge_record;
-use crate::records::match_formats;
 use page::Number;
 use page::Phase;
 use page::Remark;
@@ -45,7 +44,7 @@ pub fn step_atr(w: &[u8], t: usize) -> Step
 pub fn step_frm(w: &[u8], t: usize) -> Step
     ensures { λ r. ⌜ r ≡ frm-step t (fields (now (w .entry))) ⌝ }
 {
-    if match_formats(w, t) {
+    if names::formats_match(w, t) {
         return Step::Go(Phase::Rows(t, 0, 0));
     }
     Step::Stop(9)

@@ -1,9 +1,9 @@
-// A line's fields against the columns of its table: `w` is what stands after its first `;`.
+// A record's fields against the columns of its table: `w` is what stands after its line's first `;`.
 ghost use mathlib.Core.Path.{_≡_};
 ghost use Rattle.page.specs.Bytes.{trim};
 ghost use Rattle.page.specs.Fields.{fields};
 ghost use Rattle.page.specs.Tables.{column-at, standing};
-ghost use Rattle.page.specs.Section.{format-ok, formats-ok, fieldOf, field-number, first-wrong, amount-at, same-points, empty-marked, rec-verdict};
+ghost use Rattle.page.specs.Section.{fieldOf, field-number, first-wrong, amount-at, same-points, empty-marked, rec-verdict};
 use page::Field;
 use page::tables::find_column;
 use page::tables::find_points;
@@ -48,35 +48,6 @@ pub fn find_wrong(w: &[u8], t: usize) -> u32
         k += 1;
     }
     0
-}
-
-fn fits_format(f: &[u8], t: usize, k: usize) -> bool
-    ensures { λ r. ⌜ r ≡ format-ok (column-at t k .text) (trim (now (f .entry))) ⌝ }
-{
-    let column = find_column(t, k);
-    let text = column.text;
-    fields::is_format(lines::trimmed(f), text)
-}
-
-// "`frm` with one format a column"
-pub fn match_formats(w: &[u8], t: usize) -> bool
-    ensures { λ r. ⌜ r ≡ formats-ok (standing t) (fields (now (w .entry))) ⌝ }
-{
-    let n = find_width(t);
-    let mut k = 0;
-    let mut at = 0;
-    while k < n {
-        if w.len() < at {
-            return false;
-        }
-        let e = lines::field_end(w, at);
-        if !fits_format(&w[at..e], t, k) {
-            return false;
-        }
-        at = e + 1;
-        k += 1;
-    }
-    w.len() < at
 }
 
 pub fn amount_at(w: &[u8], k: usize) -> u64

@@ -6,8 +6,9 @@ use borrow.Author.Needs.{needs}
 use lib.ListN.{length, drop}
 use Rattle.page.specs.Lines.{lines}
 use Rattle.lines.proofs.CursorLaws.{handed}
+use Rattle.page.proofs.CutLaws.{sections-from}
 use Rattle.sections.proofs.WalkLaws.{sections-other, next-stop, next-more, next-end, settled-zero}
-use Rattle.sections.specs.Walk.{sections-from, next-table}
+use Rattle.sections.specs.Walk.{next-table}
 use Rattle.sections.proofs.walk.find_section.Statement.{statement}
 use Rattle.sections.proofs.walk.find_section.Tie as tie
 
