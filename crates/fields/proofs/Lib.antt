@@ -1,0 +1,5 @@
+pub mod MagnitudeLaws
+pub mod SizeLaws
+pub mod ColumnLaws
+pub mod FormatLaws
+pub mod PlaceLaws
