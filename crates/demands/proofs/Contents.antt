@@ -63,8 +63,15 @@ module _ (latin : Bool) where
           let d = accepted-denotes latin (x .lines) h in
           inr (y .0, y .1, y .2, y .3, first-later (Unsound latin) seen x (y .0) xs (λ n. n d) (y .4), y .5, pass i x xs h ∙ y .6 ∙ ap (λ (z : ℕ). refusal (y .2) z (y .3)) (omega arith))
       by (inr r) y =
-          inr (x, r .0, r .1, r .2, first-here (Unsound latin) seen x xs (λ d. refused-denotes-nothing latin (x .lines) (r .0) (r .1) (r .2) (d .0) (d .1) (r .4) (d .2)), r .4,
-          stop i x xs (r .0) (r .1) (r .2) (r .3) (refuses-exactly latin (x .lines) (r .0) (r .1) (r .2) .1 (r .4) .1) ∙ ap (λ (z : ℕ). refusal (r .1) z (r .2)) (omega arith))
+          inr (
+            x,
+            r .0,
+            r .1,
+            r .2,
+            first-here (Unsound latin) seen x xs (λ d. refused-denotes-nothing latin (x .lines) (r .0) (r .1) (r .2) (d .0) (d .1) (r .4) (d .2)),
+            r .4,
+            stop i x xs (r .0) (r .1) (r .2) (r .3) (refuses-exactly latin (x .lines) (r .0) (r .1) (r .2) .1 (r .4) .1) ∙ ap (λ (z : ℕ). refusal (r .1) z (r .2)) (omega arith),
+          )
 
   -- sections that denote their tables are passed
   pub tables-pass : (i : ℕ) {xs : List Section} {cs : List Content} → Tables latin xs cs → first-unsound i (map (rowOf latin) xs) ≡ sound

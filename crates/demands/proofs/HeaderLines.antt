@@ -151,17 +151,20 @@ module _ (m : Met) (l : Bytes) (ls : List Bytes) (begun : ¬ (m .form ≡ 0)) wh
           let o : Every (λ k. tally k m + times k (l ∷ spoken ls) ≤ 1) followers = rw (spoken-so l ls s) at (f .once) in
           let k = command (content l) in
           let h = every-head x in
-          let fresh : met-before (command (content l)) m ≡ false = unmet (met-before (command (content l)) m) (every-at followers o (h .named)) in
-          (meet k m, other-line m l begun ok s ∙ other-go m k (fields-of l) fresh (h .holds), begun,
-          record {
-            clean = every-tail (f .clean);
-            each = every-tail x;
-            once = every-from followers (λ j i.
-                let a = every-at followers (tallies k m fresh) i in
-                let b = every-at followers o i in
-                let c = times-more j l (spoken ls) in
-                omega arith)
-          })
+          let fresh : met-before (command (content l)) m ≡ false = unmet (met-before (command (content l)) m) (every-at followers o (h .named)) in (
+            meet k m,
+            other-line m l begun ok s ∙ other-go m k (fields-of l) fresh (h .holds),
+            begun,
+            record {
+              clean = every-tail (f .clean);
+              each = every-tail x;
+              once = every-from followers (λ j i.
+                  let a = every-at followers (tallies k m fresh) i in
+                  let b = every-at followers o i in
+                  let c = times-more j l (spoken ls) in
+                  omega arith);
+            },
+          )
         where
           unmet : (b : Bool) → pick b 1 0 + times (command (content l)) (l ∷ spoken ls) ≤ 1 → b ≡ false
           unmet true g = let c = times-more (command (content l)) l (spoken ls) in let d = eq-eqb (command (content l)) (command (content l)) refl in
@@ -191,7 +194,7 @@ module _ (m : Met) (l : Bytes) (ls : List Bytes) (begun : ¬ (m .form ≡ 0)) wh
                 let a = every-at followers (tallies (command (content l)) m (g .0)) i in
                 let b = every-at followers (n .once) i in
                 let c = times-more j l (spoken ls) in
-                omega arith))
+                omega arith));
           }
 
 -- before `mod`: the same
@@ -209,9 +212,11 @@ starts-go l ls k = by (silent l) refl (k .rules)
     by : (b : Bool) → silent l ≡ b → (spoken (l ∷ ls) ≡ []) ⊎ Begun (l ∷ ls) →
         (q : Met) × (head-step (met-none 0) (content l) ≡ H.Go q) × (((q ≡ met-none 0) × Keeps ls) ⊎ (¬ (q .form ≡ 0) × Follows q ls))
     by true s (inl e) = (met-none 0, silent-step (met-none 0) l ok s, inl (refl, record { clean = every-tail (k .clean); rules = inl (sym (spoken-not l ls s) ∙ e) }))
-    by true s (inr g) =
-        (met-none 0, silent-step (met-none 0) l ok s,
-        inl (refl, record { clean = every-tail (k .clean); rules = inr (record { first = g .first; others = g .others; order = sym (spoken-not l ls s) ∙ g .order; mode = g .mode; form = g .form; each = g .each; at-most-once = g .at-most-once }) }))
+    by true s (inr g) = (
+      met-none 0,
+      silent-step (met-none 0) l ok s,
+      inl (refl, record { clean = every-tail (k .clean); rules = inr (record { first = g .first; others = g .others; order = sym (spoken-not l ls s) ∙ g .order; mode = g .mode; form = g .form; each = g .each; at-most-once = g .at-most-once }) }),
+    )
     by false s (inl e) = let z = spoken-so l ls s in absurd (false≢true (cc))
     by false s (inr g) =
         let o = g .order in
@@ -219,11 +224,19 @@ starts-go l ls k = by (silent l) refl (k .rules)
         let a : g .first ≡ l = cc in
         let b : g .others ≡ spoken ls = cc in
         let c : command (content l) ≡ Mod = rw a at (g .mode) in
-        let d : ¬ (mod-form (fields-of l) ≡ 0) = rw a at (g .form) in
-        (met-none (mod-form (fields-of l)), first-line (met-none 0) l refl ok s ∙ rw (c, ne-eqb (mod-form (fields-of l)) 0 d), inr (d,
-        record { clean = every-tail (k .clean); each = rw (a, b) at (g .each);
-          once = every-from followers (λ j i. let x : Every (λ k. times k (spoken ls) ≤ 1) followers = rw b at (g .at-most-once) in
-              let y = every-at followers x i in let w = every-at followers (none-met (mod-form (fields-of l))) i in omega arith) }))
+        let d : ¬ (mod-form (fields-of l) ≡ 0) = rw a at (g .form) in (
+          met-none (mod-form (fields-of l)),
+          first-line (met-none 0) l refl ok s ∙ rw (c, ne-eqb (mod-form (fields-of l)) 0 d),
+          inr (
+            d,
+            record {
+              clean = every-tail (k .clean);
+              each = rw (a, b) at (g .each);
+              once = every-from followers (λ j i. let x : Every (λ k. times k (spoken ls) ≤ 1) followers = rw b at (g .at-most-once) in
+                  let y = every-at followers x i in let w = every-at followers (none-met (mod-form (fields-of l))) i in omega arith);
+            },
+          ),
+        )
 
 mod-goes : (q : Met) (k : ℕ) (fs : List Bytes) → mod-step k fs ≡ H.Go q → (k ≡ Mod) × (¬ (mod-form fs ≡ 0)) × (q ≡ met-none (mod-form fs))
 unfolding mod-step head-choose
@@ -348,12 +361,13 @@ tally-go m {q} l ls n e = by (silent l) refl
     by : (b : Bool) → silent l ≡ b → (¬ (q .form ≡ 0)) × Every (λ j. tally j q + times j (spoken ls) ≡ tally j m + times j (spoken (l ∷ ls))) followers
     by true s = let g = silent-step m l ok s in let z : q ≡ m = cc in (rw z n, rw (z, spoken-not l ls s) (every-from followers (λ j i. refl)))
     by false s =
-        let g = goes-other m q (command (content l)) (fields-of l) (sym (other-line m l n ok s) ∙ e) in
-        ((λ h. n (sym (ap (λ (x : Met). x .form) (g .2)) ∙ h)),
-        rw (g .2, spoken-so l ls s) (every-from followers (λ j i.
-            let a = every-at followers (tallies (command (content l)) m (g .0)) i in
-            let c = times-more j l (spoken ls) in
-            omega arith)))
+        let g = goes-other m q (command (content l)) (fields-of l) (sym (other-line m l n ok s) ∙ e) in (
+          (λ h. n (sym (ap (λ (x : Met). x .form) (g .2)) ∙ h)),
+          rw (g .2, spoken-so l ls s) (every-from followers (λ j i.
+              let a = every-at followers (tallies (command (content l)) m (g .0)) i in
+              let c = times-more j l (spoken ls) in
+              omega arith)),
+        )
 
 -- the line `mod` counts nothing yet
 pub mod-go : {q : Met} (l : Bytes) (ls : List Bytes) → head-step (met-none 0) (content l) ≡ H.Go q →

@@ -55,9 +55,11 @@ module _ (latin : Bool) where
       by : (b : Bool) → is-ended p ≡ b → (j : ℕ) × (n ≡ j + m) × From latin p [] k v j
       by true h = absurd (z (sym (ap (λ (o : Outcome). o .verdict) e) ∙ finish-sound p m h))
       by false h =
-          let f : refused (table-in p) 6 m ≡ refused k v n = sym (finish-six p m h) ∙ e in
-          (0, sym (ap (λ (o : Outcome). o .line) f) ∙ sym (zero-add m),
-          nowhere p stay h (sym (ap (λ (o : Outcome). o .table) f)) (sym (ap (λ (o : Outcome). o .verdict) f)) refl)
+          let f : refused (table-in p) 6 m ≡ refused k v n = sym (finish-six p m h) ∙ e in (
+            0,
+            sym (ap (λ (o : Outcome). o .line) f) ∙ sym (zero-add m),
+            nowhere p stay h (sym (ap (λ (o : Outcome). o .table) f)) (sym (ap (λ (o : Outcome). o .verdict) f)) refl,
+          )
   into p m (l ∷ ls) k v n z e = by (λ q. into q (suc m) ls k v n z) (step latin p l) refl e
     where
       by : ((q : Phase) → run latin q (suc m) ls ≡ refused k v n → (j : ℕ) × (n ≡ j + suc m) × From latin q ls k v j) → (s : Step) → step latin p l ≡ s →

@@ -64,8 +64,14 @@ leads-go {l = l} (atr {t} h) = rw (known-step Atr (h .says) (omega arith) (P.Atr
 leads-go {l = l} (frm {t} h) = rw (known-step Frm (h .says) (omega arith) (P.Frm t), tested (formats-d (standing t) (fields-of l)) (h .formats))
 leads-go (mark {t} {m} {n} {i} h) = rw (known-step Com (h .says) (omega arith) (P.Rows t m n), h .reads, tested (rises-d t i m) (h .may, h .rises))
 leads-go {l = l} (record-line {t} {m} {n} h) =
-    rw (known-step Rec (h .says) (omega arith) (P.Rows t m n), tested (equal (length (fields-of l)) (length (standing t))) (values-length (h .fields)), fields-right (h .fields),
-    untested (points-d t m (h .fields)) (h .points), untested (empty-d m (h .fields)) (h .filled), add-one)
+    rw (
+      known-step Rec (h .says) (omega arith) (P.Rows t m n),
+      tested (equal (length (fields-of l)) (length (standing t))) (values-length (h .fields)),
+      fields-right (h .fields),
+      untested (points-d t m (h .fields)) (h .points),
+      untested (empty-d m (h .fields)) (h .filled),
+      add-one,
+    )
 leads-go (end {t} {n} h) = rw (known-step End (h .says) (omega arith) (P.Rows t 0 n), h .alone, h .reads, tested (equal n n) refl)
 
 -- a line leads from one phase to another exactly if the grammar says so

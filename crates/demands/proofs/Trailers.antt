@@ -82,8 +82,11 @@ module _ (n : ℕ) where
       by true (holds h) (inl e) =
           inl (record { first = l; others = ls; split = refl; clean = h .clean; count = h .count; alone = h .alone; reads = h .reads; silent = e }, all-blank-sound 1 e)
       by true (holds h) (inr x) =
-          inr (suc (suc (length (x .0))), not-blank l (x .1) (x .0) (x .2) (ap (λ (z : List Bytes). l ∷ z) (x .3)) h (x .4) (x .5) refl,
-          rw (x .3) (all-blank-stop 1 (x .1) (x .2) (x .4) (x .5) ∙ ap (finding 3) (omega arith)))
+          inr (
+            suc (suc (length (x .0))),
+            not-blank l (x .1) (x .0) (x .2) (ap (λ (z : List Bytes). l ∷ z) (x .3)) h (x .4) (x .5) refl,
+            rw (x .3) (all-blank-stop 1 (x .1) (x .2) (x .4) (x .5) ∙ ap (finding 3) (omega arith)),
+          )
 
   sound-gives : (ls : List Bytes) → SoundTrailer n ls → trailer-of n ls ≡ finding 0 0
   unfolding trailer-of
