@@ -8,10 +8,11 @@ use native.Mathlib.Omega.{arith}
 use lib.Dec.{leb}
 use lib.ListN.{length, getD, take, drop, List·getD-map, List·getD-eq-default}
 use borrow.Author.Tests.{leb-true}
-use Rattle.page.specs.Bytes.{Bytes, bytes, same}
+use Rattle.page.specs.Bytes.{bytes, same}
 use Rattle.page.specs.Lines.{joined, find}
 use Rattle.page.specs.Tables.{Named, Table, all-tables, no-table, table-at, name-at}
-use Rattle.page.proofs.NameLaws.{and-true, below, below-at, same-is}
+use Rattle.page.proofs.NameLaws.{below, below-at}
+use Rattle.page.proofs.TestLaws.{and-left, and-right, same-true}
 use Rattle.page.proofs.TableLaws.{fill, array, name-entry, each-of-eight}
 use Rattle.names.specs.Words.{words, word, row, Reads}
 
@@ -30,21 +31,29 @@ starts = starts-from 0 words
 abbrev start : ℕ → ℕ
 start n = getD starts n 0
 
+in-order : ℕ → Bool
+in-order n = leb (start n) (start (n + 1)) && leb (start (n + 1)) (length row)
+
+reads : ℕ → Bool
+reads n = same (take (start (n + 1) - start n) (drop (start n) row)) (bytes (word n))
+
 stands : ℕ → Bool
-stands n =
-    leb (start n) (start (n + 1)) && leb (start (n + 1)) (length row)
-    && same (take (start (n + 1) - start n) (drop (start n) row)) (bytes (word n))
+stands n = in-order n && reads n
 
 all-stand : below stands 28 ≡ true
-unfolding stands below starts starts-from word words row joined bytes same
+unfolding stands in-order reads below starts starts-from word words row joined bytes same
 all-stand = refl
 
 pub reads-word : (n : ℕ) → n < 28 → Reads (record { from = start n; to = start (n + 1) }) (word n)
-unfolding stands
+unfolding stands in-order reads
 reads-word n h =
-    let a = and-true _ _ (below-at stands 28 all-stand n h) in
-    let b = and-true _ _ (a .0) in
-    record { ordered = leb-true _ _ (b .0); within = leb-true _ _ (b .1); is = same-is _ _ (a .1) }
+    let a : (in-order n && reads n) ≡ true = below-at stands 28 all-stand n h in
+    let o = and-left (in-order n) (reads n) a in
+    record {
+      ordered = leb-true (start n) (start (n + 1)) (and-left (leb (start n) (start (n + 1))) (leb (start (n + 1)) (length row)) o);
+      within = leb-true (start (n + 1)) (length row) (and-right (leb (start n) (start (n + 1))) (leb (start (n + 1)) (length row)) o);
+      is = same-true _ _ (and-right (in-order n) (reads n) a);
+    }
 
 pub no-word : (n : ℕ) → 28 ≤ n → Reads (record { from = 0; to = 0 }) (word n)
 unfolding word words bytes

@@ -1,9 +1,9 @@
-// The names of the tables and of their columns.
+// The names of the tables and of their columns, and the lines that state a table's columns.
 ghost use mathlib.Core.Path.{_≡_};
 ghost use Rattle.page.specs.Bytes.{bytes, same};
-ghost use Rattle.page.specs.Tables.{table-at, columns, name-at, table-named};
+ghost use Rattle.page.specs.Tables.{table-at, columns, standing, name-at, table-named};
 ghost use Rattle.page.specs.Fields.{fields};
-ghost use Rattle.page.specs.Section.{names-same};
+ghost use Rattle.page.specs.Section.{names-same, formats-ok};
 ghost use Rattle.names.specs.Words.{word, Reads};
 use page::Span;
 use page::tables::TABLES;
@@ -85,6 +85,7 @@ const COLUMNS: [[usize; WIDEST]; TABLES] = [
     [1, 13, 18, 8, 14, 15, 16, 19],
 ];
 
+// The first of the tables' names.
 const FIRST_TITLE: usize = 20;
 
 // A name's place in NAMES.
@@ -164,6 +165,28 @@ pub fn names_match(w: &[u8], t: usize) -> bool
         }
         let e = lines::field_end(w, at);
         if !is_name(lines::trimmed(&w[at..e]), t, k) {
+            return false;
+        }
+        at = e + 1;
+        k += 1;
+    }
+    w.len() < at
+}
+
+// "`frm` with one format a column".
+pub fn formats_match(w: &[u8], t: usize) -> bool
+    ensures { λ r. ⌜ r ≡ formats-ok (standing t) (fields (now (w .entry))) ⌝ }
+{
+    let n = page::tables::find_width(t);
+    let mut k = 0;
+    let mut at = 0;
+    while k < n {
+        if w.len() < at {
+            return false;
+        }
+        let e = lines::field_end(w, at);
+        let c = page::tables::find_column(t, k);
+        if !fields::is_format(lines::trimmed(&w[at..e]), c.text) {
             return false;
         }
         at = e + 1;

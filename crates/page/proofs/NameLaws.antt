@@ -1,23 +1,18 @@
--- Bytes that are the same, and a word's place in a list of names. Assumes nothing.
+-- A word's place in a list of names. Assumes nothing.
 use mathlib.Core.Path.{_≡_, refl, sym}
 use mathlib.Core.Logic.{⊎-elim}
-use mathlib.Core.Bool.{Bool, true, false, false≢true, _&&_}
+use mathlib.Core.Bool.{Bool, true, false, _&&_}
 use mathlib.Core.List.{List, [], _∷_}
 use Prim.Native.Nat.{ℕ, zero, suc, _+_, _-_, _<_, _≤_}
 use Prim.Native.String.{String, [] as ε}
 use native.Mathlib.Nat.{eq-or-lt-of-le, le-of-suc-le-suc}
 use native.Mathlib.Numerals.{add-one}
 use native.Mathlib.Omega.{arith}
-use lib.Dec.{eqb}
 use lib.ListN.{length, getD, drop, drop-of-length-le}
 use lib.Seq.{drop-cons}
-use borrow.Author.Tests.{eqb-true, eq-eqb}
 use Rattle.page.specs.Bytes.{Bytes, bytes, pick, same}
 use Rattle.page.specs.Lines.{find}
-
-pub and-true : (a b : Bool) → (a && b) ≡ true → (a ≡ true) × (b ≡ true)
-and-true true b e = (refl, e)
-and-true false b e = absurd (false≢true e)
+use Rattle.page.proofs.TestLaws.{and-left, and-right, same-true}
 
 -- a test that each number below n passes
 unfoldable pub below : (ℕ → Bool) → ℕ → Bool
@@ -28,22 +23,7 @@ pub below-at : (p : ℕ → Bool) (n : ℕ) → below p n ≡ true → (k : ℕ)
 unfolding below
 below-at p zero e k h = absurd (omega arith)
 below-at p (suc n) e k h =
-    let b = and-true (p n) (below p n) e in
-    ⊎-elim (λ (q : k ≡ n). rw q (b .0)) (λ (l : k < n). below-at p n (b .1) k l) (eq-or-lt-of-le (le-of-suc-le-suc h))
-
-pub same-is : (a b : Bytes) → same a b ≡ true → a ≡ b
-unfolding same
-same-is [] [] e = refl
-same-is [] (y ∷ b) e = absurd (false≢true e)
-same-is (x ∷ a) [] e = absurd (false≢true e)
-same-is (x ∷ a) (y ∷ b) e =
-    let p = and-true (eqb x y) (same a b) e in
-    λ i. eqb-true x y (p .0) i ∷ same-is a b (p .1) i
-
-pub same-refl : (a : Bytes) → same a a ≡ true
-unfolding same
-same-refl [] = refl
-same-refl (x ∷ a) = rw (eq-eqb x x refl) (same-refl a)
+    ⊎-elim (λ (q : k ≡ n). rw q (and-left (p n) (below p n) e)) (λ (l : k < n). below-at p n (and-right (p n) (below p n) e) k l) (eq-or-lt-of-le (le-of-suc-le-suc h))
 
 -- the place of a word in a list of names
 
@@ -69,7 +49,7 @@ found i (k ∷ ks) w h = go (same w (bytes k)) refl h (found (suc i) ks w)
         → bytes (getD (k ∷ ks) (pick b i (find (suc i) ks w) - i) ε) ≡ w
     go true e l further =
         let z : i - i ≡ 0 = omega arith in
-        rw z (sym (same-is w (bytes k) e))
+        rw z (sym (same-true w (bytes k) e))
     go false e l further =
         let z : find (suc i) ks w - i ≡ suc (find (suc i) ks w - suc i) = omega (arith, find-within (suc i) ks w) in
         rw z (further (omega arith))

@@ -2,7 +2,7 @@
 use mathlib.Core.Path.{_≡_, refl, ap, sym, _∙_}
 use mathlib.Core.Bool.{Bool, true, false, false≢true, not, _&&_, _||_}
 use mathlib.Core.List.{List, [], _∷_, map}
-use Prim.Native.Nat.{ℕ, zero, suc, _+_, _-_, _*_, _<_, _≤_}
+use Prim.Native.Nat.{ℕ, zero, suc, _-_, _<_, _≤_}
 use native.Mathlib.Nat.{lt-of-not-le}
 use native.Mathlib.Omega.{arith}
 use lib.Dec.{eqb, leb, ltb}
@@ -13,7 +13,8 @@ use Rattle.page.specs.Bytes.{Bytes, bytes, pick, same}
 use Rattle.page.specs.Lines.{find}
 use Rattle.page.specs.Tables.{Named, Table, all-tables, no-table, no-column, table-at, number-at, columns, width, column-at, name-at, standing, table-named}
 use Rattle.page.specs.Marks.{may-mark}
-use Rattle.page.proofs.NameLaws.{and-true, find-within, found}
+use Rattle.page.proofs.NameLaws.{find-within, found}
+use Rattle.page.proofs.TestLaws.{and-left, and-right}
 
 -- a list cut or filled up to n places
 unfoldable pub fill : {A : Type 0} → ℕ → A → List A → List A
@@ -72,8 +73,8 @@ each p (x ∷ xs) = p x && each p xs
 each-at : {A : Type 0} (p : A → Bool) (d : A) → p d ≡ true → (l : List A) → each p l ≡ true → (n : ℕ) → p (getD l n d) ≡ true
 unfolding each
 each-at p d h [] e n = h
-each-at p d h (x ∷ xs) e zero = and-true (p x) (each p xs) e .0
-each-at p d h (x ∷ xs) e (suc n) = each-at p d h xs (and-true (p x) (each p xs) e .1) n
+each-at p d h (x ∷ xs) e zero = and-left (p x) (each p xs) e
+each-at p d h (x ∷ xs) e (suc n) = each-at p d h xs (and-right (p x) (each p xs) e) n
 
 pub table-test : (p : Table → Bool) → p no-table ≡ true → each p all-tables ≡ true → (t : ℕ) → p (table-at t) ≡ true
 unfolding table-at
@@ -182,18 +183,23 @@ one-fillable t k l e f =
     once-same (λ (c : Named). c .column .fillable) no-column refl (table-at t .columns)
     (table-test (λ (x : Table). once (λ (c : Named). c .column .fillable) (x .columns)) refl refl t) k l e f
 
+mark-parts : (t i : ℕ) → may-mark t i ≡ true → (1 ≤ i) × (column-at t (i - 1) .fillable ≡ true)
+mark-parts t i e =
+    let b : (leb 1 i && column-at t (i - 1) .fillable) ≡ true = sym (may-mark-column t i) ∙ e in
+    (leb-true 1 i (and-left (leb 1 i) (column-at t (i - 1) .fillable) b), and-right (leb 1 i) (column-at t (i - 1) .fillable) b)
+
 pub one-markable : (t i j : ℕ) → may-mark t i ≡ true → may-mark t j ≡ true → i ≡ j
 one-markable t i j e f =
-    let a = and-true (leb 1 i) (column-at t (i - 1) .fillable) (sym (may-mark-column t i) ∙ e) in
-    let b = and-true (leb 1 j) (column-at t (j - 1) .fillable) (sym (may-mark-column t j) ∙ f) in
+    let a = mark-parts t i e in
+    let b = mark-parts t j f in
     let k : i - 1 ≡ j - 1 = one-fillable t (i - 1) (j - 1) (a .1) (b .1) in
-    omega (arith, leb-true 1 i (a .0), leb-true 1 j (b .0))
+    omega arith
 
 pub may-mark-within : (t i : ℕ) → may-mark t i ≡ true → (1 ≤ i) × (i ≤ width t) × (t < 8)
 may-mark-within t i e =
-    let a = and-true (leb 1 i) (column-at t (i - 1) .fillable) (sym (may-mark-column t i) ∙ e) in
+    let a = mark-parts t i e in
     let w = fillable-within t (i - 1) (a .1) in
-    (leb-true 1 i (a .0), omega (arith, leb-true 1 i (a .0)), w .1)
+    (a .0, omega arith, w .1)
 
 -- the eight tables, one by one
 pub each-of-eight : (P : ℕ → Type 0) → P 0 → P 1 → P 2 → P 3 → P 4 → P 5 → P 6 → P 7 → (t : ℕ) → t < 8 → P t

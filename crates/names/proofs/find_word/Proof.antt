@@ -1,9 +1,6 @@
-use mathlib.Core.Path.{refl, sym}
-use native.Mathlib.Omega.{arith}
 use borrow.Author.Needs.{needs}
-use lib.ListN.{List·getD-eq-default}
 use Rattle.page.specs.Bytes.{bytes}
-use Rattle.names.specs.Words.{words, word, Reads}
+use Rattle.names.specs.Words.{words}
 use Rattle.names.proofs.WordLaws.{starts, starts-from, reads-word, no-word}
 use Rattle.names.proofs.find_word.Statement.{statement}
 use Rattle.names.proofs.find_word.Tie as tie
