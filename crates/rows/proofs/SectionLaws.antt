@@ -44,13 +44,13 @@ record Here (s : Bytes) (at : ℕ) (xs : List Section) : Type 0 where
   begins : Begins s at
   are : sections-from s at ≡ xs
 
-abbrev size : Bytes → ℕ → ℕ
-size s at = line-size (drop at s)
-
 abbrev Rest : Bytes → List Section → ℕ → Type 0
 Rest s xs k = Here s (getD xs k no-section .place) (drop k xs)
 
--- the section at a place, and one after it
+abbrev Each : Bytes → List Section → Type 0
+Each s xs = (k : ℕ) → k < length xs → Rest s xs k
+
+-- from a line on, if from the next line on
 module _ (s : Bytes) (at : ℕ) (h : at < length s) where
   abbrev e : ℕ
   e = at + line-size (drop at s)
@@ -63,8 +63,7 @@ module _ (s : Bytes) (at : ℕ) (h : at < length s) where
       let n : at + line-size (drop at s) - at ≡ line-size (drop at s) = omega arith in
       ap (λ (k : ℕ). take k (drop at s)) n
 
-  table-rest : begins-table line-here ≡ true → ((k : ℕ) → k < length (sections-from s e) → Rest s (sections-from s e) k)
-      → (k : ℕ) → k < length (sections-from s at) → Rest s (sections-from s at) k
+  table-rest : begins-table line-here ≡ true → Each s (sections-from s e) → Each s (sections-from s at)
   table-rest x r zero l =
       let p : getD (sections-from s at) 0 no-section .place ≡ at = rw (sections-table s at e h refl x) in
       rw p (record { begins = record { within = h; table = rw is-line at x }; are = refl })
@@ -72,25 +71,22 @@ module _ (s : Bytes) (at : ℕ) (h : at < length s) where
       let n : k < length (sections-from s e) = omega (arith, ap length (sections-table s at e h refl x)) in
       rw (sections-table s at e h refl x) (r k n)
 
-  other-rest : begins-table line-here ≡ false → ((k : ℕ) → k < length (sections-from s e) → Rest s (sections-from s e) k)
-      → (k : ℕ) → k < length (sections-from s at) → Rest s (sections-from s at) k
+  other-rest : begins-table line-here ≡ false → Each s (sections-from s e) → Each s (sections-from s at)
   other-rest x r = rw (sections-other s at e h refl x) r
 
-  line-rest : ((k : ℕ) → k < length (sections-from s e) → Rest s (sections-from s e) k)
-      → (k : ℕ) → k < length (sections-from s at) → Rest s (sections-from s at) k
+  line-rest : Each s (sections-from s e) → Each s (sections-from s at)
   line-rest r = by (begins-table line-here) refl
     where
-      by : (b : Bool) → begins-table line-here ≡ b → (k : ℕ) → k < length (sections-from s at) → Rest s (sections-from s at) k
+      by : (b : Bool) → begins-table line-here ≡ b → Each s (sections-from s at)
       by true x = table-rest x r
       by false x = other-rest x r
 
--- each of the sections from a place on, by its own place
-all-rest : (s : Bytes) (f at : ℕ) → length s - at < f → (k : ℕ) → k < length (sections-from s at) → Rest s (sections-from s at) k
+-- each of the sections from a place on, by its own place; f is more than the bytes that are left
+all-rest : (s : Bytes) (f at : ℕ) → length s - at < f → Each s (sections-from s at)
 all-rest s zero at n k l = absurd (omega arith)
 all-rest s (suc f) at n k l = by (all-rest s f) (ltb at (length s)) refl k l
   where
-    by : ((e : ℕ) → length s - e < f → (k : ℕ) → k < length (sections-from s e) → Rest s (sections-from s e) k)
-        → (b : Bool) → ltb at (length s) ≡ b → (k : ℕ) → k < length (sections-from s at) → Rest s (sections-from s at) k
+    by : ((e : ℕ) → length s - e < f → Each s (sections-from s e)) → (b : Bool) → ltb at (length s) ≡ b → Each s (sections-from s at)
     by r true x k l =
         let h = ltb-true at (length s) x in
         let i = line-in s at (at + line-size (drop at s)) h refl in
