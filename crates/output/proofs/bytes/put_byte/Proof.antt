@@ -1,17 +1,8 @@
-use Rattle.output.specs.Put.{Put}
-use lib.Seq.{set-out}
-use Prim.Native.Nat.{ℕ, suc, _+_, _-_, _*_, _<_, _≤_}
-use mathlib.Core.Path.{_≡_, refl, ap, sym, _∙_}
-use mathlib.Core.Logic.{⊎-elim}
-use mathlib.Core.Bool.{Bool, true, false}
-use native.Mathlib.Omega.{arith}
-use borrow.Author.Tests.{lt-ltb, le-ltb, le-leb, lt-leb, eq-eqb, ne-eqb}
-use lib.ListN.{length, getD, take, drop}
+use mathlib.Core.Path.{refl, sym}
 use borrow.Author.Needs.{needs}
+use lib.Seq.{set-out}
 use Rattle.output.proofs.bytes.put_byte.Statement.{statement}
 use Rattle.output.proofs.bytes.put_byte.Tie as tie
-use Rattle.output.proofs.bytes.put_byte.Reads as reads
-use Rattle.output.proofs.bytes.put_byte.Lts as lts
 
 slice-write-out : tie.Need-slice-write-out
 slice-write-out c = search needs

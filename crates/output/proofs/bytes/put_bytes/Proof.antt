@@ -1,18 +1,9 @@
-use lib.ListN.{drop-of-length-le}
-use Rattle.output.proofs.PutLaws.{Todo, begin, next-by, at-end, first-of, same}
-use borrow.Author.Needs.{needs}
-use Prim.Native.Nat.{ℕ, suc, _+_, _-_, _*_, _<_, _≤_}
-use mathlib.Core.Path.{_≡_, refl, ap, sym, _∙_}
-use mathlib.Core.Logic.{⊎-elim}
-use mathlib.Core.Bool.{Bool, true, false}
+use Prim.Native.Nat.{_-_, _≤_}
 use native.Mathlib.Omega.{arith}
-use borrow.Author.Tests.{lt-ltb, le-ltb, le-leb, lt-leb, eq-eqb, ne-eqb}
-use lib.ListN.{length, getD, take, drop}
+use lib.ListN.{drop-of-length-le, length, drop}
+use Rattle.output.proofs.PutLaws.{Todo, begin, next-by, at-end, first-of, same}
 use Rattle.output.proofs.bytes.put_bytes.Statement.{statement}
 use Rattle.output.proofs.bytes.put_bytes.Tie as tie
-use Rattle.output.proofs.bytes.put_bytes.Reads as reads
-use Rattle.output.proofs.bytes.put_bytes.Lts as lts
-use Rattle.output.proofs.bytes.put_byte.Reads as put-byte-reads
 
 abbrev Inv-loop : tie.InvT-loop
 Inv-loop out₀ at s o₀ i₀ out o i = (i ≤ length s) × Todo out₀ at s out o (drop i s)
