@@ -64,8 +64,3 @@ links more =
 unfoldable pub head : Bytes
 head =
     bytes "mod; DD.MM.YYYY; HH:MM:SS; free\nsrc; \"Desk\"; \"01.02.2024\"; \"06:00:00\"\nchs; \"ISO8859-1\"\nver; \"1\"\nifv; \"1.0\"\n"
-
--- a file with this header
-unfoldable pub file : List Bytes → Bytes
-file [] = head
-file (x ∷ xs) = file xs ++ x

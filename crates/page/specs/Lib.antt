@@ -18,6 +18,7 @@ pub mod Model
 pub mod Form
 pub mod Writing
 pub mod Listing
+pub mod Handing
 pub mod Open
 pub mod Cases
 pub mod Fourteen
@@ -25,3 +26,4 @@ pub mod Sample
 pub mod Grammar
 pub mod Rules
 pub mod Refusals
+pub mod Settled

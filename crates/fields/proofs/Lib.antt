@@ -1,0 +1,4 @@
+pub mod MagnitudeLaws
+pub mod SizeLaws
+pub mod ColumnLaws
+pub mod FormatLaws

@@ -1,0 +1,109 @@
+// A line's command.
+ghost use mathlib.Core.Path.{_≡_};
+ghost use Prim.Native.Nat.{_<_};
+ghost use Rattle.page.specs.Lines.{find, known, Mod, command, clean};
+ghost use Rattle.page.specs.Cut.{begins-table, begins-end};
+ghost use Rattle.lines.specs.Commands.{key-of, find-key};
+use crate::ATR;
+use crate::CHS;
+use crate::COM;
+use crate::DVE;
+use crate::END;
+use crate::EOF;
+use crate::FFT;
+use crate::FRM;
+use crate::IFV;
+use crate::MISSING;
+use crate::MOD;
+use crate::REC;
+use crate::SRC;
+use crate::TBL;
+use crate::UNKNOWN;
+use crate::VER;
+use crate::content::all_allowed;
+use crate::content::content_of;
+use crate::content::find_semicolon;
+use crate::scan::trimmed;
+
+fn wide(b: u8) -> u32
+    ensures { λ r. ⌜ (r ≡ b) × (r < 256) ⌝ }
+{
+    b as u32
+}
+
+// A name's three bytes as one number.
+fn pack(a: u8, b: u8, c: u8) -> u32
+    ensures { λ r. ⌜ r ≡ key-of a b c ⌝ }
+{
+    (wide(a) * 256 + wide(b)) * 256 + wide(c)
+}
+
+// "Known commands: mod src chs ver ifv dve fft tbl atr frm rec end com eof."
+fn by_key(k: u32) -> u32
+    ensures { λ r. ⌜ r ≡ find-key Mod known k ⌝ }
+{
+    match k {
+        0x6d6f64 => MOD,
+        0x737263 => SRC,
+        0x636873 => CHS,
+        0x766572 => VER,
+        0x696676 => IFV,
+        0x647665 => DVE,
+        0x666674 => FFT,
+        0x74626c => TBL,
+        0x617472 => ATR,
+        0x66726d => FRM,
+        0x726563 => REC,
+        0x656e64 => END,
+        0x636f6d => COM,
+        0x656f66 => EOF,
+        _ => UNKNOWN,
+    }
+}
+
+// The place of a name among the known commands.
+fn find_name(w: &[u8]) -> u32
+    ensures { λ r. ⌜ r ≡ find Mod known (now (w .entry)) ⌝ }
+{
+    if w.len() != 3 {
+        return UNKNOWN;
+    }
+    let a = w[0];
+    let b = w[1];
+    let c = w[2];
+    by_key(pack(a, b, c))
+}
+
+// "The command is what stands before the first `;`, spaces trimmed."
+pub fn command_of(c: &[u8]) -> u32
+    ensures { λ r. ⌜ r ≡ command (now (c .entry)) ⌝ }
+{
+    let i = find_semicolon(c);
+    if i < c.len() {
+        return find_name(trimmed(&c[..i]));
+    }
+    MISSING
+}
+
+// "Also every byte 161..255 in `rec` lines under ISO8859-1."
+pub fn is_clean(c: &[u8], latin: bool) -> bool
+    ensures { λ r. ⌜ r ≡ clean latin (now (c .entry)) ⌝ }
+{
+    if latin {
+        let k = command_of(c);
+        return all_allowed(c, k == REC);
+    }
+    all_allowed(c, false)
+}
+
+pub fn begins_table(l: &[u8]) -> bool
+    ensures { λ r. ⌜ r ≡ begins-table (now (l .entry)) ⌝ }
+{
+    command_of(content_of(l)) == TBL
+}
+
+pub fn begins_end(l: &[u8]) -> bool
+    ensures { λ r. ⌜ r ≡ begins-end (now (l .entry)) ⌝ }
+{
+    command_of(content_of(l)) == EOF
+}

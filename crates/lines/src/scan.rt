@@ -1,0 +1,66 @@
+// Scans over bytes.
+ghost use mathlib.Core.Path.{_≡_};
+ghost use Rattle.page.specs.Bytes.{same, until, keep, space, no-space, trimOf, trim};
+use page::Span;
+
+pub fn equal(a: &[u8], b: &[u8]) -> bool
+    ensures { λ r. ⌜ r ≡ same (now (a .entry)) (now (b .entry)) ⌝ }
+{
+    if a.len() != b.len() {
+        return false;
+    }
+    let mut i = 0;
+    while i < a.len() {
+        if a[i] != b[i] {
+            return false;
+        }
+        i += 1;
+    }
+    true
+}
+
+// How many spaces stand at the front.
+pub fn spaces(s: &[u8]) -> usize
+    ensures { λ r. ⌜ r ≡ until no-space (now (s .entry)) ⌝ }
+{
+    let mut i = 0;
+    while i < s.len() {
+        if s[i] != 32 {
+            return i;
+        }
+        i += 1;
+    }
+    i
+}
+
+// How many bytes are left without the spaces at the end.
+pub fn kept(s: &[u8]) -> usize
+    ensures { λ r. ⌜ r ≡ keep space (now (s .entry)) ⌝ }
+{
+    let mut t = s.len();
+    while 0 < t {
+        let last = t - 1;
+        if s[last] != 32 {
+            return t;
+        }
+        t = last;
+    }
+    0
+}
+
+pub fn trim(s: &[u8]) -> Span
+    ensures { λ r. ⌜ r ≡ trimOf (now (s .entry)) ⌝ }
+{
+    let to = kept(s);
+    let from = spaces(&s[..to]);
+    Span { from: from, to: to }
+}
+
+pub fn trimmed(s: &[u8]) -> &[u8]
+    ensures { λ r. ⌜ now r ≡ trim (now (s .entry)) ⌝ }
+{
+    let sp = trim(s);
+    let a = sp.from;
+    let e = sp.to;
+    &s[a..e]
+}

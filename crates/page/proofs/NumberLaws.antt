@@ -1,0 +1,88 @@
+-- Digits and numbers: the laws of `digit`, `value` and `digits` at a place, and how large a value can be.
+-- Assumes nothing.
+use mathlib.Core.Path.{_≡_, sym, ap, _∙_}
+use mathlib.Core.Bool.{true, false, _&&_}
+use mathlib.Core.List.{[], _∷_}
+use Prim.Native.Nat.{ℕ, suc, _+_, _-_, _*_, _^_, _<_, _≤_}
+use native.Mathlib.Numerals.{add-one}
+use native.Mathlib.Nat.{pow-suc, pow-succ', pow-le-pow-right, mul-assoc, mul-le-mul-right, lt-of-lt-of-le}
+use native.Mathlib.Omega.{arith}
+use borrow.Author.Tests.{leb-true, le-leb, lt-leb}
+use lib.ListN.{length, getD, drop, drop-of-length-le}
+use lib.Dec.{leb, lit<}
+use lib.Seq.{drop-cons}
+use Rattle.page.specs.Bytes.{Bytes, all}
+use Rattle.page.specs.Fields.{digit, value, digits}
+use Rattle.page.proofs.TestLaws.{and-left, and-right}
+
+module _ (s : Bytes) (i v : ℕ) where
+  pub value-more : i < length s → value v (drop i s) ≡ value (v * 10 + (getD s i 0 - 48)) (drop (i + 1) s)
+  unfolding value
+  value-more h = rw (add-one, drop-cons s i 0 h)
+
+  pub value-end : length s ≤ i → value v (drop i s) ≡ v
+  unfolding value
+  value-end h = rw (drop-of-length-le s h)
+
+pub digit-range : (b : ℕ) → digit b ≡ true → (48 ≤ b) × (b ≤ 57)
+unfolding digit
+digit-range b e = (leb-true 48 b (and-left (leb 48 b) (leb b 57) e), leb-true b 57 (and-right (leb 48 b) (leb b 57) e))
+
+-- `digits` by its three parts
+module _ (ds : Bytes) where
+  pub digits-none : length ds ≡ 0 → digits ds ≡ false
+  unfolding digits
+  digits-none h = rw (lt-leb 1 (length ds) (omega arith))
+
+  pub digits-long : 18 < length ds → digits ds ≡ false
+  unfolding digits
+  digits-long h = rw (le-leb 1 (length ds) (omega arith), lt-leb (length ds) 18 h)
+
+  pub digits-short : 1 ≤ length ds → length ds ≤ 18 → digits ds ≡ all digit ds
+  unfolding digits
+  digits-short h k = rw (le-leb 1 (length ds) h, le-leb (length ds) 18 k)
+
+  pub digits-some : digits ds ≡ true → 1 ≤ length ds
+  unfolding digits
+  digits-some e =
+      leb-true 1 (length ds)
+      (and-left (leb 1 (length ds)) (leb (length ds) 18) (and-left (leb 1 (length ds) && leb (length ds) 18) (all digit ds) e))
+
+  pub digits-few : digits ds ≡ true → length ds ≤ 18
+  unfolding digits
+  digits-few e =
+      leb-true (length ds) 18
+      (and-right (leb 1 (length ds)) (leb (length ds) 18) (and-left (leb 1 (length ds) && leb (length ds) 18) (all digit ds) e))
+
+  pub digits-all : digits ds ≡ true → all digit ds ≡ true
+  unfolding digits
+  digits-all e = and-right (leb 1 (length ds) && leb (length ds) 18) (all digit ds) e
+
+pub ten-more : (i : ℕ) → 10 ^ (i + 1) ≡ 10 * 10 ^ i
+ten-more i =
+    let p : 10 ^ suc i ≡ 10 ^ i * 10 = pow-suc 10 i in
+    rw add-one (omega arith)
+
+pub ten-below : (i : ℕ) → i < 18 → 10 ^ i ≤ 10 ^ 17
+ten-below i h =
+    let le : i ≤ 17 = omega arith in
+    pow-le-pow-right (lit< tt) le
+
+-- digits that follow what is worth n are worth less than n + 1 times 10 to their number
+pub value-lt : (ds : Bytes) (n : ℕ) → all digit ds ≡ true → value n ds < (n + 1) * 10 ^ length ds
+unfolding value all
+value-lt [] n e = omega arith
+value-lt (b ∷ bs) n e =
+    let r = digit-range b (and-left (digit b) (all digit bs) e) in
+    let ih = value-lt bs (n * 10 + (b - 48)) (and-right (digit b) (all digit bs) e) in
+    let up : n * 10 + (b - 48) + 1 ≤ (n + 1) * 10 = omega arith in
+    let m : (n * 10 + (b - 48) + 1) * 10 ^ length bs ≤ (n + 1) * 10 * 10 ^ length bs = mul-le-mul-right (10 ^ length bs) up in
+    let p : (n + 1) * 10 ^ suc (length bs) ≡ (n + 1) * 10 * 10 ^ length bs =
+    ap (λ (k : ℕ). (n + 1) * k) (pow-succ' 10 (length bs)) ∙ sym (mul-assoc (n + 1) 10 (10 ^ length bs)) in
+    rw p (lt-of-lt-of-le ih m)
+
+-- what 1 to 18 digits are worth
+pub digits-value : (ds : Bytes) → digits ds ≡ true → value 0 ds < 10 ^ 18
+digits-value ds e =
+    let b : 10 ^ length ds ≤ 10 ^ 18 = pow-le-pow-right (lit< tt) (digits-few ds e) in
+    omega (arith, value-lt ds 0 (digits-all ds e))
