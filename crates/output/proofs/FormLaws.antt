@@ -3,11 +3,12 @@ use mathlib.Core.Path.{_≡_, refl, ap, sym, _∙_}
 use mathlib.Core.Bool.{Bool, true, false, not}
 use mathlib.Core.List.{[], _∷_, _++_, append-assoc}
 use Prim.Native.Nat.{ℕ, zero, suc, _+_, _-_, _*_, _/_, _%_, _<_, _≤_}
+use native.Mathlib.Numerals.{add-one}
 use native.Mathlib.Omega.{arith}
 use borrow.Author.Tests.{lt-ltb, le-ltb, eq-eqb, ne-eqb, ltb-true, ltb-false}
 use lib.Dec.{ltb}
-use lib.Seq.{take-all, take-nil}
-use lib.ListN.{length, take, drop, length-append, length-take, length-drop, drop-of-length-le}
+use lib.Seq.{drop-cons, take-all, take-nil}
+use lib.ListN.{length, getD, take, drop, length-append, length-take, length-drop, drop-of-length-le}
 use Rattle.page.specs.Bytes.{Bytes, bytes, pick, part}
 use Rattle.page.specs.Fields.{quote}
 use Rattle.page.specs.Form.{decimal-in, decimal, padded, doubled, quoted, date-text, time-text, format-text}
@@ -17,7 +18,7 @@ use Rattle.page.specs.declared.Date.{Date}
 use Rattle.page.specs.declared.Time.{Time}
 use Rattle.page.specs.declared.Stated.{Stated}
 use Rattle.page.specs.declared.Stated.the-variants as St
-use Rattle.output.specs.Raw.{least, raw-text}
+use Rattle.output.specs.Raw.{least, undoubled, raw-text}
 
 -- texts
 
@@ -229,3 +230,35 @@ module _ (s : Bytes) (place : Span) (to from : ℕ) (t : to ≡ least (place .to
 
 pub part-length : (place : Span) (s : Bytes) → length (part place s) ≤ length s
 part-length place s = simp (length-take, length-drop) (omega arith)
+
+-- a text's own bytes
+
+module _ (met : Bool) (s : Bytes) (i : ℕ) (h : i < length s) where
+  pub undoubled-second : met ≡ true → undoubled met (drop i s) ≡ undoubled false (drop (i + 1) s)
+  unfolding undoubled
+  undoubled-second e = rw (e, add-one, drop-cons s i 0 h)
+
+  pub undoubled-first : met ≡ false → undoubled met (drop i s) ≡ (getD s i 0 ∷ []) ++ undoubled (quote (getD s i 0)) (drop (i + 1) s)
+  unfolding undoubled
+  undoubled-first e = rw (e, add-one, drop-cons s i 0 h)
+
+pub undoubled-end : (met : Bool) (s : Bytes) (i : ℕ) → length s ≤ i → undoubled met (drop i s) ≡ []
+unfolding undoubled
+undoubled-end met s i h = rw (drop-of-length-le s h)
+
+pub undoubled-length : (met : Bool) (s : Bytes) → length (undoubled met s) ≤ length s
+unfolding undoubled
+undoubled-length met [] = omega arith
+undoubled-length true (b ∷ s) = omega (arith, undoubled-length false s)
+undoubled-length false (b ∷ s) = omega (arith, undoubled-length (quote b) s)
+
+-- it undoes the doubling
+pub undoubled-doubled : (t : Bytes) → undoubled false (doubled t) ≡ t
+unfolding undoubled doubled
+undoubled-doubled [] = refl
+undoubled-doubled (b ∷ t) = by (quote b) refl (undoubled-doubled t)
+  where
+    by : (q : Bool) → quote b ≡ q → undoubled false (doubled t) ≡ t
+        → undoubled false (pick q (b ∷ b ∷ doubled t) (b ∷ doubled t)) ≡ b ∷ t
+    by true e h = simp (e, h)
+    by false e h = simp (e, h)

@@ -1,3 +1,4 @@
 pub mod PutLaws
 pub mod FormLaws
 pub mod LineLaws
+pub mod WriteLaws

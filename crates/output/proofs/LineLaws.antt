@@ -18,8 +18,8 @@ use Rattle.page.specs.declared.Stated.{Stated}
 use Rattle.page.specs.declared.Stated.the-variants as St
 use Rattle.page.specs.declared.Header.{Header}
 use Rattle.page.proofs.TextLaws.{text-between}
-use Rattle.output.specs.Raw.{raw-text, line-with, mod-line, text-line, src-line, chs-line, stated-line, head-raw}
-use Rattle.output.proofs.FormLaws.{decimal-length, date-length, time-length, raw-length, part-length, Plain, plain-append, plain-byte, plain-decimal, plain-padded, plain-quoted}
+use Rattle.output.specs.Raw.{undoubled, raw-text, line-with, mod-line, text-line, src-line, chs-line, stated-line, head-raw}
+use Rattle.output.proofs.FormLaws.{undoubled-doubled, decimal-length, date-length, time-length, raw-length, part-length, Plain, plain-append, plain-byte, plain-decimal, plain-padded, plain-quoted}
 
 pub line-end-length : length line-end ≤ 2
 unfolding line-end
@@ -147,6 +147,9 @@ raw-quoted t = refl
 
 pub raw-is : (f t : Bytes) → textOf f ≡ some t → raw-text (take (length f - 2) (drop 1 f)) ≡ quoted t
 raw-is f t e = ap raw-text (text-between f t e) ∙ raw-quoted t
+
+pub own-is : (f t : Bytes) → textOf f ≡ some t → undoubled false (take (length f - 2) (drop 1 f)) ≡ t
+own-is f t e = ap (undoubled false) (text-between f t e) ∙ undoubled-doubled t
 
 -- A header by places says what a header by values says, where each text's bytes in the file are the text with its quotes doubled.
 pub data Same-stated (s : Bytes) : Stated → Option Bytes → Type 0 where

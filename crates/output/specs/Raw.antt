@@ -1,9 +1,10 @@
 -- Texts as they stand in a file, and the lines that copy them.
-use mathlib.Core.Bool.{Bool}
+use mathlib.Core.Bool.{Bool, true, false}
 use mathlib.Core.List.{List, [], _∷_, _++_}
 use Prim.Native.Nat.{ℕ}
 use lib.Dec.{ltb}
 use Rattle.page.specs.Bytes.{Bytes, bytes, pick, part}
+use Rattle.page.specs.Fields.{quote}
 use Rattle.page.specs.Form.{separated, line-end, quoted, date-text, time-text, charset-name}
 use Rattle.page.specs.declared.Span.{Span}
 use Rattle.page.specs.declared.Date.{Date}
@@ -48,3 +49,9 @@ head-raw s h =
     (chs-line (h .latin) ++
     (text-line (bytes "ver") s (h .ver) ++
     (text-line (bytes "ifv") s (h .ifv) ++ (stated-line (bytes "dve") s (h .dve) ++ stated-line (bytes "fft") s (h .fft))))))
+
+-- a text's own bytes, of what stands between its quotes; `met`: the first of two quotes was just met
+unfoldable pub undoubled : Bool → Bytes → Bytes
+undoubled met [] = []
+undoubled true (b ∷ bs) = undoubled false bs
+undoubled false (b ∷ bs) = b ∷ undoubled (quote b) bs

@@ -4,6 +4,7 @@ mod bytes;
 mod heads;
 mod lines;
 mod numbers;
+mod own;
 mod room;
 mod texts;
 
@@ -21,6 +22,8 @@ pub use numbers::put_decimal;
 pub use numbers::put_format;
 pub use numbers::put_padded;
 pub use numbers::put_time;
+pub use own::hand_own;
+pub use own::put_own;
 pub use room::refuse_room;
 pub use texts::put_doubled;
 pub use texts::put_quoted;
