@@ -1,8 +1,9 @@
 // A text's own bytes: "a doubled quote inside stands for one".
 ghost use mathlib.Core.Path.{_≡_};
 ghost use mathlib.Core.Bool.{false};
-ghost use Prim.Native.Nat.{_+_, _<_, _^_};
+ghost use Prim.Native.Nat.{_+_, _<_, _≤_, _^_};
 ghost use lib.ListN.{length};
+ghost use Rattle.page.specs.File.{limit};
 ghost use Rattle.output.specs.Put.{Put, Wrote};
 ghost use Rattle.output.specs.Raw.{undoubled};
 use crate::bytes::put_byte;
@@ -33,7 +34,7 @@ pub fn put_own(out: &mut [u8], at: usize, raw: &[u8]) -> usize
 
 // The same into the front of `out`, whole or not at all.
 pub fn hand_own(out: &mut [u8], refusal: Refusal, raw: &[u8]) -> Written
-    requires { ⌜ length (now raw) < 2 ^ 62 ⌝ }
+    requires { ⌜ length (now raw) ≤ limit ⌝ }
     ensures { λ r. ⌜ Wrote refusal (undoubled false (now (raw .entry))) (now (out .entry)) (now (out .exit)) r ⌝ }
 {
     if refusal.number != 0 {
