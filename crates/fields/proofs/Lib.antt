@@ -2,3 +2,4 @@ pub mod MagnitudeLaws
 pub mod SizeLaws
 pub mod ColumnLaws
 pub mod FormatLaws
+pub mod PlaceLaws

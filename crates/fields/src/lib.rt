@@ -3,6 +3,7 @@ mod columns;
 mod formats;
 mod marks;
 mod numbers;
+mod places;
 mod texts;
 
 pub use columns::amount_of;

@@ -16,7 +16,7 @@ pub fn is_digit(b: u8) -> bool
     if b < 48 { false } else { b <= 57 }
 }
 
-fn widen(b: u8) -> u64
+pub fn widen(b: u8) -> u64
     ensures { λ r. ⌜ r ≡ b ⌝ }
 {
     b as u64

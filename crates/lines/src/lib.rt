@@ -2,6 +2,7 @@
 mod command;
 mod content;
 mod cursor;
+mod fields;
 mod scan;
 
 pub use command::begins_end;
@@ -17,10 +18,15 @@ pub use content::is_blank;
 pub use content::rest_of;
 pub use cursor::Cursor;
 pub use cursor::Line;
+pub use fields::count_fields;
+pub use fields::field_at;
+pub use fields::field_end;
+pub use fields::find_field;
 pub use scan::equal;
 pub use scan::kept;
 pub use scan::spaces;
 pub use scan::trim;
+pub use scan::trim_in;
 pub use scan::trimmed;
 
 // A command by its place among the known ones; then one that is not known, and none at all.

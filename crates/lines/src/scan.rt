@@ -1,6 +1,8 @@
 // Scans over bytes.
 ghost use mathlib.Core.Path.{_≡_};
-ghost use Rattle.page.specs.Bytes.{same, until, keep, space, no-space, trimOf, trim};
+ghost use Prim.Native.Nat.{_-_, _≤_};
+ghost use lib.ListN.{length, take, drop};
+ghost use Rattle.page.specs.Bytes.{same, until, keep, space, no-space, moved, trimOf, trim};
 use page::Span;
 
 pub fn equal(a: &[u8], b: &[u8]) -> bool
@@ -63,4 +65,18 @@ pub fn trimmed(s: &[u8]) -> &[u8]
     let a = sp.from;
     let e = sp.to;
     &s[a..e]
+}
+
+// What is left of a part without the spaces around it, in places of the whole.
+pub fn trim_in(s: &[u8], from: usize, to: usize) -> Span
+    requires { ⌜ (from ≤ to) × (to ≤ length (now s)) ⌝ }
+    ensures { λ r. ⌜ r ≡ moved from (trimOf (take (to - from) (drop from (now (s .entry))))) ⌝ }
+{
+    let t = trim(&s[from..to]);
+    let a = t.from;
+    let e = t.to;
+    Span {
+        from: from + a,
+        to: from + e,
+    }
 }

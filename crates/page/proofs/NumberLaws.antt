@@ -63,10 +63,8 @@ ten-more i =
     let p : 10 ^ suc i ≡ 10 ^ i * 10 = pow-suc 10 i in
     rw add-one (omega arith)
 
-pub ten-below : (i : ℕ) → i < 18 → 10 ^ i ≤ 10 ^ 17
-ten-below i h =
-    let le : i ≤ 17 = omega arith in
-    pow-le-pow-right (lit< tt) le
+pub ten-up : (i n : ℕ) → i ≤ n → 10 ^ i ≤ 10 ^ n
+ten-up i n h = pow-le-pow-right (lit< tt) h
 
 -- digits that follow what is worth n are worth less than n + 1 times 10 to their number
 pub value-lt : (ds : Bytes) (n : ℕ) → all digit ds ≡ true → value n ds < (n + 1) * 10 ^ length ds
@@ -84,5 +82,5 @@ value-lt (b ∷ bs) n e =
 -- what 1 to 18 digits are worth
 pub digits-value : (ds : Bytes) → digits ds ≡ true → value 0 ds < 10 ^ 18
 digits-value ds e =
-    let b : 10 ^ length ds ≤ 10 ^ 18 = pow-le-pow-right (lit< tt) (digits-few ds e) in
+    let b : 10 ^ length ds ≤ 10 ^ 18 = ten-up (length ds) 18 (digits-few ds e) in
     omega (arith, value-lt ds 0 (digits-all ds e))

@@ -9,7 +9,7 @@ use borrow.Author.Needs.{needs}
 use borrow.Author.Tests.{eq-eqb, ne-eqb, lt-ltb, le-ltb, le-leb, lt-leb}
 use lib.Dec.{eqb}
 use lib.ListN.{length, getD, take, drop, drop-of-length-le, length-take, length-drop}
-use lib.Seq.{drop-cons, take-suc, length-take-le}
+use lib.Seq.{drop-cons, take-suc, length-take-le, take-take, drop-drop}
 use Rattle.page.specs.declared.Span.{Span}
 use Rattle.page.specs.Bytes.{Bytes, pick, same, all, until, keep, kept-after, part, moved, space, no-space, trimOf, trim}
 
@@ -141,3 +141,22 @@ trim-length s =
     let k = trim-within s in
     let n : length (part (trimOf s) s) ≡ trimOf s .to - trimOf s .from = part-length (trimOf s .from) (trimOf s .to) s (k .1) in
     omega arith
+
+take-drop-take : (k a n : ℕ) (s : Bytes) → a + k ≤ n → take k (drop a (take n s)) ≡ take k (drop a s)
+take-drop-take k zero n s h = take-take k n s (omega arith)
+take-drop-take k (suc a) zero s h = absurd (omega arith)
+take-drop-take k (suc a) (suc n) [] h = refl
+take-drop-take k (suc a) (suc n) (b ∷ s) h = take-drop-take k a n s (omega arith)
+
+-- a part of a part is a part of the whole
+pub part-moved : (sp : Span) (at n : ℕ) (s : Bytes) → sp .from ≤ sp .to → sp .to ≤ n → part sp (take n (drop at s)) ≡ part (moved at sp) s
+part-moved sp at n s h k =
+    let e : at + sp .to - (at + sp .from) ≡ sp .to - sp .from = omega arith in
+    take-drop-take (sp .to - sp .from) (sp .from) n (drop at s) (omega arith) ∙ rw (drop-drop (sp .from) at s, e)
+
+pub trim-moved : (at n : ℕ) (s : Bytes) → at + n ≤ length s → trim (take n (drop at s)) ≡ part (moved at (trimOf (take n (drop at s)))) s
+unfolding trim
+trim-moved at n s h =
+    let x = trim-within (take n (drop at s)) in
+    let l : length (take n (drop at s)) ≡ n = length-take-le n (drop at s) (omega (arith, length-drop at s)) in
+    part-moved (trimOf (take n (drop at s))) at n s (x .0) (omega arith)

@@ -9,7 +9,7 @@ use lib.Dec.{lit<}
 use Rattle.page.specs.Bytes.{all}
 use Rattle.page.specs.Fields.{digit, value}
 use Rattle.fields.specs.Magnitudes.{magnitudeOf}
-use Rattle.page.proofs.NumberLaws.{value-more, value-end, digit-range, digits-none, digits-long, digits-short, ten-more, ten-below}
+use Rattle.page.proofs.NumberLaws.{value-more, value-end, digit-range, digits-none, digits-long, digits-short, ten-more, ten-up}
 use Rattle.page.proofs.ScanLaws.{all-more, all-not, all-end}
 use Rattle.fields.proofs.numbers.read_digits.Statement.{statement}
 use Rattle.fields.proofs.numbers.read_digits.Tie as tie
@@ -53,7 +53,7 @@ returns-3 c =
     rw (digits-short s some (c .before .before .before .before .before .if2 .left), l .inv .2, all-not digit s (l .i) (c .before .before .before .loop-test .taken) bad)
 
 mul-v : tie.Need-mul-v Inv-loop μ-loop
-mul-v c = omega (arith, ten-below (c .before .before .before .before .loop .i) (omega arith))
+mul-v c = omega (arith, ten-up (c .before .before .before .before .loop .i) 17 (omega arith))
 
 widen-requires : tie.Need-widen-requires Inv-loop μ-loop
 widen-requires c κs = search needs
@@ -62,7 +62,7 @@ sub-v : tie.Need-sub-v Inv-loop μ-loop
 sub-v c = omega (arith, in-range (c .before))
 
 add-v : tie.Need-add-v Inv-loop μ-loop
-add-v c = omega (arith, in-range (c .before), ten-below (c .before .before .before .before .before .loop .i) (omega arith))
+add-v c = omega (arith, in-range (c .before), ten-up (c .before .before .before .before .before .loop .i) 17 (omega arith))
 
 add-i : tie.Need-add-i Inv-loop μ-loop
 add-i c = search needs
