@@ -16,8 +16,6 @@ use Rattle.page.specs.declared.Span.{Span}
 use Rattle.page.specs.declared.Column.{Column}
 use Rattle.page.specs.declared.Date.{Date}
 use Rattle.page.specs.declared.Time.{Time}
-use Rattle.page.specs.declared.Stated.{Stated}
-use Rattle.page.specs.declared.Stated.the-variants as St
 use Rattle.output.specs.Raw.{least, undoubled, raw-text}
 
 -- texts

@@ -6,6 +6,7 @@ mod lines;
 mod numbers;
 mod own;
 mod room;
+mod tables;
 mod texts;
 
 pub use bytes::put_byte;
@@ -25,6 +26,7 @@ pub use numbers::put_time;
 pub use own::hand_own;
 pub use own::put_own;
 pub use room::refuse_room;
+pub use tables::put_table_head;
 pub use texts::put_doubled;
 pub use texts::put_quoted;
 pub use texts::put_raw_part;

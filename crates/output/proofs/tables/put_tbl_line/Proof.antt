@@ -1,0 +1,54 @@
+use Prim.Native.String.{String}
+use Rattle.output.proofs.TitleLaws.{tbl-is, title-length}
+use Rattle.page.specs.Bytes.{bytes}
+use Rattle.output.proofs.PutLaws.{puts, put-as, put-same}
+use Prim.Native.Nat.{ℕ, suc, _+_, _-_, _*_, _<_, _≤_}
+use mathlib.Core.Path.{_≡_, refl, ap, sym, _∙_}
+use mathlib.Core.Logic.{⊎-elim}
+use mathlib.Core.Bool.{Bool, true, false}
+use native.Mathlib.Omega.{arith}
+use borrow.Author.Tests.{lt-ltb, le-ltb, le-leb, lt-leb, eq-eqb, ne-eqb}
+use lib.ListN.{length, getD, take, drop}
+use borrow.Author.Needs.{needs}
+use Rattle.output.proofs.tables.put_tbl_line.Statement.{statement}
+use Rattle.output.proofs.tables.put_tbl_line.Tie as tie
+use Rattle.output.proofs.tables.put_tbl_line.Reads as reads
+use Rattle.output.proofs.tables.put_tbl_line.Lts as lts
+use Rattle.names.proofs.look_title.Reads as look-title-reads
+use Rattle.output.proofs.bytes.put_bytes.Reads as put-bytes-reads
+use Rattle.output.proofs.bytes.put_line_end.Reads as put-line-end-reads
+use Rattle.output.proofs.tables.put_word.Reads as put-word-reads
+
+slice-aggregate-put-bytes : tie.Need-slice-aggregate-put-bytes
+slice-aggregate-put-bytes c = search needs
+
+put-bytes-requires : tie.Need-put-bytes-requires
+put-bytes-requires c κs = search needs
+
+look-title-requires : tie.Need-look-title-requires
+look-title-requires c κs = search needs
+
+put-word-requires : tie.Need-put-word-requires
+put-word-requires c κs = search needs
+
+put-line-end-requires : tie.Need-put-line-end-requires
+put-line-end-requires c κs = omega (arith, title-length (c .before .before .before .before .before .before .before .before .before .before .before .before .args .t), ap (λ (w : String). length (bytes w)) (c .before .before .before .before .look-title .ensures))
+
+same-length : tie.Need-same-length
+same-length c = search needs
+
+returns : tie.Need-returns
+unfolding bytes
+returns c = put-as (tbl-is _ _ (c .before .before .before .before .before .before .before .look-title .ensures)) (puts (c .before .before .before .before .before .before .before .before .before .before .before .put-bytes .ensures) (puts (c .before .before .before .before .before .before .put-word .ensures) (c .before .before .put-line-end .ensures)))
+
+pub put-tbl-line-spec : {M : Type 1} → statement M
+put-tbl-line-spec =
+    tie.close
+    (tie.spec
+    slice-aggregate-put-bytes
+    put-bytes-requires
+    look-title-requires
+    put-word-requires
+    put-line-end-requires
+    same-length
+    returns)
