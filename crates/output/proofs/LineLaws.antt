@@ -1,16 +1,16 @@
 -- Laws of the written lines: what they are made of, and how long they are at most. Assumes nothing.
-use mathlib.Core.Path.{_≡_, refl, ap, sym, _∙_}
+use mathlib.Core.Path.{_≡_, refl, ap, _∙_}
 use mathlib.Core.Bool.{Bool, true, false}
 use mathlib.Core.List.{List, [], _∷_, _++_, append-nil, append-assoc}
 use mathlib.Core.Option.{Option, none, some}
-use Prim.Native.Nat.{ℕ, _+_, _*_, _-_, _<_, _≤_}
+use Prim.Native.Nat.{ℕ, _+_, _*_, _-_, _≤_}
 use Prim.Native.String.{String}
 use native.Mathlib.Omega.{arith}
 use lib.ListN.{length, take, drop, length-append}
-use Rattle.page.specs.Bytes.{Bytes, bytes, pick, part}
+use Rattle.page.specs.Bytes.{Bytes, bytes, part}
 use Rattle.page.specs.Fields.{textOf}
 use Rattle.page.specs.Head.{Head}
-use Rattle.page.specs.Form.{line-end, separated, line, decimal-in, decimal, doubled, quoted, date-text, time-text, charset-name, line-if, head-form, mark-line}
+use Rattle.page.specs.Form.{line-end, separated, line, decimal, doubled, quoted, date-text, time-text, charset-name, line-if, head-form, mark-line}
 use Rattle.page.specs.declared.Span.{Span}
 use Rattle.page.specs.declared.Date.{Date}
 use Rattle.page.specs.declared.Time.{Time}

@@ -1,9 +1,9 @@
 -- Laws of the lines that begin a section: their fields one by one, and how long they are at most, computed over the list of tables.
 -- Assumes nothing.
 use mathlib.Core.Path.{_≡_, refl, ap, sym, _∙_}
-use mathlib.Core.Bool.{Bool, true, false}
-use mathlib.Core.List.{List, [], _∷_, _++_, map, append-assoc, append-nil}
-use Prim.Native.Nat.{ℕ, suc, _+_, _<_, _≤_}
+use mathlib.Core.Bool.{Bool}
+use mathlib.Core.List.{List, [], _++_, map, append-assoc, append-nil}
+use Prim.Native.Nat.{ℕ, _+_, _<_, _≤_}
 use Prim.Native.String.{String}
 use native.Mathlib.Numerals.{add-one}
 use native.Mathlib.Omega.{arith}
@@ -12,7 +12,7 @@ use lib.Dec.{leb}
 use lib.ListN.{length, getD, drop, length-append, length-map, List·getD-map, drop-of-length-le}
 use lib.Seq.{drop-cons}
 use Rattle.page.specs.Bytes.{Bytes, bytes}
-use Rattle.page.specs.Tables.{Named, Table, all-tables, no-table, no-column, table-at, columns, width, column-at, name-at}
+use Rattle.page.specs.Tables.{Named, Table, all-tables, no-column, table-at, columns, width, column-at, name-at}
 use Rattle.page.specs.Form.{line-end, separated, line, decimal, decimal-in, format-text, table-head}
 use Rattle.page.specs.declared.Column.{Column}
 use Rattle.page.proofs.TableLaws.{each, table-test}

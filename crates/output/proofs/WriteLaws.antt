@@ -1,15 +1,15 @@
 -- A form is written whole or not at all: from a measuring pass over no room and a writing pass over all of it to what document 01
 -- says of lent output, whatever the form. Assumes nothing.
-use mathlib.Core.Path.{_≡_, refl, ap, sym, subst, _∙_}
+use mathlib.Core.Path.{_≡_, refl, ap, _∙_}
 use mathlib.Core.Bool.{Bool, true, false, _||_}
-use mathlib.Core.List.{[], _∷_, _++_}
-use Prim.Native.Nat.{ℕ, _+_, _≤_, _<_}
+use mathlib.Core.List.{[], _++_}
+use Prim.Native.Nat.{ℕ, _≤_}
 use native.Mathlib.Omega.{arith}
 use borrow.Author.Tests.{eq-eqb, ne-eqb, ltb-false}
 use lib.Dec.{eqb, ltb}
 use lib.ListN.{length, drop}
 use Rattle.page.specs.Bytes.{Bytes, pick}
-use Rattle.page.specs.Answers.{refusal, sound, earlier, refuse-if, written}
+use Rattle.page.specs.Answers.{refusal, earlier, refuse-if, written}
 use Rattle.page.specs.File.{limit}
 use Rattle.page.specs.Writing.{put-refusal, putOf, put-after}
 use Rattle.page.specs.declared.Refusal.{Refusal}

@@ -1,25 +1,11 @@
-use Rattle.output.proofs.PutLaws.{put-same}
+use Rattle.output.proofs.PutLaws.{put-same, puts}
 use Rattle.output.proofs.LineLaws.{mod-length, src-length, chs-length, text-line-length, stated-length}
 use Rattle.output.specs.Raw.{head-raw}
 use Rattle.page.specs.Bytes.{bytes}
-use Rattle.output.proofs.PutLaws.{puts, put-as, put-none}
-use Prim.Native.Nat.{ℕ, suc, _+_, _-_, _*_, _<_, _≤_}
-use mathlib.Core.Path.{_≡_, refl, ap, sym, _∙_}
-use mathlib.Core.Logic.{⊎-elim}
-use mathlib.Core.Bool.{Bool, true, false}
 use native.Mathlib.Omega.{arith}
-use borrow.Author.Tests.{lt-ltb, le-ltb, le-leb, lt-leb, eq-eqb, ne-eqb}
-use lib.ListN.{length, getD, take, drop}
 use borrow.Author.Needs.{needs}
 use Rattle.output.proofs.heads.put_head.Statement.{statement}
 use Rattle.output.proofs.heads.put_head.Tie as tie
-use Rattle.output.proofs.heads.put_head.Reads as reads
-use Rattle.output.proofs.heads.put_head.Lts as lts
-use Rattle.output.proofs.heads.put_chs_line.Reads as put-chs-line-reads
-use Rattle.output.proofs.heads.put_mod_line.Reads as put-mod-line-reads
-use Rattle.output.proofs.heads.put_src_line.Reads as put-src-line-reads
-use Rattle.output.proofs.heads.put_stated_line.Reads as put-stated-line-reads
-use Rattle.output.proofs.lines.put_text_line.Reads as put-text-line-reads
 
 put-mod-line-requires : tie.Need-put-mod-line-requires
 put-mod-line-requires c κs = search needs

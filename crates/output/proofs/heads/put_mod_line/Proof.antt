@@ -1,20 +1,9 @@
 use Rattle.output.proofs.LineLaws.{mod-is}
 use Rattle.page.specs.Bytes.{bytes}
-use Rattle.output.proofs.PutLaws.{puts, put-as, put-none}
-use Prim.Native.Nat.{ℕ, suc, _+_, _-_, _*_, _<_, _≤_}
-use mathlib.Core.Path.{_≡_, refl, ap, sym, _∙_}
-use mathlib.Core.Logic.{⊎-elim}
-use mathlib.Core.Bool.{Bool, true, false}
-use native.Mathlib.Omega.{arith}
-use borrow.Author.Tests.{lt-ltb, le-ltb, le-leb, lt-leb, eq-eqb, ne-eqb}
-use lib.ListN.{length, getD, take, drop}
+use Rattle.output.proofs.PutLaws.{puts, put-as}
 use borrow.Author.Needs.{needs}
 use Rattle.output.proofs.heads.put_mod_line.Statement.{statement}
 use Rattle.output.proofs.heads.put_mod_line.Tie as tie
-use Rattle.output.proofs.heads.put_mod_line.Reads as reads
-use Rattle.output.proofs.heads.put_mod_line.Lts as lts
-use Rattle.output.proofs.bytes.put_bytes.Reads as put-bytes-reads
-use Rattle.output.proofs.bytes.put_line_end.Reads as put-line-end-reads
 
 slice-aggregate-put-bytes : tie.Need-slice-aggregate-put-bytes
 slice-aggregate-put-bytes c = search needs

@@ -1,26 +1,11 @@
 use Rattle.output.proofs.LineLaws.{src-is}
 use Rattle.output.proofs.FormLaws.{raw-length, part-length, date-length, time-length}
-use Rattle.page.specs.Bytes.{part}
-use Rattle.page.specs.Bytes.{bytes}
-use Rattle.output.proofs.PutLaws.{puts, put-as, put-none}
-use Prim.Native.Nat.{ℕ, suc, _+_, _-_, _*_, _<_, _≤_}
-use mathlib.Core.Path.{_≡_, refl, ap, sym, _∙_}
-use mathlib.Core.Logic.{⊎-elim}
-use mathlib.Core.Bool.{Bool, true, false}
+use Rattle.page.specs.Bytes.{part, bytes}
+use Rattle.output.proofs.PutLaws.{puts, put-as}
 use native.Mathlib.Omega.{arith}
-use borrow.Author.Tests.{lt-ltb, le-ltb, le-leb, lt-leb, eq-eqb, ne-eqb}
-use lib.ListN.{length, getD, take, drop}
 use borrow.Author.Needs.{needs}
 use Rattle.output.proofs.heads.put_src_line.Statement.{statement}
 use Rattle.output.proofs.heads.put_src_line.Tie as tie
-use Rattle.output.proofs.heads.put_src_line.Reads as reads
-use Rattle.output.proofs.heads.put_src_line.Lts as lts
-use Rattle.output.proofs.bytes.put_byte.Reads as put-byte-reads
-use Rattle.output.proofs.bytes.put_bytes.Reads as put-bytes-reads
-use Rattle.output.proofs.bytes.put_line_end.Reads as put-line-end-reads
-use Rattle.output.proofs.numbers.put_date.Reads as put-date-reads
-use Rattle.output.proofs.numbers.put_time.Reads as put-time-reads
-use Rattle.output.proofs.texts.put_raw_part.Reads as put-raw-part-reads
 
 slice-aggregate-put-bytes : tie.Need-slice-aggregate-put-bytes
 slice-aggregate-put-bytes c = search needs

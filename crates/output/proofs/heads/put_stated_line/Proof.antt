@@ -1,19 +1,8 @@
 use Rattle.output.proofs.LineLaws.{stated-none, stated-at}
-use Rattle.page.specs.Bytes.{bytes}
-use Rattle.output.proofs.PutLaws.{puts, put-as, put-none}
-use Prim.Native.Nat.{ℕ, suc, _+_, _-_, _*_, _<_, _≤_}
-use mathlib.Core.Path.{_≡_, refl, ap, sym, _∙_}
-use mathlib.Core.Logic.{⊎-elim}
-use mathlib.Core.Bool.{Bool, true, false}
-use native.Mathlib.Omega.{arith}
-use borrow.Author.Tests.{lt-ltb, le-ltb, le-leb, lt-leb, eq-eqb, ne-eqb}
-use lib.ListN.{length, getD, take, drop}
+use Rattle.output.proofs.PutLaws.{put-as, put-none}
 use borrow.Author.Needs.{needs}
 use Rattle.output.proofs.heads.put_stated_line.Statement.{statement}
 use Rattle.output.proofs.heads.put_stated_line.Tie as tie
-use Rattle.output.proofs.heads.put_stated_line.Reads as reads
-use Rattle.output.proofs.heads.put_stated_line.Lts as lts
-use Rattle.output.proofs.lines.put_text_line.Reads as put-text-line-reads
 
 enum-told : tie.Need-enum-told
 enum-told c = search needs

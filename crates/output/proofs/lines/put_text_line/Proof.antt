@@ -1,24 +1,11 @@
 use Rattle.output.proofs.LineLaws.{text-line-is, separator-length}
 use Rattle.output.proofs.FormLaws.{raw-length, part-length}
 use Rattle.page.specs.Bytes.{part}
-use Rattle.page.specs.Bytes.{bytes}
-use Rattle.output.proofs.PutLaws.{puts, put-as, put-none}
-use Prim.Native.Nat.{ℕ, suc, _+_, _-_, _*_, _<_, _≤_}
-use mathlib.Core.Path.{_≡_, refl, ap, sym, _∙_}
-use mathlib.Core.Logic.{⊎-elim}
-use mathlib.Core.Bool.{Bool, true, false}
+use Rattle.output.proofs.PutLaws.{puts, put-as}
 use native.Mathlib.Omega.{arith}
-use borrow.Author.Tests.{lt-ltb, le-ltb, le-leb, lt-leb, eq-eqb, ne-eqb}
-use lib.ListN.{length, getD, take, drop}
 use borrow.Author.Needs.{needs}
 use Rattle.output.proofs.lines.put_text_line.Statement.{statement}
 use Rattle.output.proofs.lines.put_text_line.Tie as tie
-use Rattle.output.proofs.lines.put_text_line.Reads as reads
-use Rattle.output.proofs.lines.put_text_line.Lts as lts
-use Rattle.output.proofs.bytes.put_bytes.Reads as put-bytes-reads
-use Rattle.output.proofs.bytes.put_line_end.Reads as put-line-end-reads
-use Rattle.output.proofs.bytes.put_separator.Reads as put-separator-reads
-use Rattle.output.proofs.texts.put_raw_part.Reads as put-raw-part-reads
 
 put-bytes-requires : tie.Need-put-bytes-requires
 put-bytes-requires c κs = search needs

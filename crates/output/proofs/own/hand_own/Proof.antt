@@ -1,18 +1,7 @@
 use Rattle.output.proofs.WriteLaws.{refused, no-room, fits}
-use Prim.Native.Nat.{ℕ, suc, _+_, _-_, _*_, _<_, _≤_}
-use mathlib.Core.Path.{_≡_, refl, ap, sym, _∙_}
-use mathlib.Core.Logic.{⊎-elim}
-use mathlib.Core.Bool.{Bool, true, false}
-use native.Mathlib.Omega.{arith}
-use borrow.Author.Tests.{lt-ltb, le-ltb, le-leb, lt-leb, eq-eqb, ne-eqb}
-use lib.ListN.{length, getD, take, drop}
 use borrow.Author.Needs.{needs}
 use Rattle.output.proofs.own.hand_own.Statement.{statement}
 use Rattle.output.proofs.own.hand_own.Tie as tie
-use Rattle.output.proofs.own.hand_own.Reads as reads
-use Rattle.output.proofs.own.hand_own.Lts as lts
-use Rattle.output.proofs.own.put_own.Reads as put-own-reads
-use Rattle.output.proofs.room.refuse_room.Reads as refuse-room-reads
 
 returns : tie.Need-returns
 returns c = refused _ _ _ (c .if1 .taken)

@@ -2,18 +2,12 @@ use Rattle.output.proofs.FormLaws.{undoubled-second, undoubled-first, u
 use Rattle.output.proofs.PutLaws.{Todo, begin, left-is, next-by, at-end, same}
 use Rattle.output.specs.Raw.{undoubled}
 use borrow.Author.Needs.{needs}
-use Prim.Native.Nat.{ℕ, suc, _+_, _-_, _*_, _<_, _≤_}
-use mathlib.Core.Path.{_≡_, refl, ap, sym, _∙_}
-use mathlib.Core.Logic.{⊎-elim}
-use mathlib.Core.Bool.{Bool, true, false}
+use Prim.Native.Nat.{_-_, _≤_}
+use mathlib.Core.Bool.{false}
 use native.Mathlib.Omega.{arith}
-use borrow.Author.Tests.{lt-ltb, le-ltb, le-leb, lt-leb, eq-eqb, ne-eqb}
-use lib.ListN.{length, getD, take, drop}
+use lib.ListN.{length, drop}
 use Rattle.output.proofs.own.put_own.Statement.{statement}
 use Rattle.output.proofs.own.put_own.Tie as tie
-use Rattle.output.proofs.own.put_own.Reads as reads
-use Rattle.output.proofs.own.put_own.Lts as lts
-use Rattle.output.proofs.bytes.put_byte.Reads as put-byte-reads
 
 abbrev Inv-loop : tie.InvT-loop
 Inv-loop out₀ at raw met₀ o₀ i₀ out met o i = (i ≤ length raw) × Todo out₀ at (undoubled false raw) out o (undoubled met (drop i raw))

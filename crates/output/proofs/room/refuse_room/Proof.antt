@@ -1,16 +1,7 @@
 use Rattle.page.specs.Answers.{refuse-if}
-use borrow.Author.Needs.{needs}
-use Prim.Native.Nat.{ℕ, suc, _+_, _-_, _*_, _<_, _≤_}
-use mathlib.Core.Path.{_≡_, refl, ap, sym, _∙_}
-use mathlib.Core.Logic.{⊎-elim}
-use mathlib.Core.Bool.{Bool, true, false}
-use native.Mathlib.Omega.{arith}
-use borrow.Author.Tests.{lt-ltb, le-ltb, le-leb, lt-leb, eq-eqb, ne-eqb}
-use lib.ListN.{length, getD, take, drop}
+use borrow.Author.Tests.{lt-ltb, le-ltb}
 use Rattle.output.proofs.room.refuse_room.Statement.{statement}
 use Rattle.output.proofs.room.refuse_room.Tie as tie
-use Rattle.output.proofs.room.refuse_room.Reads as reads
-use Rattle.output.proofs.room.refuse_room.Lts as lts
 
 returns : tie.Need-returns
 unfolding refuse-if

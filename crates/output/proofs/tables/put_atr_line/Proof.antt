@@ -1,29 +1,15 @@
 use Rattle.output.proofs.TitleLaws.{separated-more, separated-end, line-parts, names-count, name-of, names-length}
-use Rattle.output.proofs.PutLaws.{Todo, begin, next-by, at-end}
+use Rattle.output.proofs.PutLaws.{Todo, begin, next-by, at-end, puts, put-as, put-same}
 use Rattle.output.proofs.LineLaws.{separator-length}
 use Rattle.output.specs.Titles.{names}
-use mathlib.Core.List.{[], _∷_, _++_}
-use Rattle.page.specs.Form.{line, separated, line-end}
+use Rattle.page.specs.Form.{separated}
 use Rattle.page.specs.Bytes.{bytes}
-use Rattle.output.proofs.PutLaws.{puts, put-as, put-same}
 use borrow.Author.Needs.{needs}
-use Prim.Native.Nat.{ℕ, suc, _+_, _-_, _*_, _<_, _≤_}
-use mathlib.Core.Path.{_≡_, refl, ap, sym, _∙_}
-use mathlib.Core.Logic.{⊎-elim}
-use mathlib.Core.Bool.{Bool, true, false}
+use Prim.Native.Nat.{_-_, _≤_}
 use native.Mathlib.Omega.{arith}
-use borrow.Author.Tests.{lt-ltb, le-ltb, le-leb, lt-leb, eq-eqb, ne-eqb}
-use lib.ListN.{length, getD, take, drop}
+use lib.ListN.{drop}
 use Rattle.output.proofs.tables.put_atr_line.Statement.{statement}
 use Rattle.output.proofs.tables.put_atr_line.Tie as tie
-use Rattle.output.proofs.tables.put_atr_line.Reads as reads
-use Rattle.output.proofs.tables.put_atr_line.Lts as lts
-use Rattle.names.proofs.look_name.Reads as look-name-reads
-use Rattle.output.proofs.bytes.put_bytes.Reads as put-bytes-reads
-use Rattle.output.proofs.bytes.put_line_end.Reads as put-line-end-reads
-use Rattle.output.proofs.bytes.put_separator.Reads as put-separator-reads
-use Rattle.output.proofs.tables.put_word.Reads as put-word-reads
-use Rattle.page.proofs.tables.find_width.Reads as find-width-reads
 
 abbrev Inv-loop : tie.InvT-loop
 Inv-loop out₀ at t n o₀ k₀ out o k = (k ≤ n) × Todo out₀ o₀ (separated (names t)) out o (separated (drop k (names t)))

@@ -1,20 +1,9 @@
 use Rattle.output.proofs.TitleLaws.{table-head-is, tbl-length, atr-length}
 use Rattle.output.proofs.PutLaws.{puts, put-as}
-use Prim.Native.Nat.{ℕ, suc, _+_, _-_, _*_, _<_, _≤_}
-use mathlib.Core.Path.{_≡_, refl, ap, sym, _∙_}
-use mathlib.Core.Logic.{⊎-elim}
-use mathlib.Core.Bool.{Bool, true, false}
 use native.Mathlib.Omega.{arith}
-use borrow.Author.Tests.{lt-ltb, le-ltb, le-leb, lt-leb, eq-eqb, ne-eqb}
-use lib.ListN.{length, getD, take, drop}
 use borrow.Author.Needs.{needs}
 use Rattle.output.proofs.tables.put_table_head.Statement.{statement}
 use Rattle.output.proofs.tables.put_table_head.Tie as tie
-use Rattle.output.proofs.tables.put_table_head.Reads as reads
-use Rattle.output.proofs.tables.put_table_head.Lts as lts
-use Rattle.output.proofs.tables.put_atr_line.Reads as put-atr-line-reads
-use Rattle.output.proofs.tables.put_frm_line.Reads as put-frm-line-reads
-use Rattle.output.proofs.tables.put_tbl_line.Reads as put-tbl-line-reads
 
 put-tbl-line-requires : tie.Need-put-tbl-line-requires
 put-tbl-line-requires c κs = search needs

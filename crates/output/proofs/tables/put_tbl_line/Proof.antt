@@ -1,23 +1,13 @@
 use Prim.Native.String.{String}
 use Rattle.output.proofs.TitleLaws.{tbl-is, title-length}
 use Rattle.page.specs.Bytes.{bytes}
-use Rattle.output.proofs.PutLaws.{puts, put-as, put-same}
-use Prim.Native.Nat.{ℕ, suc, _+_, _-_, _*_, _<_, _≤_}
-use mathlib.Core.Path.{_≡_, refl, ap, sym, _∙_}
-use mathlib.Core.Logic.{⊎-elim}
-use mathlib.Core.Bool.{Bool, true, false}
+use Rattle.output.proofs.PutLaws.{puts, put-as}
+use mathlib.Core.Path.{ap}
 use native.Mathlib.Omega.{arith}
-use borrow.Author.Tests.{lt-ltb, le-ltb, le-leb, lt-leb, eq-eqb, ne-eqb}
-use lib.ListN.{length, getD, take, drop}
+use lib.ListN.{length}
 use borrow.Author.Needs.{needs}
 use Rattle.output.proofs.tables.put_tbl_line.Statement.{statement}
 use Rattle.output.proofs.tables.put_tbl_line.Tie as tie
-use Rattle.output.proofs.tables.put_tbl_line.Reads as reads
-use Rattle.output.proofs.tables.put_tbl_line.Lts as lts
-use Rattle.names.proofs.look_title.Reads as look-title-reads
-use Rattle.output.proofs.bytes.put_bytes.Reads as put-bytes-reads
-use Rattle.output.proofs.bytes.put_line_end.Reads as put-line-end-reads
-use Rattle.output.proofs.tables.put_word.Reads as put-word-reads
 
 slice-aggregate-put-bytes : tie.Need-slice-aggregate-put-bytes
 slice-aggregate-put-bytes c = search needs

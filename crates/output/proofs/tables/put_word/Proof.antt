@@ -3,21 +3,11 @@ use Rattle.names.proofs.WordLaws.{row-length}
 use Rattle.names.specs.Words.{words, row}
 use Rattle.page.specs.Lines.{joined}
 use Rattle.page.specs.Bytes.{bytes}
-use Rattle.output.proofs.PutLaws.{puts, put-as, put-same}
-use Prim.Native.Nat.{ℕ, suc, _+_, _-_, _*_, _<_, _≤_}
-use mathlib.Core.Path.{_≡_, refl, ap, sym, _∙_}
-use mathlib.Core.Logic.{⊎-elim}
-use mathlib.Core.Bool.{Bool, true, false}
+use Rattle.output.proofs.PutLaws.{put-as}
 use native.Mathlib.Omega.{arith}
-use borrow.Author.Tests.{lt-ltb, le-ltb, le-leb, lt-leb, eq-eqb, ne-eqb}
-use lib.ListN.{length, getD, take, drop}
 use borrow.Author.Needs.{needs}
 use Rattle.output.proofs.tables.put_word.Statement.{statement}
 use Rattle.output.proofs.tables.put_word.Tie as tie
-use Rattle.output.proofs.tables.put_word.Reads as reads
-use Rattle.output.proofs.tables.put_word.Lts as lts
-use Rattle.names.proofs.find_word.Reads as find-word-reads
-use Rattle.output.proofs.bytes.put_bytes.Reads as put-bytes-reads
 
 find-word-requires : tie.Need-find-word-requires
 find-word-requires c κs = search needs
