@@ -6,7 +6,7 @@ use mathlib.Core.List.{List, [], _∷_, _++_, map}
 use Prim.Native.Nat.{ℕ, zero, suc, _+_, _<_, _≤_}
 use native.Mathlib.Omega.{arith}
 use native.Mathlib.Nat.{add-zero}
-use borrow.Author.Tests.{eq-eqb, ne-eqb}
+use borrow.Author.Tests.{eq-eqb, ne-eqb, eqb-true, eqb-false}
 use lib.Dec.{eqb}
 use lib.ListN.{length, getD, take, drop, length-map}
 use lib.Seq.{drop-cons, drop-length}
@@ -19,7 +19,7 @@ use Rattle.page.specs.Cut.{Section}
 use Rattle.page.specs.Records.{Entry, entriesOf, table-of}
 use Rattle.page.specs.Answers.{refusal, sound, earlier}
 use Rattle.page.specs.Rules.{Apart}
-use Rattle.page.specs.File.{any, Filed, filed-in, filed, key-of, by-primary, same-record, repeats, referred, meets, first-record, first-again}
+use Rattle.page.specs.File.{any, Filed, filed-in, filed, key-of, by-primary, same-record, repeats, referred, meets, first-record, first-unsound, first-again}
 use Rattle.page.proofs.CutLaws.{no-section}
 use Rattle.page.proofs.KeyLaws.{any-no, any-onto, any-append, onto, no-filed, faulty}
 
@@ -266,3 +266,15 @@ again-apart seen i (r ∷ rs) e = by (any (eqb (r .table)) seen) e (unseen (r .t
         λ q. false≢true (sym (n .0) ∙ eq-eqb (getD rs k no-row .table) (r .table) (sym q))
     by false e u ih (suc j) zero h l = absurd (omega arith)
     by false e u ih (suc j) (suc k) h l = ih e j k (omega arith) (omega arith)
+
+-- where no section is refused, each verdict is 0
+pub unsound-none : (i : ℕ) (rs : List Row) → first-unsound i rs ≡ sound → (k : ℕ) → k < length rs → getD rs k no-row .verdict ≡ 0
+unfolding first-unsound
+unsound-none i [] e k h = absurd (omega arith)
+unsound-none i (r ∷ rs) e k h = by (eqb (r .verdict) 0) refl e k h (unsound-none (suc i) rs)
+  where
+    by : (q : Bool) → eqb (r .verdict) 0 ≡ q → pick q (first-unsound (suc i) rs) (refusal (r .verdict) i (r .line)) ≡ sound → (k : ℕ) → k < suc (length rs)
+        → (first-unsound (suc i) rs ≡ sound → (k : ℕ) → k < length rs → getD rs k no-row .verdict ≡ 0) → getD (r ∷ rs) k no-row .verdict ≡ 0
+    by true q e zero h ih = eqb-true (r .verdict) 0 q
+    by true q e (suc k) h ih = ih e k (omega arith)
+    by false q e k h ih = absurd (eqb-false (r .verdict) 0 q (ap (λ (x : Refusal). x .number) e))
