@@ -2,3 +2,5 @@ pub mod RecordLaws
 pub mod WalkLaws
 pub mod RunLaws
 pub mod SoundLaws
+pub mod PlaceLaws
+pub mod ReachLaws

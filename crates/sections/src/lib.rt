@@ -2,6 +2,7 @@
 mod machine;
 mod reading;
 mod records;
+mod values;
 mod walk;
 
 pub use machine::step;
@@ -10,4 +11,10 @@ pub use reading::read_section;
 pub use reading::section_end;
 pub use records::amount_at;
 pub use records::judge_record;
+pub use values::Place;
+pub use values::find_record;
+pub use values::value_in;
+pub use walk::Located;
+pub use walk::find_nth;
 pub use walk::find_section;
+pub use walk::locate;
