@@ -4,3 +4,4 @@ pub mod RunLaws
 pub mod SoundLaws
 pub mod PlaceLaws
 pub mod ReachLaws
+pub mod ValueLaws

@@ -1,10 +1,13 @@
 // One section of a file, by value.
+mod answers;
 mod machine;
 mod reading;
 mod records;
 mod values;
 mod walk;
 
+pub use answers::section;
+pub use answers::value;
 pub use machine::step;
 pub use reading::read_lines;
 pub use reading::read_section;

@@ -49,7 +49,7 @@ pub enum Located {
     Refused(Refusal),
 }
 
-fn refuse_with(number: u32) -> Refusal
+pub fn refuse_with(number: u32) -> Refusal
     ensures { λ r. ⌜ r ≡ refusal number 0 0 ⌝ }
 {
     Refusal {
