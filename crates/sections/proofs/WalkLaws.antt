@@ -48,7 +48,7 @@ module _ (s : Bytes) (at e : ℕ) (h : at < length s) (q : e ≡ at + line-size 
       let r = run-within (drop at s) [] (l ∷ after .front) (flat (after .pieces)) whole in
       omega (arith, run-long, length-drop at s)
 
-  section-lines : lines (take (section-size (drop at s)) (drop at s)) ≡ l ∷ after .front
+  pub section-lines : lines (take (section-size (drop at s)) (drop at s)) ≡ l ∷ after .front
   unfolding joined
   section-lines = rw (sym run-long) (run-lines (drop at s) [] (l ∷ after .front) (flat (after .pieces)) whole)
 
@@ -83,7 +83,7 @@ module _ (s : Bytes) (at e : ℕ) (h : at < length s) (q : e ≡ at + line-size 
       let n : next-table (lines (drop at s)) ≡ length l + next-table (lines (drop e s)) = next-here ∙ rw b in
       omega (arith, line-long, line-in s at e h q)
 
-  settled-begins : Settled s at → begins-table l ≡ true
+  pub settled-begins : Settled s at → begins-table l ≡ true
   unfolding Settled
   settled-begins z = go (begins-table l) refl
     where
