@@ -1,8 +1,7 @@
 -- Records looked for line by line. Assumes nothing.
 use mathlib.Core.Path.{_≡_, refl, ap, sym, _∙_}
 use mathlib.Core.Bool.{Bool, true, false}
-use mathlib.Core.List.{List, [], _∷_}
-use Prim.Native.Nat.{ℕ, zero, suc, _+_, _-_, _<_, _≤_}
+use Prim.Native.Nat.{ℕ, suc, _+_, _-_, _<_, _≤_}
 use native.Mathlib.Omega.{arith}
 use lib.Dec.{eqb}
 use lib.ListN.{length, take, drop}
@@ -11,12 +10,11 @@ use Rattle.page.specs.Bytes.{Bytes, pick, until}
 use Rattle.page.specs.Lines.{lines, content-size, content, semicolon, command, rest, Rec, Com}
 use Rattle.page.specs.Marks.{remarkOf}
 use Rattle.page.specs.Records.{waiting, waits}
-use Rattle.page.specs.Places.{Standing, nowhere, stands, this-or, record-at}
+use Rattle.page.specs.Places.{nowhere, stands, this-or, record-at}
 use Rattle.page.specs.declared.Remark.{Remark}
 use Rattle.page.proofs.ScanLaws.{part-length}
 use Rattle.page.proofs.LineLaws.{line-size, line-in, cut-at, lines-end}
 use Rattle.headers.proofs.FoundLaws.{content-in, content-here, semicolon-in, rest-here}
-use Rattle.sections.specs.declared.values.Place.{Place}
 use Rattle.sections.specs.Values.{Placed}
 
 -- the mark that waits after a line of content c

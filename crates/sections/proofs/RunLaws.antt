@@ -1,14 +1,13 @@
 -- The machine at a place of a section's bytes, and how fast it counts. Assumes nothing.
-use mathlib.Core.Path.{_≡_, refl, ap, sym, _∙_}
+use mathlib.Core.Path.{_≡_, sym, _∙_}
 use mathlib.Core.Bool.{Bool, true, false}
-use mathlib.Core.List.{List, [], _∷_}
-use Prim.Native.Nat.{ℕ, suc, _+_, _-_, _<_, _≤_}
+use mathlib.Core.List.{List}
+use Prim.Native.Nat.{ℕ, _+_, _-_, _<_, _≤_}
 use native.Mathlib.Numerals.{add-one}
 use native.Mathlib.Omega.{arith}
 use lib.ListN.{length, take, drop}
 use Rattle.page.specs.Bytes.{Bytes}
-use Rattle.page.specs.Lines.{lines, joined}
-use Rattle.page.specs.Cut.{Section}
+use Rattle.page.specs.Lines.{lines}
 use Rattle.page.specs.Section.{choose, tbl-step, atr-step, frm-step, rec-step, count-step, end-step, mark-step, com-step, line-step, content-step, step, table-in, finish, refused, continue, run, outcome}
 use Rattle.page.specs.File.{row-of, rowOf}
 use Rattle.page.specs.declared.Number.{Number}

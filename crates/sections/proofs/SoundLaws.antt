@@ -1,13 +1,13 @@
 -- The records of a sound section: each that is handed out passed its rules. Assumes nothing.
-use mathlib.Core.Path.{_≡_, refl, ap, sym, _∙_}
-use mathlib.Core.Bool.{Bool, true, false, not, _&&_}
+use mathlib.Core.Path.{_≡_, refl}
+use mathlib.Core.Bool.{Bool, true, false}
 use mathlib.Core.List.{List, [], _∷_}
-use Prim.Native.Nat.{ℕ, zero, suc, _+_, _<_, _≤_}
+use Prim.Native.Nat.{ℕ, zero, suc, _+_, _<_}
 use native.Mathlib.Omega.{arith}
-use lib.Dec.{eqb, ltb, leb}
+use lib.Dec.{eqb}
 use lib.ListN.{length, getD}
-use borrow.Author.Tests.{eqb-true, eqb-false, eq-eqb, ne-eqb, le-ltb}
-use Rattle.page.specs.Bytes.{Bytes, pick, until, no-space}
+use borrow.Author.Tests.{eqb-true, eqb-false, eq-eqb, le-ltb}
+use Rattle.page.specs.Bytes.{Bytes, until, no-space}
 use Rattle.page.specs.Lines.{content, blank, semicolon, command, rest, Tbl, Atr, Frm, Rec, End, Com, Missing}
 use Rattle.page.specs.Fields.{fields, numberOf}
 use Rattle.page.specs.Tables.{table-named, width}
@@ -24,7 +24,6 @@ use Rattle.page.specs.declared.Phase.{Phase}
 use Rattle.page.specs.declared.Phase.the-variants as P
 use Rattle.page.specs.declared.Step.{Step}
 use Rattle.page.specs.declared.Step.the-variants as S
-use Rattle.page.specs.declared.Outcome.{Outcome}
 use Rattle.sections.specs.Counts.{records-in}
 
 -- a blank line has no command

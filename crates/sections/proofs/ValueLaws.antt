@@ -1,7 +1,7 @@
 -- One value of a section at a place, and what a call answers for it. Assumes nothing.
 use mathlib.Core.Path.{_≡_, refl, ap, sym, _∙_}
 use mathlib.Core.Bool.{Bool, true, false, _||_, false≢true}
-use mathlib.Core.List.{List, [], _∷_}
+use mathlib.Core.List.{[], _∷_}
 use Prim.Native.Nat.{ℕ, zero, suc, _+_, _-_, _<_, _≤_}
 use native.Mathlib.Nat.{sub-zero}
 use native.Mathlib.Omega.{arith}
@@ -9,11 +9,11 @@ use lib.Dec.{eqb, ltb}
 use lib.ListN.{length, getD, take, drop, length-drop}
 use lib.Seq.{length-take-le, take-nil}
 use borrow.Author.Tests.{ne-eqb, eqb-false, ltb-false}
-use Rattle.page.specs.Bytes.{Bytes, pick}
+use Rattle.page.specs.Bytes.{Bytes}
 use Rattle.page.specs.Lines.{lines, content, rest}
 use Rattle.page.specs.Fields.{fields}
 use Rattle.page.specs.Tables.{table-named, width}
-use Rattle.page.specs.Cut.{begins-table, cut}
+use Rattle.page.specs.Cut.{cut}
 use Rattle.page.specs.Section.{rec-verdict, outcome}
 use Rattle.page.specs.Records.{table-of}
 use Rattle.page.specs.Places.{Standing, record-at}

@@ -1,6 +1,6 @@
 -- A record's place among its section's bytes, and the answer for one value.
 use mathlib.Core.Path.{_≡_}
-use mathlib.Core.Bool.{Bool, _||_}
+use mathlib.Core.Bool.{_||_}
 use Prim.Native.Nat.{ℕ, _-_, _≤_}
 use lib.ListN.{length, take, drop}
 use Rattle.page.specs.Bytes.{Bytes}

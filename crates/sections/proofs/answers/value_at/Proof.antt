@@ -10,7 +10,7 @@ use Rattle.page.specs.Reading.{outside}
 use Rattle.page.specs.Records.{table-of}
 use Rattle.page.specs.Lines.{lines}
 use Rattle.page.specs.Tables.{width}
-use Rattle.sections.proofs.ValueLaws.{row-is, value-unsound, value-outside, value-inside, ready, outside-left, outside-right}
+use Rattle.sections.proofs.ValueLaws.{Ready, row-is, value-unsound, value-outside, value-inside, ready, outside-left, outside-right}
 use Rattle.sections.specs.Walk.{section-from}
 use Rattle.sections.proofs.answers.value_at.Statement.{statement}
 use Rattle.sections.proofs.answers.value_at.Tie as tie
@@ -60,49 +60,32 @@ returns-3 c =
     let w : width (table-of (section-from (a .file .now) (a .at) .lines)) ≡ c .before .before .before .find-width .result = ap width (sym (c .before .before .before .before .table-at .ensures)) ∙ sym (c .before .before .before .find-width .ensures) in
     value-outside (a .file .now) (a .i) (a .at) (a .r) (a .f) (x .result) q (c .before .before .before .before .before .before .before .if1 .left) (c .refuse-with2 .result) (c .refuse-with2 .ensures) (outside-right (outside (a .r) (x .result .records)) (outside (a .f) (width (table-of (section-from (a .file .now) (a .at) .lines)))) (rw w (sym (c .before .before .is-outside2 .ensures) ∙ c .before .if3 .taken)))
 
-add-e : tie.Need-add-e
-add-e c =
+-- the record and the field are there
+there : (c : tie.After-struct-known2) →
+    Ready (c .before .before .before .before .before .before .before .before .before .before .before .before .args .file .now) (c .before .before .before .before .before .before .before .before .before .before .before .before .args .at) (c .before .before .before .before .before .before .before .before .before .before .before .before .args .r) (c .before .before .before .before .before .before .before .before .before .before .before .before .args .f) (c .before .before .before .before .before .before .before .before .before .before .before .before .args .at + c .before .before .before .before .before .before .before .before .before .read-section .result .length)
+there c =
     let a = c .before .before .before .before .before .before .before .before .before .before .before .before .args in
     let x = c .before .before .before .before .before .before .before .before .before .read-section in
     let q = row-is (a .file .now) (a .at) _ _ (c .before .before .before .before .before .before .before .before .before .before .read-charset .ensures) (x .ensures) in
-    let w : width (table-of (section-from (a .file .now) (a .at) .lines)) ≡ c .before .before .before .find-width .result = ap width (sym (c .before .before .before .before .table-at .ensures)) ∙ sym (c .before .before .before .find-width .ensures) in
+    let w : width (table-of (section-from (a .file .now) (a .at) .lines)) ≡ c .before .before .before .find-width .result =
+    ap width (sym (c .before .before .before .before .table-at .ensures)) ∙ sym (c .before .before .before .find-width .ensures) in
     let m : outside (a .r) (x .result .records) ≡ false = sym (c .before .before .before .before .before .before .is-outside .ensures) ∙ c .before .before .before .before .before .if2 .left in
     let n : outside (a .f) (width (table-of (section-from (a .file .now) (a .at) .lines))) ≡ false = rw w (sym (c .before .before .is-outside2 .ensures) ∙ c .before .if3 .left) in
-    let d = ready (a .file .now) (a .at) (a .r) (a .f) (a .at + x .result .length) (x .result) (c .before .before .before .before .before .before .before .before .before .before .before .before .pre .0) (c .before .before .before .before .before .before .before .before .before .before .before .before .pre .2) q (c .before .before .before .before .before .before .before .if1 .left) m n refl in
-    search needs
+    ready (a .file .now) (a .at) (a .r) (a .f) (a .at + x .result .length) (x .result) (c .before .before .before .before .before .before .before .before .before .before .before .before .pre .0) (c .before .before .before .before .before .before .before .before .before .before .before .before .pre .2) q (c .before .before .before .before .before .before .before .if1 .left) m n refl
+
+add-e : tie.Need-add-e
+add-e c = let d = there c in search needs
 
 slice-aggregate-read-value : tie.Need-slice-aggregate-read-value
-slice-aggregate-read-value c =
-    let a = c .before .before .before .before .before .before .before .before .before .before .before .before .before .args in
-    let x = c .before .before .before .before .before .before .before .before .before .before .read-section in
-    let q = row-is (a .file .now) (a .at) _ _ (c .before .before .before .before .before .before .before .before .before .before .before .read-charset .ensures) (x .ensures) in
-    let w : width (table-of (section-from (a .file .now) (a .at) .lines)) ≡ c .before .before .before .before .find-width .result = ap width (sym (c .before .before .before .before .before .table-at .ensures)) ∙ sym (c .before .before .before .before .find-width .ensures) in
-    let m : outside (a .r) (x .result .records) ≡ false = sym (c .before .before .before .before .before .before .before .is-outside .ensures) ∙ c .before .before .before .before .before .before .if2 .left in
-    let n : outside (a .f) (width (table-of (section-from (a .file .now) (a .at) .lines))) ≡ false = rw w (sym (c .before .before .before .is-outside2 .ensures) ∙ c .before .before .if3 .left) in
-    let d = ready (a .file .now) (a .at) (a .r) (a .f) (a .at + x .result .length) (x .result) (c .before .before .before .before .before .before .before .before .before .before .before .before .before .pre .0) (c .before .before .before .before .before .before .before .before .before .before .before .before .before .pre .2) q (c .before .before .before .before .before .before .before .before .if1 .left) m n refl in
-    sym (length-take-le _ _ (d .within))
+slice-aggregate-read-value c = sym (length-take-le _ _ (there (c .before) .within))
 
 sub-read-value : tie.Need-sub-read-value
-sub-read-value c =
-    let a = c .before .before .before .before .before .before .before .before .before .before .before .before .before .args in
-    let x = c .before .before .before .before .before .before .before .before .before .before .read-section in
-    let q = row-is (a .file .now) (a .at) _ _ (c .before .before .before .before .before .before .before .before .before .before .before .read-charset .ensures) (x .ensures) in
-    let w : width (table-of (section-from (a .file .now) (a .at) .lines)) ≡ c .before .before .before .before .find-width .result = ap width (sym (c .before .before .before .before .before .table-at .ensures)) ∙ sym (c .before .before .before .before .find-width .ensures) in
-    let m : outside (a .r) (x .result .records) ≡ false = sym (c .before .before .before .before .before .before .before .is-outside .ensures) ∙ c .before .before .before .before .before .before .if2 .left in
-    let n : outside (a .f) (width (table-of (section-from (a .file .now) (a .at) .lines))) ≡ false = rw w (sym (c .before .before .before .is-outside2 .ensures) ∙ c .before .before .if3 .left) in
-    let d = ready (a .file .now) (a .at) (a .r) (a .f) (a .at + x .result .length) (x .result) (c .before .before .before .before .before .before .before .before .before .before .before .before .before .pre .0) (c .before .before .before .before .before .before .before .before .before .before .before .before .before .pre .2) q (c .before .before .before .before .before .before .before .before .if1 .left) m n refl in
-    search needs
+sub-read-value c = let d = there (c .before) in search needs
 
 read-value-requires : tie.Need-read-value-requires
 read-value-requires c κs =
-    let a = c .before .before .before .before .before .before .before .before .before .before .before .before .before .args in
-    let x = c .before .before .before .before .before .before .before .before .before .before .read-section in
-    let q = row-is (a .file .now) (a .at) _ _ (c .before .before .before .before .before .before .before .before .before .before .before .read-charset .ensures) (x .ensures) in
-    let w : width (table-of (section-from (a .file .now) (a .at) .lines)) ≡ c .before .before .before .before .find-width .result = ap width (sym (c .before .before .before .before .before .table-at .ensures)) ∙ sym (c .before .before .before .before .find-width .ensures) in
-    let m : outside (a .r) (x .result .records) ≡ false = sym (c .before .before .before .before .before .before .before .is-outside .ensures) ∙ c .before .before .before .before .before .before .if2 .left in
-    let n : outside (a .f) (width (table-of (section-from (a .file .now) (a .at) .lines))) ≡ false = rw w (sym (c .before .before .before .is-outside2 .ensures) ∙ c .before .before .if3 .left) in
-    let d = ready (a .file .now) (a .at) (a .r) (a .f) (a .at + x .result .length) (x .result) (c .before .before .before .before .before .before .before .before .before .before .before .before .before .pre .0) (c .before .before .before .before .before .before .before .before .before .before .before .before .before .pre .2) q (c .before .before .before .before .before .before .before .before .if1 .left) m n refl in
-    let k = length-take-le (a .at + x .result .length) (a .file .now) (d .within) in
+    let d = there (c .before) in
+    let k = length-take-le _ (c .before .before .before .before .before .before .before .before .before .before .before .before .before .args .file .now) (d .within) in
     (rw k (d .start), rw k (omega (arith, c .before .before .before .before .before .before .before .before .before .before .before .before .before .pre .1, d .within)), d .field-some, d .has-field)
 
 returns-4 : tie.Need-returns-4
@@ -113,7 +96,7 @@ returns-4 c =
     let w : width (table-of (section-from (a .file .now) (a .at) .lines)) ≡ c .before .before .before .before .before .find-width .result = ap width (sym (c .before .before .before .before .before .before .table-at .ensures)) ∙ sym (c .before .before .before .before .before .find-width .ensures) in
     let m : outside (a .r) (x .result .records) ≡ false = sym (c .before .before .before .before .before .before .before .before .is-outside .ensures) ∙ c .before .before .before .before .before .before .before .if2 .left in
     let n : outside (a .f) (width (table-of (section-from (a .file .now) (a .at) .lines))) ≡ false = rw w (sym (c .before .before .before .before .is-outside2 .ensures) ∙ c .before .before .before .if3 .left) in
-    let d = ready (a .file .now) (a .at) (a .r) (a .f) (a .at + x .result .length) (x .result) (c .before .before .before .before .before .before .before .before .before .before .before .before .before .before .pre .0) (c .before .before .before .before .before .before .before .before .before .before .before .before .before .before .pre .2) q (c .before .before .before .before .before .before .before .before .before .if1 .left) m n refl in
+    let d = there (c .before .before) in
     value-inside (a .file .now) (a .i) (a .at) (a .r) (a .f) (x .result) q (c .before .before .before .before .before .before .before .before .before .if1 .left) _ m n (rw (sym (c .before .before .before .before .before .before .table-at .ensures), sym (d .same-lines)) (c .read-value .ensures))
 
 pub value-at-spec : {M : Type 1} → statement M
