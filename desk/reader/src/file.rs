@@ -8,6 +8,7 @@ use crate::header::{self, Header};
 use crate::keys::{judge, Sound};
 use crate::lines::{is_blank, is_plain, Command, Head, Lines, Part};
 use crate::section::{Record, Records, Section, Value};
+use crate::tables::Table;
 
 /// One row a section, as a listing gives it.
 #[derive(Clone, Copy, Debug, Default, PartialEq, Eq)]
@@ -222,6 +223,17 @@ pub fn list(file: &[u8]) -> Result<Vec<Row>, Answer> {
     Ok(rows)
 }
 
+/// One section's row, or the first of 1, 2 and 24.
+pub fn section(file: &[u8], section: usize) -> Result<Row, Answer> {
+    let opened = Opened::open(file)?;
+    let region = section
+        .checked_sub(1)
+        .and_then(|index| opened.layout.sections.get(index))
+        .ok_or(Answer::placeless(number::NO_SUCH))?;
+    let read = Section::read(file, region.clone(), opened.header.charset);
+    Ok(row(region, &read))
+}
+
 /// Listing into lent rows: "refused by 1, 2 and 21 only and then writes no
 /// row"; spare rows keep their values.
 pub fn list_into(file: &[u8], rows: &mut [Row]) -> Result<Listed, Answer> {
@@ -258,18 +270,36 @@ pub fn value(
 
 /// All records of one section, with the refusals of [`value`].
 pub fn table(file: &[u8], section: usize) -> Result<TableView<'_>, Answer> {
-    let opened = Opened::open(file)?;
-    let mut reader = opened
-        .records(section)
-        .ok_or(Answer::placeless(number::NO_SUCH))?;
     let mut records = Vec::new();
-    while let Some(record) = reader.next().map_err(|v| v.in_section(section))? {
-        records.push(*record);
-    }
-    let table = reader.table();
+    let table = see_records(file, section, |record| records.push(*record))?;
     Ok(TableView {
         number: table.map_or(0, |table| table.number),
         name: table.map_or("", |table| table.name),
         records,
     })
+}
+
+/// Each record of one section in turn, with the refusals of [`value`]: the
+/// section is known to be sound only when all have been seen.
+pub fn visit<'a>(
+    file: &'a [u8],
+    section: usize,
+    see: impl FnMut(&Record<'a>),
+) -> Result<(), Answer> {
+    see_records(file, section, see).map(|_| ())
+}
+
+fn see_records<'a>(
+    file: &'a [u8],
+    section: usize,
+    mut see: impl FnMut(&Record<'a>),
+) -> Result<Option<&'static Table>, Answer> {
+    let opened = Opened::open(file)?;
+    let mut reader = opened
+        .records(section)
+        .ok_or(Answer::placeless(number::NO_SUCH))?;
+    while let Some(record) = reader.next().map_err(|v| v.in_section(section))? {
+        see(record);
+    }
+    Ok(reader.table())
 }

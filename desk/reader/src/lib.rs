@@ -19,7 +19,8 @@ mod tables;
 pub use answer::{number, Answer, Verdict, LIMIT};
 pub use fields::Text;
 pub use file::{
-    check, header, list, list_into, sections, table, trailer, value, Listed, Row, TableView,
+    check, header, list, list_into, section, sections, table, trailer, value, visit, Listed, Row,
+    TableView,
 };
 pub use forms::{fill, strip, write};
 pub use header::{Charset, Date, Header, Time};

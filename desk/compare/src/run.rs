@@ -1,0 +1,175 @@
+//! The whole comparison: drawn sound files, damaged ones, large ones, and
+//! demand 3.
+
+use std::fmt::{self, Display, Formatter};
+
+use samples::form::form;
+use samples::{Model, Random};
+
+use crate::calls::compare_file;
+use crate::difference::{law, Difference};
+use crate::limit::compare_large;
+use crate::locality;
+use crate::options::Options;
+use crate::shrink::shrink;
+use crate::tally::Tally;
+use crate::Pair;
+
+/// Runs in which every number must be reached.
+const TELLING: u64 = 2_000;
+
+#[derive(Debug, Default)]
+pub struct Summary {
+    pub files: u64,
+    pub tally: Tally,
+    /// Runs of lines replaced, and tables that read the same beside them.
+    pub runs: u64,
+    pub kept: u64,
+    pub failures: Vec<Failure>,
+    pub missed: Vec<u32>,
+}
+
+/// A file on which the implementations part.
+#[derive(Debug)]
+pub struct Failure {
+    /// The file's index under the seed; none for the large ones.
+    pub index: Option<u64>,
+    pub file: Vec<u8>,
+    pub difference: Difference,
+}
+
+pub fn run(pair: Pair<'_>, options: &Options, mut progress: impl FnMut(u64)) -> Summary {
+    let mut summary = Summary::default();
+    for index in options.from..options.from + options.count {
+        progress(summary.files);
+        compare_drawn(pair, options.seed, index, &mut summary);
+        if summary.failures.len() >= options.enough {
+            return summary;
+        }
+    }
+    if options.large {
+        if let Err(difference) = compare_large(pair, &mut summary.tally) {
+            summary.failures.push(Failure {
+                index: None,
+                file: Vec::new(),
+                difference,
+            });
+        }
+    }
+    if options.large && options.count >= TELLING {
+        summary.missed = summary.tally.missed();
+    }
+    summary
+}
+
+/// One in four is sound, with what it means; the others are damaged.
+fn draw_file(random: &mut Random) -> (Vec<u8>, Option<Model>) {
+    if random.percent(25) {
+        let sample = samples::sound(random);
+        (sample.bytes(), Some(sample.model))
+    } else {
+        (samples::damaged(random), None)
+    }
+}
+
+/// What a sound file means is known without reading it, and so is its form.
+fn compare_with_meaning(pair: Pair<'_>, file: &[u8], model: &Model) -> Result<(), Difference> {
+    let meant = form(model);
+    let mut out = vec![0; meant.len()];
+    let written = pair.subject.write(file, &mut out);
+    law(
+        written == Ok(meant.len()) && out == meant,
+        &"write: the form printed from what the file means",
+    )
+}
+
+fn compare_drawn(pair: Pair<'_>, seed: u64, index: u64, summary: &mut Summary) {
+    let mut random = Random::of_file(seed, index);
+    let (file, model) = draw_file(&mut random);
+    summary.files += 1;
+    let compared = compare_file(pair, &mut summary.tally, &mut random, &file)
+        .and_then(|()| keep_damage_local(pair, &mut random, &file, summary))
+        .and_then(|()| model.map_or(Ok(()), |model| compare_with_meaning(pair, &file, &model)));
+    if let Err(difference) = compared {
+        let (file, difference) = reduce(pair, seed, index, file, difference);
+        summary.failures.push(Failure {
+            index: Some(index),
+            file,
+            difference,
+        });
+    }
+}
+
+fn keep_damage_local(
+    pair: Pair<'_>,
+    random: &mut Random,
+    file: &[u8],
+    summary: &mut Summary,
+) -> Result<(), Difference> {
+    if let Some(replaced) = locality::replace_lines(pair.subject, random, file) {
+        summary.runs += 1;
+        summary.kept += locality::hold(pair.subject, file, &replaced)? as u64;
+    }
+    Ok(())
+}
+
+/// The file with as few lines as still part the two.
+fn reduce(
+    pair: Pair<'_>,
+    seed: u64,
+    index: u64,
+    file: Vec<u8>,
+    difference: Difference,
+) -> (Vec<u8>, Difference) {
+    let mut last = difference;
+    let mut fails = |file: &[u8]| {
+        let mut random = Random::of_file(seed, index);
+        let found = compare_file(pair, &mut Tally::default(), &mut random, file).err();
+        match found {
+            Some(difference) => {
+                last = difference;
+                true
+            }
+            None => false,
+        }
+    };
+    let small = shrink(&file, &mut fails);
+    (small, last)
+}
+
+impl Summary {
+    pub fn is_clean(&self) -> bool {
+        self.failures.is_empty() && self.missed.is_empty()
+    }
+}
+
+impl Display for Summary {
+    fn fmt(&self, out: &mut Formatter<'_>) -> fmt::Result {
+        write!(out, "{}", self.tally)?;
+        writeln!(
+            out,
+            "{} files; {} runs of lines replaced, {} tables beside them read as before",
+            self.files, self.runs, self.kept
+        )?;
+        for number in &self.missed {
+            writeln!(out, "number {number} was never reached")?;
+        }
+        for failure in &self.failures {
+            writeln!(out, "{failure}")?;
+        }
+        Ok(())
+    }
+}
+
+impl Display for Failure {
+    fn fmt(&self, out: &mut Formatter<'_>) -> fmt::Result {
+        match self.index {
+            Some(index) => writeln!(out, "file {index}: {}", self.difference)?,
+            None => writeln!(out, "large files: {}", self.difference)?,
+        }
+        for line in self.file.split_inclusive(|byte| *byte == b'\n') {
+            writeln!(out, "    {}", line.escape_ascii())?;
+        }
+        Ok(())
+    }
+}

@@ -1,0 +1,90 @@
+//! How often each number was given back, by the file's answer and by the
+//! other calls.
+
+use std::fmt::{self, Display, Formatter};
+
+use face::{number, Refusal};
+
+const NUMBERS: usize = number::LAST as usize + 1;
+
+#[derive(Clone, Debug, Default, PartialEq, Eq)]
+pub struct Tally {
+    checks: [u64; NUMBERS],
+    others: [u64; NUMBERS],
+}
+
+impl Tally {
+    pub fn add_check(&mut self, answer: Refusal) {
+        if let Some(count) = self.checks.get_mut(answer.number as usize) {
+            *count += 1;
+        }
+    }
+
+    pub fn add_call(&mut self, answer: Refusal) {
+        if let Some(count) = self.others.get_mut(answer.number as usize) {
+            *count += 1;
+        }
+    }
+
+    /// Files answered in this way.
+    pub fn checks(&self, number: u32) -> u64 {
+        self.checks.get(number as usize).copied().unwrap_or(0)
+    }
+
+    /// Calls answered in this way, besides the check.
+    pub fn others(&self, number: u32) -> u64 {
+        self.others.get(number as usize).copied().unwrap_or(0)
+    }
+
+    /// Numbers that should have been given and were not: 0 to 20 by files, the
+    /// rest by calls of their own.
+    pub fn missed(&self) -> Vec<u32> {
+        (number::SOUND..=number::LAST)
+            .filter(|&n| match n {
+                ..number::NO_ROOM => self.checks(n) == 0,
+                _ => self.others(n) == 0,
+            })
+            .collect()
+    }
+}
+
+impl Display for Tally {
+    fn fmt(&self, out: &mut Formatter<'_>) -> fmt::Result {
+        writeln!(out, "number      files      calls  rule")?;
+        for n in number::SOUND..=number::LAST {
+            let (files, calls) = (self.checks(n), self.others(n));
+            let rule = number::in_words(n);
+            writeln!(out, "{n:6} {files:10} {calls:10}  {rule}")?;
+        }
+        Ok(())
+    }
+}
+
+#[cfg(test)]
+mod tests {
+    use super::*;
+
+    #[test]
+    fn what_was_never_given_is_missed() {
+        let mut tally = Tally::default();
+        for number in number::SOUND..=number::REFERENCE {
+            tally.add_check(Refusal::placeless(number));
+        }
+        assert_eq!(tally.missed(), [21, 22, 23, 24]);
+        for number in number::NO_ROOM..=number::LAST {
+            tally.add_call(Refusal::placeless(number));
+        }
+        assert!(tally.missed().is_empty());
+        assert_eq!(Tally::default().missed().len(), 25);
+        assert!(tally
+            .to_string()
+            .contains("    20          1          0  a reference"));
+    }
+
+    #[test]
+    fn a_number_that_is_none_is_not_counted() {
+        let mut tally = Tally::default();
+        tally.add_check(Refusal::placeless(99));
+        assert_eq!(tally, Tally::default());
+    }
+}

@@ -1,0 +1,71 @@
+//! The chosen library and the independent reader give the same answers, over
+//! drawn files and over those under `cases/` and `examples/`.
+
+use std::fs;
+use std::path::{Path, PathBuf};
+
+use compare::{compare_file, run, Options, Pair, Tally};
+use face::number;
+use samples::Random;
+
+fn pair() -> Pair<'static> {
+    Pair {
+        subject: libraries::chosen(),
+        baseline: libraries::baseline(),
+    }
+}
+
+#[test]
+fn drawn_and_large_files() {
+    let options = Options {
+        seed: 2,
+        count: 2_000,
+        ..Options::default()
+    };
+    let summary = run(pair(), &options, |_| {});
+    assert!(summary.is_clean(), "{summary}");
+    assert!(summary.runs > 1_000 && summary.kept > 3_000, "{summary}");
+}
+
+fn files(folder: &str) -> Vec<(PathBuf, Vec<u8>)> {
+    let folder = Path::new(env!("CARGO_MANIFEST_DIR"))
+        .join("../..")
+        .join(folder);
+    let entries = fs::read_dir(folder)
+        .unwrap()
+        .map(|entry| entry.unwrap().path());
+    let named = entries.filter(|path| path.extension().is_some_and(|e| e == "x10"));
+    named
+        .map(|path| (path.clone(), fs::read(&path).unwrap()))
+        .collect()
+}
+
+#[test]
+fn cases_and_examples() {
+    let mut tally = Tally::default();
+    let files = [files("cases"), files("examples")].concat();
+    assert!(files.len() > 200);
+    for (path, file) in files {
+        let compared = compare_file(pair(), &mut tally, &mut Random::new(1), &file);
+        compared.unwrap_or_else(|difference| panic!("{}: {difference}", path.display()));
+    }
+    for number in (number::SOUND..=number::REFERENCE).filter(|n| *n != number::FILE_TOO_LONG) {
+        assert!(tally.checks(number) >= 5, "{tally}");
+    }
+}
+
+#[test]
+fn every_cut_of_every_case() {
+    let Pair { subject, baseline } = pair();
+    for (path, file) in files("cases") {
+        for length in 0..file.len() {
+            let cut = &file[..length];
+            assert_eq!(
+                subject.check(cut),
+                baseline.check(cut),
+                "{} {length}",
+                path.display()
+            );
+        }
+    }
+}

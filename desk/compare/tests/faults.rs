@@ -1,0 +1,326 @@
+//! The comparison finds what it is there to find: for each fault put into an
+//! otherwise right implementation a difference is reported soon.
+
+use compare::{run, Options, Pair};
+use face::{number, At, Header, Library, Owner, Refusal, Row, Value};
+use libraries::Plain;
+
+/// A right implementation but for one fault.
+struct Bent(Fault);
+
+#[derive(Clone, Copy, Debug, PartialEq, Eq)]
+enum Fault {
+    RefusesAll,
+    AcceptsAll,
+    NoSecondKeys,
+    NoReferences,
+    LineOff,
+    SectionOff,
+    LaterLine,
+    SpareRow,
+    RowsWithoutRoom,
+    LengthOff,
+    RecordsOfRefused,
+    FirstRowAgain,
+    RowVerdictInstead,
+    NeverNoRoom,
+    SectionZero,
+    DateTurned,
+    AbsentLineThere,
+    AllOperator,
+    QuotesInSpan,
+    QuotesStay,
+    PartOfText,
+    TextOfNumber,
+    LastCellLost,
+    SpareCell,
+    WritesNothing,
+    ZeroesAfterForm,
+    WritesWhenRefused,
+    RoomOffByOne,
+    LineEndLost,
+    FortyTooLong,
+    FillOrder,
+    FillWithoutMark,
+    FillOverwrites,
+    StripKeeps,
+    StripEmpties,
+    ReadsTrailer,
+}
+
+use Fault::*;
+
+const ALL: [Fault; 36] = [
+    RefusesAll,
+    AcceptsAll,
+    NoSecondKeys,
+    NoReferences,
+    LineOff,
+    SectionOff,
+    LaterLine,
+    SpareRow,
+    RowsWithoutRoom,
+    LengthOff,
+    RecordsOfRefused,
+    FirstRowAgain,
+    RowVerdictInstead,
+    NeverNoRoom,
+    SectionZero,
+    DateTurned,
+    AbsentLineThere,
+    AllOperator,
+    QuotesInSpan,
+    QuotesStay,
+    PartOfText,
+    TextOfNumber,
+    LastCellLost,
+    SpareCell,
+    WritesNothing,
+    ZeroesAfterForm,
+    WritesWhenRefused,
+    RoomOffByOne,
+    LineEndLost,
+    FortyTooLong,
+    FillOrder,
+    FillWithoutMark,
+    FillOverwrites,
+    StripKeeps,
+    StripEmpties,
+    ReadsTrailer,
+];
+
+impl Bent {
+    fn is(&self, fault: Fault) -> bool {
+        self.0 == fault
+    }
+
+    fn answer(&self, right: Refusal) -> Refusal {
+        match (self.0, right.number) {
+            (RefusesAll, number::SOUND) => Refusal::new(number::HEADER, 0, 1),
+            (AcceptsAll, _) => Refusal::SOUND,
+            (NoSecondKeys, number::SECOND_KEY) => Refusal::SOUND,
+            (NoReferences, number::REFERENCE) => Refusal::SOUND,
+            (LineOff, number::ORDER) => Refusal::new(right.number, right.section, right.line + 1),
+            (SectionOff, number::PRIMARY_KEY) => Refusal::new(right.number, 1, right.line),
+            (LaterLine, number::TRAILER) if right.line == 2 => Refusal::new(3, 0, 3),
+            _ => right,
+        }
+    }
+
+    fn row(&self, mut row: Row) -> Row {
+        match self.0 {
+            LengthOff => row.length -= 1,
+            RecordsOfRefused if row.verdict != 0 => row.records = 1,
+            _ => {}
+        }
+        row
+    }
+
+    fn put(&self, answer: Result<usize, Refusal>, out: &mut [u8]) -> Result<usize, Refusal> {
+        match (self.0, answer) {
+            (WritesNothing, Ok(_)) => Ok(0),
+            (ZeroesAfterForm, Ok(length)) => {
+                out[length..].fill(0);
+                answer
+            }
+            (WritesWhenRefused, Err(_)) if !out.is_empty() => {
+                out[0] = b'm';
+                answer
+            }
+            (RoomOffByOne, Ok(length)) if length == out.len() => {
+                Err(Refusal::placeless(number::NO_ROOM))
+            }
+            (LineEndLost, Ok(length)) => Ok(length - 1),
+            _ => answer,
+        }
+    }
+}
+
+impl Library for Bent {
+    fn name(&self) -> &'static str {
+        "bent"
+    }
+
+    fn check(&self, file: &[u8]) -> Refusal {
+        self.answer(Plain.check(file))
+    }
+
+    fn header(&self, file: &[u8]) -> Result<Header, Refusal> {
+        let mut header = Plain.header(file)?;
+        match self.0 {
+            DateTurned => std::mem::swap(&mut header.date.day, &mut header.date.month),
+            AbsentLineThere => header.dve = header.dve.or(Some(header.ver)),
+            _ => {}
+        }
+        Ok(header)
+    }
+
+    fn section(&self, file: &[u8], section: usize) -> Result<Row, Refusal> {
+        let section = match self.0 {
+            SectionZero => section.max(1),
+            _ => section,
+        };
+        Plain.section(file, section).map(|row| self.row(row))
+    }
+
+    fn list(&self, file: &[u8], rows: &mut [Row]) -> Refusal {
+        if self.is(RowsWithoutRoom) {
+            if let (Some(row), Ok(first)) = (rows.first_mut(), Plain.section(file, 1)) {
+                *row = first;
+            }
+        }
+        let mut answer = self.answer(Plain.list(file, rows));
+        if [1, 2, 21].contains(&answer.number) {
+            if self.is(NeverNoRoom) && answer.number == number::NO_ROOM {
+                answer = Refusal::SOUND;
+            }
+            return answer;
+        }
+        let count = Plain.sections(file).min(rows.len());
+        for row in &mut rows[..count] {
+            *row = self.row(*row);
+        }
+        if self.is(FirstRowAgain) && count > 1 {
+            rows[1] = rows[0];
+        }
+        if self.is(SpareRow) && count < rows.len() {
+            rows[count] = Row::default();
+        }
+        if self.is(RowVerdictInstead) && answer.number == number::TRAILER {
+            answer = Refusal::SOUND;
+        }
+        answer
+    }
+
+    fn value(&self, file: &[u8], at: At) -> Result<Value, Refusal> {
+        if self.is(ReadsTrailer) && Plain.check(file).number == number::TRAILER {
+            return Err(Plain.check(file));
+        }
+        Ok(match Plain.value(file, at)? {
+            Value::Text { span, .. } if self.is(AllOperator) => Value::Text {
+                span,
+                owner: Owner::Operator,
+            },
+            Value::Text { mut span, owner } if self.is(QuotesInSpan) => {
+                span.from -= 1;
+                span.to += 1;
+                Value::Text { span, owner }
+            }
+            value => value,
+        })
+    }
+
+    fn text(&self, file: &[u8], at: At, out: &mut [u8]) -> Result<usize, Refusal> {
+        let answer = Plain.text(file, at, out);
+        match (self.0, answer, Plain.value(file, at)) {
+            (QuotesStay, Ok(length), Ok(Value::Text { span, .. })) => {
+                let stored = span.of(file);
+                if stored.len() <= out.len() && stored.len() > length {
+                    out[..stored.len()].copy_from_slice(stored);
+                    return Ok(stored.len());
+                }
+                answer
+            }
+            (PartOfText, Err(refusal), Ok(Value::Text { span, .. })) => {
+                if refusal.number == number::NO_ROOM && !out.is_empty() {
+                    out[0] = span.of(file)[0];
+                }
+                answer
+            }
+            (TextOfNumber, Err(refusal), _) if refusal.number == number::NOT_A_TEXT => Ok(0),
+            _ => answer,
+        }
+    }
+
+    fn table(&self, file: &[u8], section: usize, cells: &mut [u64]) -> Result<usize, Refusal> {
+        let length = Plain.table(file, section, cells)?;
+        if self.is(LastCellLost) && length > 0 {
+            return Ok(length - 3);
+        }
+        if self.is(SpareCell) && length < cells.len() {
+            cells[length] = 0;
+        }
+        Ok(length)
+    }
+
+    fn write(&self, file: &[u8], out: &mut [u8]) -> Result<usize, Refusal> {
+        let answer = Plain.write(file, out);
+        self.put(answer, out)
+    }
+
+    fn fill(&self, file: &[u8], at: At, text: &[u8], out: &mut [u8]) -> Result<usize, Refusal> {
+        if self.is(FortyTooLong) && text.len() == 40 && Plain.fill(file, at, text, out).is_ok() {
+            return Err(Refusal::placeless(number::RANGE));
+        }
+        let answer = Plain.fill(file, at, text, out);
+        match (self.0, answer.map_err(|refusal| refusal.number)) {
+            (FillOrder, Err(number::BYTE)) if text.len() > 40 => {
+                Err(Refusal::placeless(number::RANGE))
+            }
+            (FillOverwrites, Err(number::NOT_EMPTY)) => Plain.write(file, out),
+            (FillWithoutMark, Ok(length)) => {
+                let form = out[..length].to_vec();
+                Plain.strip(&form, out)
+            }
+            _ => answer,
+        }
+    }
+
+    fn strip(&self, file: &[u8], out: &mut [u8]) -> Result<usize, Refusal> {
+        match self.0 {
+            StripKeeps => Plain.write(file, out),
+            StripEmpties => Plain.strip(file, out).map(|_| 0),
+            _ => Plain.strip(file, out),
+        }
+    }
+}
+
+trait Sections {
+    fn sections(&self, file: &[u8]) -> usize;
+}
+
+impl Sections for Plain {
+    fn sections(&self, file: &[u8]) -> usize {
+        face::all_rows(self, file).map_or(0, |listing| listing.rows.len())
+    }
+}
+
+#[test]
+fn each_fault_is_found() {
+    let options = Options {
+        count: 1_200,
+        large: false,
+        enough: 1,
+        ..Options::default()
+    };
+    let found = |fault: Fault| {
+        let pair = Pair {
+            subject: &Bent(fault),
+            baseline: &Plain,
+        };
+        !run(pair, &options, |_| {}).failures.is_empty()
+    };
+    let missed: Vec<_> = ALL.into_iter().filter(|fault| !found(*fault)).collect();
+    assert!(missed.is_empty(), "{missed:?}");
+}
+
+/// A small file is shown, together with the call that parts the two.
+#[test]
+fn a_difference_is_shown_with_few_lines() {
+    let options = Options {
+        count: 400,
+        large: false,
+        enough: 1,
+        ..Options::default()
+    };
+    let pair = Pair {
+        subject: &Bent(NoReferences),
+        baseline: &Plain,
+    };
+    let summary = run(pair, &options, |_| {});
+    let failure = &summary.failures[0];
+    assert_eq!(failure.difference.call, "check");
+    assert!(failure.file.iter().filter(|byte| **byte == b'\n').count() < 25);
+    let shown = summary.to_string();
+    assert!(shown.contains("subject:  Refusal { number: 0") && shown.contains("tbl"));
+}

@@ -1,0 +1,213 @@
+//! The eight tables of document 01, as the desk's tools know them.
+
+/// Range or size of a column's values.
+#[derive(Clone, Copy, Debug, PartialEq, Eq)]
+pub enum Kind {
+    Number { low: u64, high: u64 },
+    Text { size: usize },
+}
+
+#[derive(Debug, PartialEq, Eq)]
+pub struct Column {
+    pub name: &'static str,
+    pub kind: Kind,
+    /// The size in a written `frm`.
+    pub written: usize,
+}
+
+#[derive(Debug, PartialEq, Eq)]
+pub struct Table {
+    pub number: u32,
+    pub name: &'static str,
+    pub columns: &'static [Column],
+    /// Fields of the primary and of the second key, from 1.
+    pub primary: &'static [usize],
+    pub second: &'static [usize],
+    /// "Only these may be marked": the field, from 1.
+    pub markable: Option<usize>,
+}
+
+const fn num(name: &'static str, low: u64, high: u64, written: usize) -> Column {
+    let kind = Kind::Number { low, high };
+    Column {
+        name,
+        kind,
+        written,
+    }
+}
+
+const fn text(name: &'static str, size: usize) -> Column {
+    let kind = Kind::Text { size };
+    let written = size;
+    Column {
+        name,
+        kind,
+        written,
+    }
+}
+
+const V: Column = num("BASIS_VERSION", 1, 999_999_999, 9);
+
+pub static VERSIONS: Table = Table {
+    number: 485,
+    name: "MENGE_BASIS_VERSIONEN",
+    columns: &[V, text("BASIS_VERSION_TEXT", 40)],
+    primary: &[1],
+    second: &[],
+    markable: Some(2),
+};
+
+pub static VALIDITY: Table = Table {
+    number: 993,
+    name: "BASIS_VER_GUELTIGKEIT",
+    columns: &[num("VER_GUELTIGKEIT", 1, 99_999_999, 8), V],
+    primary: &[1],
+    second: &[],
+    markable: None,
+};
+
+pub static CALENDAR: Table = Table {
+    number: 348,
+    name: "FIRMENKALENDER",
+    columns: &[
+        V,
+        num("BETRIEBSTAG", 1, 99_999_999, 8),
+        text("BETRIEBSTAG_TEXT", 40),
+        num("TAGESART_NR", 1, 999, 3),
+    ],
+    primary: &[1, 2],
+    second: &[],
+    markable: Some(3),
+};
+
+pub static DAY_TYPES: Table = Table {
+    number: 290,
+    name: "MENGE_TAGESART",
+    columns: &[V, num("TAGESART_NR", 1, 999, 3), text("TAGESART_TEXT", 40)],
+    primary: &[1, 2],
+    second: &[],
+    markable: Some(3),
+};
+
+pub static POINT_TYPES: Table = Table {
+    number: 998,
+    name: "MENGE_ONR_TYP",
+    columns: &[
+        V,
+        num("ONR_TYP_NR", 1, 7, 2),
+        text("STR_ONR_TYP", 6),
+        text("ONR_TYP_TEXT", 40),
+    ],
+    primary: &[1, 2],
+    second: &[1, 3],
+    markable: Some(4),
+};
+
+pub static TRIP_TYPES: Table = Table {
+    number: 332,
+    name: "MENGE_FAHRTART",
+    columns: &[V, num("FAHRTART_NR", 1, 4, 2), text("STR_FAHRTART", 6)],
+    primary: &[1, 2],
+    second: &[1, 3],
+    markable: None,
+};
+
+pub static LINKS: Table = Table {
+    number: 225,
+    name: "REC_UEB",
+    columns: &[
+        V,
+        num("BEREICH_NR", 0, 252, 3),
+        num("ONR_TYP_NR", 1, 2, 2),
+        num("ORT_NR", 1, 999_999, 6),
+        num("UEB_ZIEL_TYP", 1, 2, 2),
+        num("UEB_ZIEL", 1, 999_999, 6),
+        num("UEB_LAENGE", 1, 81_890, 6),
+    ],
+    primary: &[1, 2, 3, 4, 5, 6],
+    second: &[],
+    markable: None,
+};
+
+pub static TIMES: Table = Table {
+    number: 247,
+    name: "UEB_FZT",
+    columns: &[
+        V,
+        num("BEREICH_NR", 0, 252, 3),
+        num("FGR_NR", 1, 999_999_999, 9),
+        num("ONR_TYP_NR", 1, 2, 2),
+        num("ORT_NR", 1, 999_999, 6),
+        num("UEB_ZIEL_TYP", 1, 2, 2),
+        num("UEB_ZIEL", 1, 999_999, 6),
+        num("UEB_FAHRZEIT", 1, 65_532, 6),
+    ],
+    primary: &[1, 2, 3, 4, 5, 6, 7],
+    second: &[],
+    markable: None,
+};
+
+pub static ALL: [&Table; 8] = [
+    &VERSIONS,
+    &VALIDITY,
+    &CALENDAR,
+    &DAY_TYPES,
+    &POINT_TYPES,
+    &TRIP_TYPES,
+    &LINKS,
+    &TIMES,
+];
+
+pub fn numbered(number: u32) -> Option<&'static Table> {
+    ALL.into_iter().find(|table| table.number == number)
+}
+
+pub fn named(name: &[u8]) -> Option<&'static Table> {
+    ALL.into_iter().find(|table| table.name.as_bytes() == name)
+}
+
+impl Column {
+    /// The format of a written `frm`.
+    pub fn format(&self) -> String {
+        self.format_of_size(self.written)
+    }
+
+    pub fn format_of_size(&self, size: usize) -> String {
+        match self.kind {
+            Kind::Number { .. } => format!("num[{size}.0]"),
+            Kind::Text { .. } => format!("char[{size}]"),
+        }
+    }
+
+    pub fn is_text(&self) -> bool {
+        matches!(self.kind, Kind::Text { .. })
+    }
+}
+
+#[cfg(test)]
+mod tests {
+    use super::*;
+
+    #[test]
+    fn tables_are_found_by_number_and_name() {
+        for table in ALL {
+            assert_eq!(numbered(table.number), Some(table));
+            assert_eq!(named(table.name.as_bytes()), Some(table));
+        }
+        assert_eq!(numbered(0), None);
+        assert_eq!(named(b"REC_ORT"), None);
+    }
+
+    #[test]
+    fn keys_and_marks_name_columns() {
+        for table in ALL {
+            let fields = table.primary.iter().chain(table.second);
+            for &field in fields.chain(&table.markable) {
+                assert!((1..=table.columns.len()).contains(&field));
+            }
+            if let Some(field) = table.markable {
+                assert_eq!(table.columns[field - 1].kind, Kind::Text { size: 40 });
+            }
+        }
+    }
+}

@@ -1,0 +1,54 @@
+//! `nhachudep`: checks, lists, shows and writes VDV 451 planning files, and
+//! says which of their sentences are ours.
+
+mod arguments;
+mod columns;
+mod commands;
+mod help;
+mod input;
+mod json;
+mod latin;
+mod lines;
+mod outlets;
+mod output;
+mod picture;
+mod pointing;
+mod refusals;
+mod terminal;
+mod trouble;
+
+use std::io;
+use std::process::ExitCode;
+
+use arguments::Wish;
+use outlets::Outlets;
+use trouble::{Outcome, Trouble};
+
+const REFUSED: u8 = 1;
+const TROUBLE: u8 = 2;
+
+fn main() -> ExitCode {
+    let mut out = io::BufWriter::new(io::stdout().lock());
+    let mut err = io::stderr().lock();
+    let mut outlets = Outlets::new(&mut out, &mut err);
+    let done = run(&mut outlets).and_then(|outcome| outlets.finish().map(|()| outcome));
+    match done {
+        Ok(Outcome::Fine) => ExitCode::SUCCESS,
+        Ok(Outcome::Refused) => ExitCode::from(REFUSED),
+        Ok(Outcome::Unread) => ExitCode::from(TROUBLE),
+        Err(trouble) => {
+            outlets.tell(&trouble);
+            ExitCode::from(TROUBLE)
+        }
+    }
+}
+
+fn run(outlets: &mut Outlets<'_>) -> Result<Outcome, Trouble> {
+    let library = libraries::chosen();
+    match Wish::read(std::env::args_os().skip(1))? {
+        Wish::Help(topic) => outlets.print(&help::of(topic))?,
+        Wish::Version => outlets.print(&help::version(library.name()))?,
+        Wish::Run(order) => return commands::run(library, &order, outlets),
+    }
+    Ok(Outcome::Fine)
+}

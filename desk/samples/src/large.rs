@@ -1,0 +1,296 @@
+//! Large files of a given number of bytes, to measure with and for the limit.
+
+use face::tables::{Table, CALENDAR, DAY_TYPES, LINKS, POINT_TYPES, TIMES, VALIDITY, VERSIONS};
+
+use crate::form::form;
+use crate::meaning;
+use crate::random::Random;
+
+const HEADER: &[u8] = b"mod; DD.MM.YYYY; HH:MM:SS; free\n\
+src; \"Messung\"; \"01.02.2024\"; \"06:00:00\"\n\
+chs; \"ISO8859-1\"\n\
+ver; \"1\"\n\
+ifv; \"1.6\"\n";
+
+/// Room left for `end`, `eof` and the comment that fills up to the size; it
+/// also lets the written form take one more suggestion.
+const RESERVE: usize = 512;
+
+/// Links of one area, so that 18 MB need no more areas than there are.
+const LINKS_OF_AREA: usize = 860;
+
+#[derive(Clone, Copy, Debug, PartialEq, Eq)]
+pub enum Order {
+    Rising,
+    Shuffled,
+}
+
+#[derive(Clone, Copy, Debug, PartialEq, Eq)]
+pub enum Shape {
+    /// As many links (225) as running times (247).
+    Network(Order),
+    /// One huge calendar (348), every eighth text a suggestion.
+    Calendar(Order),
+    /// Small tables again and again: unsound by 17.
+    Small,
+}
+
+impl Shape {
+    pub fn name(self) -> &'static str {
+        match self {
+            Shape::Network(Order::Rising) => "links and times in key order",
+            Shape::Network(Order::Shuffled) => "links and times shuffled",
+            Shape::Calendar(Order::Rising) => "one huge calendar in key order",
+            Shape::Calendar(Order::Shuffled) => "one huge calendar shuffled",
+            Shape::Small => "small tables again and again",
+        }
+    }
+}
+
+/// A file of just so many bytes, at least 4096. All shapes but the last are
+/// sound; in section 1, record 2, field 2 waits to be filled.
+pub fn file(shape: Shape, bytes: usize, seed: u64) -> Vec<u8> {
+    let mut random = Random::new(seed);
+    match shape {
+        Shape::Network(order) => network(&mut random, bytes, order),
+        Shape::Calendar(order) => calendar(&mut random, bytes, order),
+        Shape::Small => small(&mut random, bytes),
+    }
+}
+
+/// The same without a space after any `;`, for forms longer than their file.
+/// No text of a network has one.
+pub fn without_spaces(file: &[u8]) -> Vec<u8> {
+    let mut dense = Vec::with_capacity(file.len());
+    for &byte in file {
+        if byte != b' ' || dense.last() != Some(&b';') {
+            dense.push(byte);
+        }
+    }
+    dense
+}
+
+struct Part {
+    table: &'static Table,
+    /// Each with its marks and its line end.
+    records: Vec<Vec<u8>>,
+}
+
+impl Part {
+    fn new(table: &'static Table, records: &[&[u8]]) -> Part {
+        let records = records.iter().map(|record| record.to_vec()).collect();
+        Part { table, records }
+    }
+
+    fn put(&self, out: &mut Vec<u8>) {
+        put_head(out, self.table);
+        for record in &self.records {
+            out.extend_from_slice(record);
+        }
+        out.extend_from_slice(format!("end; {}\n", self.records.len()).as_bytes());
+    }
+}
+
+fn put_head(out: &mut Vec<u8>, table: &Table) {
+    let columns = table.columns.iter();
+    let names: String = columns.clone().map(|c| format!("; {}", c.name)).collect();
+    let formats: String = columns.map(|c| format!("; {}", c.format())).collect();
+    let head = format!("tbl; {}\natr{names}\nfrm{formats}\n", table.name);
+    out.extend_from_slice(head.as_bytes());
+}
+
+/// The small tables every large one refers to.
+fn parents() -> Vec<Part> {
+    vec![
+        Part::new(&VERSIONS, &[b"rec; 20; \"Winter\"\n", b"rec; 21; \"\"\n"]),
+        Part::new(&VALIDITY, &[b"rec; 20240101; 20\n"]),
+        Part::new(
+            &DAY_TYPES,
+            &[
+                b"rec; 20; 1; \"Schultag\"\n",
+                b"rec; 20; 2; \"Ferientag f\xfcr Sch\xfcler\"\n",
+                b"rec; 20; 3; \"Sonn- und Feiertag, \"\"ruhig\"\"\"\n",
+            ],
+        ),
+        Part::new(
+            &POINT_TYPES,
+            &[
+                b"rec; 20; 1; \"HP\"; \"Haltepunkt\"\n",
+                b"rec; 20; 2; \"BHOF\"; \"\"\n",
+            ],
+        ),
+    ]
+}
+
+/// Header, sections, a comment that fills up, and the trailer.
+fn assemble(parts: &[Part], bytes: usize) -> Vec<u8> {
+    let mut out = Vec::with_capacity(bytes);
+    out.extend_from_slice(HEADER);
+    for part in parts {
+        part.put(&mut out);
+    }
+    close(&mut out, parts.len(), bytes);
+    out
+}
+
+fn close(out: &mut Vec<u8>, tables: usize, bytes: usize) {
+    let trailer = format!("eof; {tables}\n");
+    let left = bytes - out.len() - trailer.len();
+    out.extend_from_slice(b"com; ");
+    out.resize(out.len() + left - 6, b'.');
+    out.push(b'\n');
+    out.extend_from_slice(trailer.as_bytes());
+}
+
+/// Bytes that remain for records beside parents and heads.
+fn room(parents: &[Part], tables: &[&'static Table], bytes: usize) -> usize {
+    let heads = tables.iter().map(|&table| Part::new(table, &[]));
+    let mut fixed = HEADER.to_vec();
+    for part in parents {
+        part.put(&mut fixed);
+    }
+    for part in heads {
+        part.put(&mut fixed);
+    }
+    bytes - fixed.len() - RESERVE
+}
+
+fn network(random: &mut Random, bytes: usize, order: Order) -> Vec<u8> {
+    let mut parts = parents();
+    let mut room = room(&parts, &[&LINKS, &TIMES], bytes);
+    let (mut links, mut times) = (Vec::new(), Vec::new());
+    loop {
+        let [link, time] = draw_link(random, links.len());
+        let length = link.len() + time.len();
+        if length > room {
+            break;
+        }
+        room -= length;
+        links.push(link);
+        times.push(time);
+    }
+    if order == Order::Shuffled {
+        random.shuffle(&mut links);
+        random.shuffle(&mut times);
+    }
+    parts.push(Part {
+        table: &LINKS,
+        records: links,
+    });
+    parts.push(Part {
+        table: &TIMES,
+        records: times,
+    });
+    assemble(&parts, bytes)
+}
+
+/// A link and its running time. Area, type and number of its start rise with
+/// the index, and with them the keys of both tables.
+fn draw_link(random: &mut Random, index: usize) -> [Vec<u8>; 2] {
+    let area = index / LINKS_OF_AREA;
+    let half = LINKS_OF_AREA / 2;
+    let from_type = index % LINKS_OF_AREA / half + 1;
+    let from = 1000 + index % half * 2300 + random.below(2000);
+    let (to_type, to) = (
+        1 + random.below(2),
+        random.between(10_000, 999_998) as usize,
+    );
+    let to = if to == from { to + 1 } else { to };
+    let points = format!("{from_type}; {from}; {to_type}; {to}");
+    let (metres, seconds) = (random.between(100, 81_890), random.between(30, 9_999));
+    [
+        format!("rec; 20; {area}; {points}; {metres}\n").into_bytes(),
+        format!("rec; 20; {area}; 1; {points}; {seconds}\n").into_bytes(),
+    ]
+}
+
+fn calendar(random: &mut Random, bytes: usize, order: Order) -> Vec<u8> {
+    let mut parts = parents();
+    let mut room = room(&parts, &[&CALENDAR], bytes);
+    let mut records = Vec::new();
+    let mut day = 10_000_000;
+    loop {
+        day += random.between(1, 100);
+        let record = draw_day(random, day, records.len() % 8 == 7);
+        if record.len() > room {
+            break;
+        }
+        room -= record.len();
+        records.push(record);
+    }
+    if order == Order::Shuffled {
+        random.shuffle(&mut records);
+    }
+    parts.push(Part {
+        table: &CALENDAR,
+        records,
+    });
+    assemble(&parts, bytes)
+}
+
+fn draw_day(random: &mut Random, day: u64, is_suggestion: bool) -> Vec<u8> {
+    let texts: [&[u8]; 4] = [
+        b"Freitag",
+        b"Samstag nach Dreik\xf6nig",
+        b"Tag der \"\"offenen\"\" T\xfcr",
+        b"Schulbeginn; sonst wie immer",
+    ];
+    let mut record = Vec::new();
+    if is_suggestion {
+        record.extend_from_slice(b"com; \"SUGGESTED 3\"\n");
+    }
+    record.extend_from_slice(format!("rec; 20; {day}; \"").as_bytes());
+    record.extend_from_slice(random.pick(&texts));
+    record.extend_from_slice(format!("\"; {}\n", random.between(1, 3)).as_bytes());
+    record
+}
+
+/// The sections of small drawn files one after another under one header.
+fn small(random: &mut Random, bytes: usize) -> Vec<u8> {
+    let mut out = HEADER.to_vec();
+    let mut tables = 0;
+    loop {
+        let model = meaning::draw(random, 3);
+        let (sections, count) = sections_of(&form(&model));
+        if out.len() + sections.len() + RESERVE > bytes {
+            break;
+        }
+        out.extend_from_slice(&sections);
+        tables += count;
+    }
+    close(&mut out, tables, bytes);
+    out
+}
+
+/// A written form without header and trailer, and its number of tables. Texts
+/// never cross a line end, so a line of the form that begins so is no text.
+fn sections_of(form: &[u8]) -> (Vec<u8>, usize) {
+    let lines: Vec<&[u8]> = form.split_inclusive(|byte| *byte == b'\n').collect();
+    let is_table = |line: &&[u8]| line.starts_with(b"tbl; ");
+    let count = lines.iter().filter(|line| is_table(line)).count();
+    let sections = lines
+        .iter()
+        .skip_while(|line| !is_table(line))
+        .filter(|line| !line.starts_with(b"eof; "));
+    (sections.copied().collect::<Vec<_>>().concat(), count)
+}
+
+#[cfg(test)]
+mod tests {
+    use super::*;
+
+    #[test]
+    fn files_have_just_the_asked_size() {
+        for shape in [
+            Shape::Network(Order::Rising),
+            Shape::Network(Order::Shuffled),
+            Shape::Calendar(Order::Rising),
+            Shape::Calendar(Order::Shuffled),
+            Shape::Small,
+        ] {
+            for bytes in [4096, 10_001, 65_537] {
+                assert_eq!(file(shape, bytes, 1).len(), bytes, "{}", shape.name());
+            }
+        }
+    }
+}

@@ -1,0 +1,278 @@
+//! What a sound file may say: keys that differ, and references that are met.
+
+use std::collections::BTreeSet;
+
+use face::tables::{
+    Column, Kind, Table, ALL, CALENDAR, DAY_TYPES, LINKS, POINT_TYPES, TIMES, TRIP_TYPES, VALIDITY,
+    VERSIONS,
+};
+use face::{Date, Owner, Time};
+
+use crate::model::{Content, Datum, Heading, Model, Record};
+use crate::random::Random;
+use crate::texts;
+
+/// What a record refers to is drawn before it.
+const PARENTS_FIRST: [&Table; 8] = [
+    &VERSIONS,
+    &VALIDITY,
+    &DAY_TYPES,
+    &CALENDAR,
+    &POINT_TYPES,
+    &TRIP_TYPES,
+    &LINKS,
+    &TIMES,
+];
+
+/// The most records a table has: few in most files.
+pub fn draw_size(random: &mut Random) -> usize {
+    match random.below(20) {
+        0 => 25,
+        1..=3 => 8,
+        4..=6 => 0,
+        _ => 3,
+    }
+}
+
+pub fn draw(random: &mut Random, most: usize) -> Model {
+    let header = draw_header(random);
+    let mut tables = draw_tables(random);
+    let mut records = Records {
+        latin: header.latin,
+        random,
+        most,
+        tables: Vec::new(),
+    };
+    for table in PARENTS_FIRST {
+        if tables.contains(&table.number) {
+            records.add(table);
+        }
+    }
+    let mut drawn = records.tables;
+    random.shuffle(&mut tables);
+    drawn.sort_by_key(|content| tables.iter().position(|n| *n == content.table.number));
+    Model {
+        header,
+        tables: drawn,
+    }
+}
+
+/// Numbers of the tables the file has: mostly all eight, else any of them.
+fn draw_tables(random: &mut Random) -> Vec<u32> {
+    let share = random.pick(&[100, 100, 100, 85, 85, 50, 10]);
+    let all = ALL.into_iter().map(|table| table.number);
+    all.filter(|_| random.percent(share)).collect()
+}
+
+fn draw_header(random: &mut Random) -> Heading {
+    let mut text = || {
+        let size = random.pick(&[1, 12, 40, 90]);
+        texts::draw(random, false, size)
+    };
+    let [source, ver, ifv, dve, fft] = [(); 5].map(|()| text());
+    Heading {
+        source,
+        date: draw_date(random),
+        time: Time {
+            hour: random.between(0, 23),
+            minute: random.between(0, 59),
+            second: random.between(0, 59),
+        },
+        latin: random.percent(65),
+        ver,
+        ifv,
+        dve: random.percent(40).then_some(dve),
+        fft: random.percent(40).then_some(fft),
+    }
+}
+
+fn draw_date(random: &mut Random) -> Date {
+    let date = |year, month, day| Date { year, month, day };
+    match random.below(8) {
+        0 => date(1, 1, 1),
+        1 => date(9999, 12, 31),
+        2 => date(random.pick(&[2000, 2024, 1600, 4]), 2, 29),
+        3 => date(random.between(1, 9999), random.pick(&[4, 6, 9, 11]), 30),
+        _ => date(
+            random.between(1, 9999),
+            random.between(1, 12),
+            random.between(1, 28),
+        ),
+    }
+}
+
+/// The tables drawn so far.
+struct Records<'r> {
+    random: &'r mut Random,
+    latin: bool,
+    most: usize,
+    tables: Vec<Content>,
+}
+
+impl Records<'_> {
+    fn add(&mut self, table: &'static Table) {
+        let wanted = self.draw_count(table);
+        let mut records = Vec::new();
+        let mut primary = BTreeSet::new();
+        let mut second = BTreeSet::new();
+        for _ in 0..wanted {
+            let Some(record) = self.draw_record(table) else {
+                break;
+            };
+            let keys = [table.primary, table.second].map(|fields| key(&record, fields));
+            let [first_key, second_key] = keys;
+            if primary.contains(&first_key) || second.contains(&second_key) {
+                continue;
+            }
+            primary.insert(first_key);
+            if !table.second.is_empty() {
+                second.insert(second_key);
+            }
+            records.push(record);
+        }
+        self.tables.push(Content { table, records });
+    }
+
+    /// Tables that many records refer to are seldom left empty.
+    fn draw_count(&mut self, table: &Table) -> usize {
+        let count = self.random.below(self.most + 1);
+        let is_parent = [&VERSIONS, &DAY_TYPES, &POINT_TYPES, &LINKS].contains(&table);
+        if is_parent && self.random.percent(85) {
+            self.most - count / 2
+        } else {
+            count
+        }
+    }
+
+    /// None if a record would lack its parents.
+    fn draw_record(&mut self, table: &'static Table) -> Option<Record> {
+        let fixed = match table.number {
+            485 => vec![(0, self.draw_version())],
+            993 => vec![(1, self.parent(&VERSIONS)?[0].number())],
+            348 => {
+                let day_type = self.parent(&DAY_TYPES)?;
+                vec![(0, day_type[0].number()), (3, day_type[1].number())]
+            }
+            998 => {
+                let version = self.parent(&VERSIONS)?[0].number();
+                vec![(0, version), (1, self.draw_point_type())]
+            }
+            225 => self.draw_points()?,
+            247 => {
+                let link = self.parent(&LINKS)?;
+                let shared = [0, 1, 3, 4, 5, 6].into_iter();
+                shared.zip(link.iter().map(Datum::number)).collect()
+            }
+            _ => vec![(0, self.parent(&VERSIONS)?[0].number())],
+        };
+        Some(self.draw_values(table, &fixed))
+    }
+
+    /// Mostly one of the two that links name.
+    fn draw_point_type(&mut self) -> u64 {
+        match self.random.below(5) {
+            0 => self.random.between(1, 7),
+            _ => self.random.between(1, 2),
+        }
+    }
+
+    /// A record of a table drawn before.
+    fn parent(&mut self, table: &Table) -> Option<Record> {
+        let content = self.tables.iter().find(|c| c.table == table)?;
+        self.random.choose(&content.records).cloned()
+    }
+
+    fn draw_version(&mut self) -> u64 {
+        match self.random.below(4) {
+            0 => self.random.pick(&[1, 999_999_999]),
+            _ => self.random.between(1, 60),
+        }
+    }
+
+    /// Version, and the two points of a link: their types stand in the file,
+    /// and "the two points, type and number together, differ".
+    fn draw_points(&mut self) -> Option<Vec<(usize, u64)>> {
+        let types = self.link_types();
+        let (version, from) = *self.random.choose(&types)?;
+        let others: Vec<_> = types.iter().filter(|(v, _)| *v == version).collect();
+        let (_, to) = *self.random.pick(&others);
+        let start = self.draw_point();
+        let goal = match self.random.below(3) {
+            0 if from != to => start,
+            _ => self.draw_point(),
+        };
+        let goal = if (from, start) == (to, goal) {
+            goal % 999_999 + 1
+        } else {
+            goal
+        };
+        Some(vec![
+            (0, version),
+            (2, from),
+            (3, start),
+            (4, to),
+            (5, goal),
+        ])
+    }
+
+    /// Versions and point types that a link may name.
+    fn link_types(&self) -> Vec<(u64, u64)> {
+        let types = self.tables.iter().filter(|c| *c.table == POINT_TYPES);
+        types
+            .flat_map(|content| &content.records)
+            .map(|record| (record[0].number(), record[1].number()))
+            .filter(|(_, point_type)| (1..=2).contains(point_type))
+            .collect()
+    }
+
+    fn draw_point(&mut self) -> u64 {
+        match self.random.below(6) {
+            0 => self.random.pick(&[1, 999_999]),
+            _ => self.random.between(1, 30),
+        }
+    }
+
+    fn draw_values(&mut self, table: &Table, fixed: &[(usize, u64)]) -> Record {
+        let mut record: Record = table.columns.iter().map(|c| self.draw_value(c)).collect();
+        for &(column, number) in fixed {
+            record[column] = Datum::Number(number);
+        }
+        if let Some(field) = table.markable {
+            self.draw_owner(&mut record[field - 1]);
+        }
+        record
+    }
+
+    fn draw_value(&mut self, column: &Column) -> Datum {
+        match column.kind {
+            Kind::Number { low, high } => Datum::Number(match self.random.below(5) {
+                0 => low,
+                1 => high,
+                2 => self.random.between(low, high),
+                _ => self.random.between(low, high.min(low + 12)),
+            }),
+            Kind::Text { size } => {
+                let text = texts::draw(self.random, self.latin, size);
+                Datum::Text(text, Owner::Operator)
+            }
+        }
+    }
+
+    /// A mark on an empty text is 15, so only others are suggestions.
+    fn draw_owner(&mut self, datum: &mut Datum) {
+        if let Datum::Text(text, owner) = datum {
+            if !text.is_empty() && self.random.percent(40) {
+                *owner = Owner::Suggestion;
+            }
+        }
+    }
+}
+
+/// A key's values; texts by their own bytes, whoever's they are.
+pub fn key(record: &Record, fields: &[usize]) -> Vec<(u64, Vec<u8>)> {
+    let value = |field: &usize| match &record[field - 1] {
+        Datum::Number(number) => (*number, Vec::new()),
+        Datum::Text(text, _) => (0, text.clone()),
+    };
+    fields.iter().map(value).collect()
+}

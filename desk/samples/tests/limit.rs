@@ -1,0 +1,57 @@
+//! Large files: sound up to the limit, refused one byte beyond.
+
+use face::{At, LIMIT};
+use reader::{check, list, write, Answer};
+use samples::large::{file, Order, Shape};
+
+const SOUND: [Shape; 4] = [
+    Shape::Network(Order::Rising),
+    Shape::Network(Order::Shuffled),
+    Shape::Calendar(Order::Rising),
+    Shape::Calendar(Order::Shuffled),
+];
+
+#[test]
+fn large_files_are_sound() {
+    for shape in SOUND {
+        assert_eq!(check(&file(shape, 300_000, 1)), Answer::SOUND, "{shape:?}");
+    }
+}
+
+#[test]
+fn small_tables_again_and_again_are_17() {
+    let bytes = file(Shape::Small, 300_000, 1);
+    let answer = check(&bytes);
+    assert_eq!((answer.number, answer.line), (17, 1));
+    let rows = list(&bytes).unwrap();
+    assert!(rows.len() > 500);
+    assert!(rows.iter().all(|row| row.verdict == 0));
+}
+
+#[test]
+fn the_limit_and_one_more() {
+    let full = file(Shape::Network(Order::Rising), LIMIT, 1);
+    assert_eq!(full.len(), LIMIT);
+    assert_eq!(check(&full), Answer::SOUND);
+    let rows = list(&full).unwrap();
+    let of_table = |number| rows.iter().find(|row| row.table == number).unwrap().records;
+    assert_eq!(of_table(225), of_table(247));
+    assert!(
+        (185_000..200_000).contains(&of_table(225)),
+        "{}",
+        of_table(225)
+    );
+
+    let over = file(Shape::Calendar(Order::Shuffled), LIMIT + 1, 1);
+    assert_eq!(check(&over), Answer::placeless(1));
+}
+
+#[test]
+fn the_form_of_a_full_file_takes_one_more_suggestion() {
+    let full = file(Shape::Calendar(Order::Rising), LIMIT, 1);
+    let mut out = vec![0; LIMIT];
+    let written = write(&full, &mut out).unwrap();
+    let at = At::new(1, 2, 2);
+    let filled = reader::fill(&full, at.section, at.record, at.field, b"neu", &mut out).unwrap();
+    assert_eq!(filled, written + b"com; \"SUGGESTED 2\"\nneu".len());
+}
