@@ -1,7 +1,9 @@
 // One field of a line: a slice that is trimmed already, read as document 01 says.
 mod columns;
+mod dates;
 mod formats;
 mod marks;
+mod names;
 mod numbers;
 mod places;
 mod texts;
@@ -10,9 +12,17 @@ pub use columns::amount_of;
 pub use columns::read_field;
 pub use columns::read_number_field;
 pub use columns::read_text_field;
+pub use dates::days_in;
+pub use dates::is_date;
+pub use dates::is_time;
+pub use dates::read_date;
+pub use dates::read_time;
 pub use formats::is_format;
 pub use formats::is_formed;
 pub use marks::read_remark;
+pub use names::form_named;
+pub use names::is_ascii_name;
+pub use names::is_latin_name;
 pub use numbers::Magnitude;
 pub use numbers::is_digit;
 pub use numbers::read_digits;

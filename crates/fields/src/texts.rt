@@ -30,7 +30,7 @@ fn body_size(w: &[u8]) -> Size
                 return Size::Nothing;
             }
             met = false;
-            n += 1;
+            n += 1; // the pair
         } else {
             if b == 34 {
                 met = true;

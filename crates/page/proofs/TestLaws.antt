@@ -35,9 +35,6 @@ same-true (x ∷ a) (y ∷ b) e =
     let t : a ≡ b = same-true a b (and-right (eqb x y) (same a b) e) in
     cc
 
-pub same-of : (a b : Bytes) → a ≡ b → same a b ≡ true
-same-of a b e = rw e (same-refl b)
-
 -- a test that holds exactly where another does
 pub both-ways : (a b : Bool) → (a ≡ true → b ≡ true) → (b ≡ true → a ≡ true) → a ≡ b
 both-ways true b f g = sym (f refl)

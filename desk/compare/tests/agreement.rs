@@ -43,7 +43,7 @@ fn files(folder: &str) -> Vec<(PathBuf, Vec<u8>)> {
 #[test]
 fn cases_and_examples() {
     let mut tally = Tally::default();
-    let files = [files("cases"), files("examples")].concat();
+    let files = [files("crates/cases/data"), files("examples")].concat();
     assert!(files.len() > 200);
     for (path, file) in files {
         let compared = compare_file(pair(), &mut tally, &mut Random::new(1), &file);
@@ -57,7 +57,7 @@ fn cases_and_examples() {
 #[test]
 fn every_cut_of_every_case() {
     let Pair { subject, baseline } = pair();
-    for (path, file) in files("cases") {
+    for (path, file) in files("crates/cases/data") {
         for length in 0..file.len() {
             let cut = &file[..length];
             assert_eq!(

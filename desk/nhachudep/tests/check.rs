@@ -177,7 +177,7 @@ fn every_case() {
         };
         expected.push(format!("{name}: {part}, line {place}: {number} "));
     }
-    let run = run_in(&cases(), &[&["check"], &names[..]].concat());
+    let run = run_in(&cases().join("data"), &[&["check"], &names[..]].concat());
     assert_eq!(run.code, 1);
     let told: Vec<&str> = run
         .err

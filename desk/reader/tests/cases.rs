@@ -11,7 +11,7 @@ use common::answer;
 use reader::{check, listing, strip, write, Answer};
 
 fn folder() -> PathBuf {
-    PathBuf::from(env!("CARGO_MANIFEST_DIR")).join("../../cases")
+    PathBuf::from(env!("CARGO_MANIFEST_DIR")).join("../../crates/cases")
 }
 
 fn read_text(name: &str) -> String {
@@ -21,7 +21,7 @@ fn read_text(name: &str) -> String {
 /// Every case by its file's name, in the names' byte order.
 fn cases() -> BTreeMap<String, Vec<u8>> {
     let mut found = BTreeMap::new();
-    for entry in fs::read_dir(folder()).unwrap() {
+    for entry in fs::read_dir(folder().join("data")).unwrap() {
         let path = entry.unwrap().path();
         if path.extension().is_some_and(|e| e == "x10") {
             let name = path.file_name().unwrap().to_str().unwrap().to_owned();

@@ -119,5 +119,5 @@ pub fn examples() -> PathBuf {
 }
 
 pub fn cases() -> PathBuf {
-    project().join("cases")
+    project().join("crates/cases")
 }

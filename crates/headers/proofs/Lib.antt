@@ -1,0 +1,5 @@
+pub mod FrontLaws
+pub mod FoundLaws
+pub mod TrailerLaws
+pub mod TextLaws
+pub mod RunLaws

@@ -1,0 +1,11 @@
+pub mod PackLaws
+pub mod ReferenceLaws
+pub mod ChoiceLaws
+pub mod SameLaws
+pub mod SoundLaws
+pub mod StoreLaws
+pub mod OrderLaws
+pub mod AgainLaws
+pub mod WalkLaws
+pub mod FileKeyLaws
+pub mod SettledLaws
