@@ -1,0 +1,4 @@
+pub mod FoundLaws
+pub mod TrailerLaws
+pub mod TextLaws
+pub mod RunLaws

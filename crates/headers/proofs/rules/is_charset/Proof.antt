@@ -1,0 +1,32 @@
+use Prim.Native.Nat.{ℕ, suc, _+_, _-_, _*_, _<_, _≤_}
+use mathlib.Core.Path.{_≡_, refl, ap, sym, _∙_}
+use mathlib.Core.Logic.{⊎-elim}
+use mathlib.Core.Bool.{Bool, true, false}
+use native.Mathlib.Omega.{arith}
+use borrow.Author.Tests.{lt-ltb, le-ltb, le-leb, lt-leb, eq-eqb, ne-eqb}
+use lib.ListN.{length, getD, take, drop}
+use borrow.Author.Needs.{needs}
+use Rattle.headers.proofs.rules.is_charset.Statement.{statement}
+use Rattle.headers.proofs.rules.is_charset.Tie as tie
+use Rattle.headers.proofs.rules.is_charset.Reads as reads
+use Rattle.headers.proofs.rules.is_charset.Lts as lts
+use Rattle.fields.proofs.is_ascii_name.Reads as is-ascii-name-reads
+use Rattle.fields.proofs.is_latin_name.Reads as is-latin-name-reads
+
+is-ascii-name-requires : tie.Need-is-ascii-name-requires
+is-ascii-name-requires c κs = search needs
+
+returns : tie.Need-returns
+returns c =
+    rw (sym (c .before .is-ascii-name .ensures) ∙ c .if1 .taken)
+
+is-latin-name-requires : tie.Need-is-latin-name-requires
+is-latin-name-requires c κs = search needs
+
+returns-2 : tie.Need-returns-2
+returns-2 c =
+    rw (sym (c .before .before .is-ascii-name .ensures) ∙ c .before .if1 .left) (c .is-latin-name .ensures)
+
+pub is-charset-spec : {M : Type 1} → statement M
+is-charset-spec =
+    tie.close (tie.spec is-ascii-name-requires returns is-latin-name-requires returns-2)

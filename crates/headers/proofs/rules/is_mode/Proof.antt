@@ -1,0 +1,47 @@
+use Rattle.page.specs.Bytes.{bytes}
+use Prim.Native.Nat.{ℕ, suc, _+_, _-_, _*_, _<_, _≤_}
+use mathlib.Core.Path.{_≡_, refl, ap, sym, _∙_}
+use mathlib.Core.Logic.{⊎-elim}
+use mathlib.Core.Bool.{Bool, true, false}
+use native.Mathlib.Omega.{arith}
+use borrow.Author.Tests.{lt-ltb, le-ltb, le-leb, lt-leb, eq-eqb, ne-eqb}
+use lib.ListN.{length, getD, take, drop}
+use borrow.Author.Needs.{needs}
+use Rattle.headers.proofs.rules.is_mode.Statement.{statement}
+use Rattle.headers.proofs.rules.is_mode.Tie as tie
+use Rattle.headers.proofs.rules.is_mode.Reads as reads
+use Rattle.headers.proofs.rules.is_mode.Lts as lts
+use Rattle.lines.proofs.equal.Reads as equal-reads
+
+slice-aggregate-equal : tie.Need-slice-aggregate-equal
+slice-aggregate-equal c = search needs
+
+equal-requires : tie.Need-equal-requires
+equal-requires c κs = search needs
+
+returns : tie.Need-returns
+unfolding bytes
+returns c =
+    rw (sym (c .before .equal .ensures) ∙ c .if1 .taken)
+
+slice-aggregate-equal-2 : tie.Need-slice-aggregate-equal-2
+slice-aggregate-equal-2 c = search needs
+
+equal-requires-2 : tie.Need-equal-requires-2
+equal-requires-2 c κs = search needs
+
+returns-2 : tie.Need-returns-2
+unfolding bytes
+returns-2 c =
+    rw (sym (c .before .before .before .equal .ensures) ∙ c .before .before .if1 .left) (c .equal2 .ensures)
+
+pub is-mode-spec : {M : Type 1} → statement M
+is-mode-spec =
+    tie.close
+    (tie.spec
+    slice-aggregate-equal
+    equal-requires
+    returns
+    slice-aggregate-equal-2
+    equal-requires-2
+    returns-2)

@@ -1,0 +1,35 @@
+use Rattle.headers.proofs.TextLaws.{text-some, text-none}
+use Rattle.page.specs.Fields.{textOf}
+use Prim.Native.Nat.{ℕ, suc, _+_, _-_, _*_, _<_, _≤_}
+use mathlib.Core.Path.{_≡_, refl, ap, sym, _∙_}
+use mathlib.Core.Logic.{⊎-elim}
+use mathlib.Core.Bool.{Bool, true, false}
+use native.Mathlib.Omega.{arith}
+use borrow.Author.Tests.{lt-ltb, le-ltb, le-leb, lt-leb, eq-eqb, ne-eqb}
+use lib.ListN.{length, getD, take, drop}
+use borrow.Author.Needs.{needs}
+use Rattle.headers.proofs.rules.is_text.Statement.{statement}
+use Rattle.headers.proofs.rules.is_text.Tie as tie
+use Rattle.headers.proofs.rules.is_text.Reads as reads
+use Rattle.headers.proofs.rules.is_text.Lts as lts
+use Rattle.fields.proofs.text_size.Reads as text-size-reads
+
+text-size-requires : tie.Need-text-size-requires
+text-size-requires c κs = search needs
+
+enum-known-n : tie.Need-enum-known-n
+enum-known-n c = search needs
+
+enum-told : tie.Need-enum-told
+enum-told c = search needs
+
+returns : tie.Need-returns
+returns c =
+    sym (text-some (textOf (c .before .before .before .before .before .args .f .now)) _ (sym (c .before .before .before .text-size .ensures) ∙ c .before .n .given .1))
+
+returns-2 : tie.Need-returns-2
+returns-2 c =
+    sym (text-none (textOf (c .before .before .before .before .args .f .now)) (sym (c .before .before .text-size .ensures) ∙ c .enum-told .given .1))
+
+pub is-text-spec : {M : Type 1} → statement M
+is-text-spec = tie.close (tie.spec text-size-requires enum-known-n enum-told returns returns-2)
