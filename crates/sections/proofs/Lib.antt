@@ -1,0 +1,4 @@
+pub mod RecordLaws
+pub mod WalkLaws
+pub mod RunLaws
+pub mod SoundLaws

@@ -1,0 +1,114 @@
+// A section read from its bytes.
+ghost use mathlib.Core.Path.{_≡_};
+ghost use Prim.Native.Nat.{_+_, _<_, _≤_};
+ghost use lib.ListN.{length, drop};
+ghost use Rattle.page.specs.Lines.{lines};
+ghost use Rattle.page.specs.Section.{table-in, refused, finish, outcome};
+ghost use Rattle.page.specs.File.{rowOf};
+ghost use Rattle.sections.specs.Walk.{section-size, section-from};
+use crate::machine::step;
+use lines::Cursor;
+use page::Outcome;
+use page::Phase;
+use page::Row;
+use page::Step;
+use page::tables::find_number;
+
+// "Table number is 0 if the `tbl` line fails."
+fn table_in(p: Phase) -> u32
+    ensures { λ r. ⌜ r ≡ table-in p ⌝ }
+{
+    match p {
+        Phase::Tbl => 0,
+        Phase::Atr(t) => find_number(t),
+        Phase::Frm(t) => find_number(t),
+        Phase::Rows(t, _, _) => find_number(t),
+        Phase::Ended(t, _) => find_number(t),
+    }
+}
+
+fn refuse(table: u32, verdict: u32, line: usize) -> Outcome
+    ensures { λ r. ⌜ r ≡ refused table verdict line ⌝ }
+{
+    Outcome {
+        table: table,
+        records: 0,
+        verdict: verdict,
+        line: line,
+    }
+}
+
+// "section ends without `end` (place: its last line; only if no line fails)": n lines have been read.
+fn finish(p: Phase, n: usize) -> Outcome
+    ensures { λ r. ⌜ r ≡ finish p n ⌝ }
+{
+    match p {
+        Phase::Tbl => refuse(0, 6, n),
+        Phase::Atr(t) => refuse(find_number(t), 6, n),
+        Phase::Frm(t) => refuse(find_number(t), 6, n),
+        Phase::Rows(t, _, _) => refuse(find_number(t), 6, n),
+        Phase::Ended(t, k) => Outcome {
+            table: find_number(t),
+            records: k,
+            verdict: 0,
+            line: 0,
+        },
+    }
+}
+
+// "A section gives its first failing line": s is the section's bytes.
+pub fn read_lines(s: &[u8], latin: bool) -> Outcome
+    ensures { λ r. ⌜ r ≡ outcome latin (lines (now (s .entry))) ⌝ }
+{
+    let mut c = Cursor { at: 0 };
+    let mut n: usize = 0;
+    let mut p = Phase::Tbl;
+    while c.at < s.len() {
+        let at = c.at;
+        let l = c.line(s);
+        let e = l.span.to;
+        let st = step(&s[at..e], p, latin);
+        n += 1;
+        c = l.next;
+        match st {
+            Step::Go(q) => {
+                p = q;
+            }
+            Step::Stop(v) => {
+                return refuse(table_in(p), v, n);
+            }
+        }
+    }
+    finish(p, n)
+}
+
+// Where the section at a place ends: "up to the next `tbl` or `eof` line or the end of the bytes".
+pub fn section_end(s: &[u8], from: usize) -> usize
+    requires { ⌜ from < length (now s) ⌝ }
+    ensures { λ r.
+        ⌜ (r ≡ from + section-size (drop from (now (s .entry))))
+        × (from < r)
+        × (r ≤ length (now (s .entry))) ⌝ }
+{
+    let c = Cursor { at: from };
+    let l = c.line(s);
+    let e = l.span.to;
+    e + headers::header_size(&s[e..])
+}
+
+// "table number, place, length, record count and verdict"
+pub fn read_section(s: &[u8], from: usize, latin: bool) -> Row
+    requires { ⌜ from < length (now s) ⌝ }
+    ensures { λ r. ⌜ r ≡ rowOf latin (section-from (now (s .entry)) from) ⌝ }
+{
+    let e = section_end(s, from);
+    let o = read_lines(&s[from..e], latin);
+    Row {
+        table: o.table,
+        place: from,
+        length: e - from,
+        records: o.records,
+        verdict: o.verdict,
+        line: o.line,
+    }
+}
