@@ -1,0 +1,5 @@
+pub mod Begins
+pub mod Headers
+pub mod Trailers
+pub mod First
+pub mod Files

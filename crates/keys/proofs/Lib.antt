@@ -1,0 +1,5 @@
+pub mod PackLaws
+pub mod ReferenceLaws
+pub mod ChoiceLaws
+pub mod SameLaws
+pub mod SoundLaws

@@ -1,0 +1,1 @@
+// The keys of records, by value.
