@@ -1,20 +1,18 @@
 -- The machine accepts exactly the sections that the grammar denotes.
 use mathlib.Core.Path.{_≡_, refl, ap, sym, _∙_}
-use mathlib.Core.Bool.{Bool, true, false, false≢true, _&&_}
+use mathlib.Core.Bool.{Bool, true, false≢true}
 use mathlib.Core.List.{List, [], _∷_}
 use mathlib.Core.Logic.{_⊎_, inl, inr}
-use Prim.Native.Nat.{ℕ, zero, suc, _+_, _≤_, _<_}
+use Prim.Native.Nat.{ℕ, zero, suc, _+_}
 use native.Mathlib.Omega.{arith}
-use native.Mathlib.Nat.{zero-add, add-zero}
-use lib.Dec.{eqb, leb}
+use native.Mathlib.Nat.{zero-add}
 use lib.ListN.{length}
-use borrow.Author.Tests.{leb-true}
 use Rattle.page.specs.Bytes.{Bytes}
 use Rattle.page.specs.Tables.{number-at}
 use Rattle.page.specs.Marks.{may-mark}
-use Rattle.page.specs.Section.{step, continue, finish, run, outcome, refused, table-in}
+use Rattle.page.specs.Section.{step, continue, finish, run, outcome, table-in}
 use Rattle.page.specs.Records.{Record}
-use Rattle.page.specs.Grammar.{Quiet, TblLine, AtrLine, FrmLine, MarkLine, EndLine, Rises, lone, above, Then, found, skip, Silence, over, still, Records, pause, a-mark, a-record, the-end, Denotes}
+use Rattle.page.specs.Grammar.{AtrLine, FrmLine, MarkLine, Rises, above, Then, found, skip, Silence, over, still, Records, pause, a-mark, a-record, the-end, Denotes}
 use Rattle.page.specs.Refusals.{marks-of, Leads, quiet, tbl, atr, frm, mark, record-line, end}
 use Rattle.page.specs.declared.Phase.{Phase}
 use Rattle.page.specs.declared.Phase.the-variants as P
@@ -33,6 +31,7 @@ Fits (P.Frm t) = Unit
 Fits (P.Rows t m n) = (m ≡ 0) ⊎ (may-mark t m ≡ true)
 Fits (P.Ended t n) = Unit
 
+-- that stays so from line to line
 pub fits-on : {latin : Bool} {l : Bytes} {p q : Phase} → Leads latin l p q → Fits p → Fits q
 fits-on (quiet h) x = x
 fits-on (tbl h) x = tt
@@ -42,6 +41,7 @@ fits-on (mark h) x = inr (h .may)
 fits-on (record-line h) x = inl refl
 fits-on (end h) x = tt
 
+-- a mark that may stand is the only one of its record
 pub only-mark : (t m i : ℕ) → (m ≡ 0) ⊎ (may-mark t m ≡ true) → may-mark t i ≡ true → Rises i (marks-of m) → marks-of i ≡ i ∷ marks-of m
 only-mark t m zero x e r = let z = may-mark-within t 0 e .0 in absurd (let y : ⊥ = omega arith in y)
 only-mark t zero (suc i) x e r = refl

@@ -1,24 +1,24 @@
 -- One walk over the machine's tests: it refuses a line exactly by the first law that the line breaks, and goes on only where the grammar leads.
-use mathlib.Core.Path.{_≡_, refl, ap, sym, _∙_}
-use mathlib.Core.Bool.{Bool, true, false, not, _&&_, _||_, false≢true}
-use mathlib.Core.List.{List, [], _∷_, _++_, map, List·Memᴰ}
+use mathlib.Core.Path.{_≡_, refl, ap, _∙_}
+use mathlib.Core.Bool.{Bool, true, false, _&&_, false≢true}
+use mathlib.Core.List.{List, [], _∷_, _++_, List·Memᴰ}
 use mathlib.Core.Logic.{_⊎_, inl, inr, _↔_}
 use mathlib.Core.Option.{Option, none, some}
-use Prim.Native.Nat.{ℕ, zero, suc, _+_, _-_, _≤_, _<_}
+use Prim.Native.Nat.{ℕ, zero, suc, _-_, _≤_}
 use native.Mathlib.Omega.{arith}
 use native.Mathlib.Numerals.{add-one}
 use borrow.Author.Tests.{ne-eqb}
-use lib.Dec.{eqb, leb, ltb}
-use lib.ListN.{length, getD}
+use lib.Dec.{eqb, leb}
+use lib.ListN.{length}
 use Rattle.page.specs.Bytes.{Bytes, bytes, pick}
-use Rattle.page.specs.Lines.{content, blank, command, rest, clean, Tbl, Atr, Frm, Rec, End, Com, Unknown, Missing}
+use Rattle.page.specs.Lines.{content, blank, command, rest, clean, Tbl, Atr, Frm, Rec, End, Com}
 use Rattle.page.specs.Fields.{fields, numberOf}
-use Rattle.page.specs.Tables.{Named, table-at, table-named, table-count, columns, standing, width}
-use Rattle.page.specs.Marks.{remarkOf, may-mark}
+use Rattle.page.specs.Tables.{Named, table-at, columns, standing, width}
+use Rattle.page.specs.Marks.{remarkOf}
 use Rattle.page.specs.Section
 use Rattle.page.specs.Records.{Datum, number, words, Record}
-use Rattle.page.specs.Grammar.{fields-of, Says, Quiet, empty, remark, TblLine, AtrLine, FrmLine, RecLine, MarkLine, EndLine, Holds, a-number, a-text, owner-by, Values, no-field, a-field, SamePoints}
-use Rattle.page.specs.Refusals.{Law, law, FirstBroken, either-laws, marks-of, InOrder, One, kind-law, fields-laws, rec-laws, end-laws, command-laws, GoodMark, laws, Leads, quiet, tbl, atr, frm, mark, record-line, end}
+use Rattle.page.specs.Grammar.{fields-of, Says, empty, remark, Holds, a-number, a-text, owner-by, Values, no-field, a-field, SamePoints}
+use Rattle.page.specs.Refusals.{Law, law, FirstBroken, either-laws, marks-of, InOrder, kind-law, fields-laws, rec-laws, end-laws, command-laws, GoodMark, laws, Leads, quiet, tbl, atr, frm, mark, record-line, end}
 use Rattle.page.specs.declared.Number.{Number}
 use Rattle.page.specs.declared.Number.the-variants as N
 use Rattle.page.specs.declared.Column.{Column}
@@ -33,7 +33,7 @@ use Rattle.page.specs.declared.Field.the-variants as F
 use Rattle.page.specs.declared.Step.{Step}
 use Rattle.page.specs.declared.Step.the-variants as S
 use Rattle.page.proofs.TableLaws.{name-tells}
-use Rattle.demands.proofs.Decides.{Decides, holds, fails, fact, when, both, equal, at-most}
+use Rattle.demands.proofs.Decides.{Decides, holds, fails, fact, both, equal, at-most}
 use Rattle.demands.proofs.Tests.{is-d, names-d, formats-d, rises-d, unknown-d, one-d, named-d}
 use Rattle.demands.proofs.Values.{values-once, points-d, empty-d}
 
@@ -257,6 +257,7 @@ module _ (latin : Bool) (l : Bytes) where
         (λ e. record-agrees t m n (says Rec e)) (λ e. end-agrees t m n (fields-of l) (says End e) refl)
     line-agrees (P.Ended t n) = hit (λ x. x)
 
+  -- every line, in every phase
   pub step-agrees : (p : Phase) → Agrees (Leads latin l p) (Section.step latin p l) (laws latin p l)
   unfolding Section.step Section.content-step laws
   step-agrees p =

@@ -1,14 +1,14 @@
 -- A file's sections: all denote their tables, or the first that does not is refused; and no table comes twice, or the first that does is.
 use mathlib.Core.Path.{_≡_, refl, ap, sym, _∙_}
-use mathlib.Core.Bool.{Bool, true, false, _||_, false≢true}
-use mathlib.Core.List.{List, [], _∷_, _++_, map, List·Memᴰ, List·Memᴰ·head, List·Memᴰ·tail, Memᴰ·append-left, Memᴰ·append-right, List·Memᴰ·append-cases, List·Memᴰ·eq-of-singleton}
+use mathlib.Core.Bool.{Bool, true, false}
+use mathlib.Core.List.{List, [], _∷_, _++_, map, List·Memᴰ, List·Memᴰ·head, Memᴰ·append-left, Memᴰ·append-right, List·Memᴰ·append-cases, List·Memᴰ·eq-of-singleton, List·Memᴰ·cases-cons, List·Memᴰ·not-nil}
 use mathlib.Core.Logic.{_⊎_, inl, inr}
-use Prim.Native.Nat.{ℕ, zero, suc, _+_, _<_}
+use Prim.Native.Nat.{ℕ, suc, _+_, _<_}
 use native.Mathlib.Omega.{arith}
 use lib.Dec.{eqb}
 use lib.ListN.{length}
 use borrow.Author.Tests.{ne-eqb}
-use Rattle.page.specs.Bytes.{Bytes, pick}
+use Rattle.page.specs.Bytes.{pick}
 use Rattle.page.specs.Tables.{number-at, table-count}
 use Rattle.page.specs.Cut.{Section}
 use Rattle.page.specs.Section.{outcome, refused}
@@ -20,7 +20,6 @@ use Rattle.page.specs.Grammar.{Denotes}
 use Rattle.page.specs.Refusals.{Refused}
 use Rattle.page.specs.Rules.{Every, none-left, one-more, Tables, no-table, a-table}
 use Rattle.page.specs.declared.Outcome.{Outcome}
-use Rattle.page.specs.declared.Refusal.{Refusal}
 use Rattle.page.proofs.TableLaws.{number-injective}
 use Rattle.demands.specs.Begins.{begins}
 use Rattle.demands.specs.First.{First, NoneOf}
@@ -29,7 +28,7 @@ use Rattle.demands.proofs.Decides.{Decides, holds, fails, when, one-of,
 use Rattle.demands.proofs.Accepts.{denotes-accepted, accepted-denotes}
 use Rattle.demands.proofs.Readings.{handed-denoted, denotes-read, denoted-known}
 use Rattle.demands.proofs.Refuses.{section-settled, refuses-exactly, refused-denotes-nothing}
-use Rattle.demands.proofs.Firsts.{none-nil, none-cons, none-head, none-tail, first-here, first-later}
+use Rattle.demands.proofs.Firsts.{none-nil, none-cons, first-here, first-later}
 use Rattle.demands.proofs.Lists.{every-head, every-tail}
 
 same-content : (c : Content) (t : ℕ) (rs : List Record) → t ≡ c .table → rs ≡ c .records → c ≡ record { table = t; records = rs }
@@ -90,9 +89,19 @@ module _ (latin : Bool) where
       let g = tables-are (every-tail e) t in
       cc
 
+  -- their tables are of the eight
   pub tables-known : {xs : List Section} {cs : List Content} → Tables latin xs cs → Every (λ c. c .table < table-count) cs
   tables-known no-table = none-left
   tables-known (a-table {c} d t) = one-more (denoted-known (c .table) (c .records) d) (tables-known t)
+
+  -- each of them denotes something
+  pub tables-denoted : {x : Section} {xs : List Section} {cs : List Content} → Tables latin xs cs → List·Memᴰ x xs → (t : ℕ) × (rs : List Record) × Denotes latin (x .lines) t rs
+  tables-denoted no-table m = absurd (List·Memᴰ·not-nil m)
+  tables-denoted {x} (a-table {x = y} {xs} {c} d t) m = by (List·Memᴰ·cases-cons m) (λ i. tables-denoted t i)
+    where
+      by : (x ≡ y) ⊎ List·Memᴰ x xs → (List·Memᴰ x xs → (u : ℕ) × (rs : List Record) × Denotes latin (x .lines) u rs) → (u : ℕ) × (rs : List Record) × Denotes latin (x .lines) u rs
+      by (inl e) f = rw e (c .table, c .records, d)
+      by (inr i) f = f i
 
 -- a table is met before by its number exactly if it is by its place in the list
 again-more : (seen : List Content) (b : Content) (nums : List ℕ) → b .table < table-count →

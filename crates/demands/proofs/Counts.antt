@@ -1,9 +1,9 @@
 -- A section's record count: as many as `rec` lines, as many as are handed out, 0 if it is refused; and one `end`.
 use mathlib.Core.Path.{_≡_, refl, ap, sym, _∙_}
-use mathlib.Core.Bool.{Bool, true, false, false≢true}
+use mathlib.Core.Bool.{Bool, true, false}
 use mathlib.Core.List.{List, [], _∷_, map}
 use mathlib.Core.Logic.{_⊎_, inl, inr}
-use Prim.Native.Nat.{ℕ, zero, suc, _+_, _<_}
+use Prim.Native.Nat.{ℕ, suc, _+_}
 use native.Mathlib.Omega.{arith}
 use lib.Dec.{eqb}
 use lib.ListN.{length}
@@ -12,12 +12,12 @@ use Rattle.page.specs.Bytes.{Bytes, pick}
 use Rattle.page.specs.Lines.{content, command, Tbl, Atr, Frm, Rec, End, Com, Missing}
 use Rattle.page.specs.Section.{outcome, refused}
 use Rattle.page.specs.Records.{Record, Entry, waits, record-in, entries, table-of, entriesOf, recordsOf}
-use Rattle.page.specs.Grammar.{Says, Quiet, empty, remark, Then, found, skip, Silence, over, still, Records, pause, a-mark, a-record, the-end, Denotes}
+use Rattle.page.specs.Grammar.{Quiet, empty, remark, Then, found, skip, Silence, over, still, Records, pause, a-mark, a-record, the-end, Denotes}
 use Rattle.page.specs.Refusals.{Refused}
 use Rattle.page.specs.Rules.{times}
 use Rattle.page.specs.declared.Outcome.{Outcome}
 use Rattle.demands.proofs.Tests.{blank-missing}
-use Rattle.demands.proofs.Accepts.{accepted, denotes-accepted, accepted-denotes}
+use Rattle.demands.proofs.Accepts.{denotes-accepted, accepted-denotes}
 use Rattle.demands.proofs.Readings.{entries-denoted}
 use Rattle.demands.proofs.Refuses.{section-settled, refuses-exactly}
 
@@ -90,5 +90,6 @@ one-end latin ls t rs =
 pub no-end-denotes-nothing : (latin : Bool) (ls : List Bytes) (t : ℕ) (rs : List Record) → times End ls ≡ 0 → ¬ Denotes latin ls t rs
 no-end-denotes-nothing latin ls t rs e d = let z = one-end latin ls t rs d in let y : ⊥ = omega arith in y
 
+-- its verdict is not 0
 pub no-end-refused : (latin : Bool) (ls : List Bytes) → times End ls ≡ 0 → ¬ (outcome latin ls .verdict ≡ 0)
 no-end-refused latin ls e h = let x = accepted-denotes latin ls h in no-end-denotes-nothing latin ls (x .0) (x .1) e (x .2)

@@ -1,8 +1,8 @@
 -- A test decides a statement: one proof serves both ways.
-use mathlib.Core.Path.{_≡_, refl, sym}
-use mathlib.Core.Bool.{Bool, true, false, not, _&&_, _||_, false≢true}
+use mathlib.Core.Path.{_≡_, refl}
+use mathlib.Core.Bool.{Bool, true, false, _&&_, _||_, false≢true}
 use mathlib.Core.Logic.{_⊎_, inl, inr}
-use Prim.Native.Nat.{ℕ, suc, _≤_, _<_}
+use Prim.Native.Nat.{ℕ, _≤_, _<_}
 use native.Mathlib.Nat.{not-le-of-lt}
 use lib.Dec.{eqb, leb, ltb}
 use borrow.Author.Tests.{eqb-true, eqb-false, leb-true, leb-false, ltb-true, ltb-false}
@@ -14,10 +14,6 @@ pub data Decides (A : Type 0) : Bool → Type 0 where
 pub fact : {A : Type 0} {b : Bool} → Decides A b → b ≡ true → A
 fact (holds a) e = a
 fact (fails n) e = absurd (false≢true e)
-
-pub lie : {A : Type 0} {b : Bool} → Decides A b → b ≡ false → ¬ A
-lie (holds a) e = absurd (false≢true (sym e))
-lie (fails n) e = n
 
 pub tested : {A : Type 0} {b : Bool} → Decides A b → A → b ≡ true
 tested (holds a) x = refl

@@ -1,15 +1,11 @@
 -- The first of a list that breaks a rule: it is one, or none breaks it.
 use mathlib.Core.Path.{_≡_, refl, ap, sym, _∙_}
-use mathlib.Core.Bool.{Bool, true, false, false≢true}
-use mathlib.Core.List.{List, [], _∷_, _++_, append-assoc, append-nil, List·Memᴰ, List·Memᴰ·head, List·Memᴰ·tail, List·Memᴰ·not-nil, List·Memᴰ·cases-cons, List·Memᴰ·append-cases}
-use mathlib.Core.Logic.{_⊎_, inl, inr, _↔_}
-use Prim.Native.Nat.{ℕ, zero, suc, _+_, _≤_, _<_}
-use native.Mathlib.Omega.{arith}
-use lib.ListN.{length, getD}
-use Rattle.page.specs.Rules.{Apart}
+use mathlib.Core.Bool.{Bool, false≢true}
+use mathlib.Core.List.{List, [], _∷_, _++_, append-assoc, append-nil, List·Memᴰ, List·Memᴰ·head, List·Memᴰ·tail, List·Memᴰ·not-nil, List·Memᴰ·cases-cons}
+use mathlib.Core.Logic.{_⊎_, inl, inr}
 use Rattle.page.specs.File.{any}
 use Rattle.demands.specs.First.{First, NoneOf}
-use Rattle.demands.proofs.Decides.{Decides, holds, fails, when, one-of}
+use Rattle.demands.proofs.Decides.{Decides, fails, when, one-of}
 
 module _ {A : Type 0} (Breaks : List A → A → Type 0) where
   pub none-nil : (seen : List A) → NoneOf Breaks seen []

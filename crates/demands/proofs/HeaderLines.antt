@@ -1,27 +1,23 @@
 -- One line of a header: the machine goes on exactly if the line keeps the rules, and what may follow then is what may follow.
 use mathlib.Core.Path.{_≡_, refl, ap, sym, _∙_}
 use mathlib.Core.Bool.{Bool, true, false, not, _&&_, _||_, false≢true}
-use mathlib.Core.List.{List, [], _∷_, _++_, append-nil, List·Memᴰ, List·Memᴰ·head, List·Memᴰ·tail, List·Memᴰ·not-nil, List·Memᴰ·cases-cons}
-use mathlib.Core.Logic.{_⊎_, inl, inr, _↔_}
-use Prim.Native.Nat.{ℕ, zero, suc, _+_, _≤_, _<_}
+use mathlib.Core.List.{List, [], _∷_, List·Memᴰ, List·Memᴰ·head, List·Memᴰ·tail}
+use mathlib.Core.Logic.{_⊎_, inl, inr}
+use Prim.Native.Nat.{ℕ, _+_, _≤_}
 use native.Mathlib.Omega.{arith}
-use native.Mathlib.Nat.{zero-add}
 use lib.Dec.{eqb}
-use lib.ListN.{length}
 use borrow.Author.Tests.{eqb-true, ne-eqb, eq-eqb}
 use Rattle.page.specs.Bytes.{Bytes, pick}
 use Rattle.page.specs.Lines.{content, blank, command, rest, clean, Mod, Src, Chs, Ver, Ifv, Dve, Fft, Com}
 use Rattle.page.specs.Fields.{fields}
-use Rattle.page.specs.Header.{mod-form, holds, met-before, meet, met-none, head-choose, mod-step, other-step, head-step, complete, head-end, head-continue, head-run, headOf}
+use Rattle.page.specs.Header.{mod-form, holds, met-before, meet, met-none, head-choose, mod-step, other-step, head-step}
 use Rattle.page.specs.Grammar.{fields-of}
-use Rattle.page.specs.Rules.{Every, none-left, one-more, spoken, times, HeadLine, SoundHeader}
+use Rattle.page.specs.Rules.{Every, none-left, one-more, spoken, times, HeadLine}
 use Rattle.page.specs.declared.Met.{Met}
-use Rattle.page.specs.declared.Heading.{Heading}
 use Rattle.page.specs.declared.Heading.the-variants as H
-use Rattle.page.specs.declared.Finding.{Finding}
-use Rattle.demands.specs.Headers.{followers, Begun, Keeps, HeaderFault, at-line, missing}
+use Rattle.demands.specs.Headers.{followers, Begun, Keeps}
 use Rattle.demands.proofs.Decides.{Decides, holds as yes-it-holds, fails, equal}
-use Rattle.demands.proofs.Lists.{every-head, every-tail, every-at, every-from, every-map}
+use Rattle.demands.proofs.Lists.{every-head, every-tail, every-at, every-from}
 
 -- how often a command has been met
 abbrev pub tally : ℕ → Met → ℕ
@@ -34,7 +30,7 @@ either false true n = refl
 either false false n = refl
 
 -- meeting k counts k once more
-tallies : (k : ℕ) (m : Met) → met-before k m ≡ false → Every (λ j. tally j (meet k m) ≡ tally j m + pick (eqb k j) 1 0) followers
+pub tallies : (k : ℕ) (m : Met) → met-before k m ≡ false → Every (λ j. tally j (meet k m) ≡ tally j m + pick (eqb k j) 1 0) followers
 unfolding met-before meet
 tallies k m e =
     one-more (either (m .src) (eqb k Src) (clash Src (m .src) refl)) (one-more (either (m .chs) (eqb k Chs) (clash Chs (m .chs) refl))
@@ -45,7 +41,7 @@ tallies k m e =
     clash j b q h g = false≢true (sym e ∙ ap (λ (x : ℕ). met-before x m) (eqb-true k j g) ∙ q ∙ h)
 
 -- only a follower has not been met
-follower : (k : ℕ) (m : Met) → met-before k m ≡ false → List·Memᴰ k followers
+pub follower : (k : ℕ) (m : Met) → met-before k m ≡ false → List·Memᴰ k followers
 unfolding met-before
 follower k m e = src (eqb k Src) (equal k Src) e
   where
@@ -85,7 +81,7 @@ pub record Follows (m : Met) (ls : List Bytes) : Type 0 where
   pub once : Every (λ k. tally k m + times k (spoken ls) ≤ 1) followers
 
 -- a line that is not spoken
-abbrev silent : Bytes → Bool
+abbrev pub silent : Bytes → Bool
 silent l = blank (content l) || eqb (command (content l)) Com
 
 spoken-not : (l : Bytes) (ls : List Bytes) → silent l ≡ true → spoken (l ∷ ls) ≡ spoken ls
@@ -104,15 +100,15 @@ silent-step : (m : Met) (l : Bytes) → clean false (content l) ≡ true → sil
 unfolding head-step head-choose
 silent-step m l c s = rw (c, s)
 
-other-line : (m : Met) (l : Bytes) → ¬ (m .form ≡ 0) → clean false (content l) ≡ true → silent l ≡ false → head-step m (content l) ≡ other-step m (command (content l)) (fields-of l)
+pub other-line : (m : Met) (l : Bytes) → ¬ (m .form ≡ 0) → clean false (content l) ≡ true → silent l ≡ false → head-step m (content l) ≡ other-step m (command (content l)) (fields-of l)
 unfolding head-step head-choose
 other-line m l f c s = rw (c, s, ne-eqb (m .form) 0 f)
 
-first-line : (m : Met) (l : Bytes) → m .form ≡ 0 → clean false (content l) ≡ true → silent l ≡ false → head-step m (content l) ≡ mod-step (command (content l)) (fields-of l)
+pub first-line : (m : Met) (l : Bytes) → m .form ≡ 0 → clean false (content l) ≡ true → silent l ≡ false → head-step m (content l) ≡ mod-step (command (content l)) (fields-of l)
 unfolding head-step head-choose
 first-line m l f c s = rw (c, s, f)
 
-other-go : (m : Met) (k : ℕ) (fs : List Bytes) → met-before k m ≡ false → holds k (m .form) fs ≡ true → other-step m k fs ≡ H.Go (meet k m)
+pub other-go : (m : Met) (k : ℕ) (fs : List Bytes) → met-before k m ≡ false → holds k (m .form) fs ≡ true → other-step m k fs ≡ H.Go (meet k m)
 unfolding other-step head-choose
 other-go m k fs b h = rw (b, h)
 

@@ -1,32 +1,31 @@
 -- The header: accepted exactly if it keeps the rules, and else refused exactly at the first line that breaks one, or for what is missing.
 use mathlib.Core.Path.{_≡_, refl, ap, sym, _∙_}
-use mathlib.Core.Bool.{Bool, true, false, not, _&&_, false≢true}
+use mathlib.Core.Bool.{Bool, true, false, false≢true}
 use mathlib.Core.List.{List, [], _∷_, _++_, append-nil}
 use mathlib.Core.Logic.{_⊎_, inl, inr, _↔_}
-use Prim.Native.Nat.{ℕ, zero, suc, _+_, _≤_, _<_}
+use Prim.Native.Nat.{ℕ, suc, _+_, _≤_}
 use native.Mathlib.Omega.{arith}
 use native.Mathlib.Nat.{zero-add}
-use lib.Dec.{eqb}
 use lib.ListN.{length}
 use borrow.Author.Tests.{ne-eqb}
 use Rattle.page.specs.Bytes.{Bytes, pick}
-use Rattle.page.specs.Lines.{content, Src, Chs, Ver, Ifv, Dve, Fft}
-use Rattle.page.specs.Header.{mod-form, met-before, met-none, head-step, complete, head-end, head-continue, head-run, headOf}
+use Rattle.page.specs.Lines.{content, Src, Chs, Ver, Ifv}
+use Rattle.page.specs.Header.{met-before, met-none, head-step, complete, head-end, head-continue, head-run, headOf}
 use Rattle.page.specs.Rules.{Every, none-left, one-more, spoken, times, SoundHeader}
 use Rattle.page.specs.declared.Met.{Met}
 use Rattle.page.specs.declared.Heading.{Heading}
 use Rattle.page.specs.declared.Heading.the-variants as H
 use Rattle.page.specs.declared.Finding.{Finding}
 use Rattle.demands.specs.Headers.{followers, Begun, Keeps, HeaderFault, at-line, missing}
-use Rattle.demands.proofs.Decides.{Decides, holds, fails, fact, lie, tested, untested, when, both}
-use Rattle.demands.proofs.Lists.{every-head, every-tail, every-at, every-from, every-map}
+use Rattle.demands.proofs.Decides.{Decides, holds, fails, fact, tested, when, both}
+use Rattle.demands.proofs.Lists.{every-head, every-tail, every-at, every-from}
 use Rattle.demands.proofs.HeaderLines.{tally, Good, starting, started, Fit, good-go, go-good, good-nil, fit-go, tally-go, mod-go}
 
 abbrev finding : ℕ → ℕ → Finding
 finding v n = record { verdict = v; line = n }
 
 -- the machine over lines that it does not refuse
-data Steps : Met → List Bytes → Met → Type 0 where
+pub data Steps : Met → List Bytes → Met → Type 0 where
   stay : {m : Met} → Steps m [] m
   move : {m q r : Met} {l : Bytes} {ls : List Bytes} → head-step m (content l) ≡ H.Go q → Steps q ls r → Steps m (l ∷ ls) r
 
@@ -38,16 +37,20 @@ steps-good : {m q : Met} {ls : List Bytes} → Fit m → Steps m ls q → Good m
 steps-good f stay = good-nil f
 steps-good f (move {l} {ls} e s) = go-good l ls f e (steps-good (fit-go l f e) s)
 
+pub steps-fit : {m q : Met} {ls : List Bytes} → Fit m → Steps m ls q → Fit q
+steps-fit f stay = f
+steps-fit f (move {l} e s) = steps-fit (fit-go l f e) s
+
 steps-run : {m q : Met} {ls : List Bytes} (n : ℕ) (more : List Bytes) → Steps m ls q → head-run m n (ls ++ more) ≡ head-run q (length ls + n) more
 unfolding head-run head-continue
 steps-run n more stay = rw zero-add
 steps-run n more (move {q} {r} {ls} e s) = rw e (steps-run (suc n) more s ∙ ap (λ (x : ℕ). head-run r x more) (omega arith))
 
-steps-split : {m r : Met} (xs ys : List Bytes) → Steps m (xs ++ ys) r → (q : Met) × Steps m xs q × Steps q ys r
+pub steps-split : {m r : Met} (xs ys : List Bytes) → Steps m (xs ++ ys) r → (q : Met) × Steps m xs q × Steps q ys r
 steps-split {m} [] ys s = (m, stay, s)
 steps-split (x ∷ xs) ys (move e s) = let y = steps-split xs ys s in (y .0, move e (y .1), y .2)
 
-steps-join : {m q r : Met} {xs ys : List Bytes} → Steps m xs q → Steps q ys r → Steps m (xs ++ ys) r
+pub steps-join : {m q r : Met} {xs ys : List Bytes} → Steps m xs q → Steps q ys r → Steps m (xs ++ ys) r
 steps-join stay t = t
 steps-join (move e s) t = move e (steps-join s t)
 
@@ -88,7 +91,8 @@ one-d : (b : Bool) → Decides (_≡_ {A = ℕ} (pick b 1 0) 1) b
 one-d true = holds refl
 one-d false = fails (λ e. omega arith)
 
-complete-d : (q : Met) → ¬ (q .form ≡ 0) → Decides (Every (λ j. tally j q ≡ 1) (Src ∷ Chs ∷ Ver ∷ Ifv ∷ [])) (complete q)
+-- the test for what is missing
+pub complete-d : (q : Met) → ¬ (q .form ≡ 0) → Decides (Every (λ j. tally j q ≡ 1) (Src ∷ Chs ∷ Ver ∷ Ifv ∷ [])) (complete q)
 unfolding complete met-before
 complete-d q n =
     rw (ne-eqb (q .form) 0 n)
@@ -179,7 +183,8 @@ settle m (l ∷ ls) = by (head-step m (content l)) refl (λ q. settle q ls)
         on (inl y) = inl (y .0, move e (y .1))
         on (inr y) = inr (l ∷ y .0, y .1, y .2, y .3, ap (λ (z : List Bytes). l ∷ z) (y .4), move e (y .5), y .6)
 
-passed : (ls : List Bytes) (q : Met) → Steps (met-none 0) ls q → headOf ls ≡ head-end q (length ls)
+-- lines that are passed give what is missing in the end
+pub passed : (ls : List Bytes) (q : Met) → Steps (met-none 0) ls q → headOf ls ≡ head-end q (length ls)
 unfolding headOf head-run
 passed ls q s = let z : head-run (met-none 0) 0 (ls ++ []) ≡ head-end q (length ls + 0) = steps-run 0 [] s in (rw append-nil at z) ∙ ap (head-end q) (omega arith)
 
@@ -190,10 +195,12 @@ stopped before after l q s e = steps-run 0 (l ∷ after) s ∙ rw e (ap (finding
 fit : Fit (met-none 0)
 fit = inl refl
 
-keeps-steps : (ls : List Bytes) → Keeps ls → (q : Met) × Steps (met-none 0) ls q
+-- lines that keep the rules are passed
+pub keeps-steps : (ls : List Bytes) → Keeps ls → (q : Met) × Steps (met-none 0) ls q
 keeps-steps ls k = good-steps ls (starting refl k)
 
-steps-keeps : (ls : List Bytes) (q : Met) → Steps (met-none 0) ls q → Keeps ls
+-- and lines that are passed keep the rules
+pub steps-keeps : (ls : List Bytes) (q : Met) → Steps (met-none 0) ls q → Keeps ls
 steps-keeps ls q s = of (steps-good fit s)
   where
     of : Good (met-none 0) ls → Keeps ls

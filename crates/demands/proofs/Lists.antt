@@ -27,10 +27,6 @@ module _ {A : Type 0} where
   every-map f none-left = none-left
   every-map f (one-more {x} p e) = one-more (f x p) (every-map f e)
 
-  pub every-left : {P : A → Type 0} (xs ys : List A) → Every P (xs ++ ys) → Every P xs
-  every-left [] ys e = none-left
-  every-left (x ∷ xs) ys e = one-more (every-head e) (every-left xs ys (every-tail e))
-
   pub every-append : {P : A → Type 0} {xs ys : List A} → Every P xs → Every P ys → Every P (xs ++ ys)
   every-append none-left f = f
   every-append (one-more p e) f = one-more p (every-append e f)

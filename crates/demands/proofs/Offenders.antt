@@ -1,25 +1,23 @@
 -- 18, 19, 20: no record breaks the rule, or the answer is the first in file order that does.
 use mathlib.Core.Path.{_≡_, refl, ap, sym, _∙_}
-use mathlib.Core.Bool.{Bool, true, false, not, _&&_, _||_, false≢true}
-use mathlib.Core.List.{List, [], _∷_, _++_, map, List·Memᴰ, List·Memᴰ·head, List·Memᴰ·tail, List·Memᴰ·not-nil, List·Memᴰ·cases-cons, Memᴰ·append-left, Memᴰ·append-right, List·Memᴰ·append-cases, List·Memᴰ·eq-of-singleton}
+use mathlib.Core.Bool.{Bool, true, false, not, _&&_, false≢true}
+use mathlib.Core.List.{List, [], _∷_, _++_, map, List·Memᴰ, List·Memᴰ·head, List·Memᴰ·tail, List·Memᴰ·cases-cons, Memᴰ·append-left, Memᴰ·append-right, List·Memᴰ·append-cases, List·Memᴰ·eq-of-singleton}
 use mathlib.Core.Logic.{_⊎_, inl, inr, _↔_}
-use Prim.Native.Nat.{ℕ, zero, suc, _+_, _<_, _≤_}
+use Prim.Native.Nat.{ℕ, _<_}
 use native.Mathlib.Omega.{arith}
 use lib.Dec.{eqb, ltb}
-use lib.ListN.{length}
-use Rattle.page.specs.Bytes.{Bytes, bytes, pick, same}
+use Rattle.page.specs.Bytes.{bytes, pick, same}
 use Rattle.page.specs.Lines.{find}
-use Rattle.page.specs.Tables.{Reference, Table, all-tables, table-at, table-named, table-count, columns}
+use Rattle.page.specs.Tables.{Reference, all-tables, table-at, table-named, table-count, columns}
 use Rattle.page.specs.Records.{Datum, number, words, Record}
-use Rattle.page.specs.File.{any, Filed, same-datum, same-record, key-in, key-of, by-primary, has-key, repeats, referred, meets, lost, first-record}
+use Rattle.page.specs.File.{any, Filed, same-datum, same-record, key-of, by-primary, has-key, repeats, referred, meets, lost, first-record}
 use Rattle.page.specs.Answers.{refusal, sound}
 use Rattle.page.specs.Rules.{Every, none-left, one-more, bare, key}
 use Rattle.page.specs.declared.Column.{Column}
-use Rattle.page.specs.declared.Refusal.{Refusal}
 use Rattle.page.proofs.TableLaws.{past-tables, each-of-eight, name-tells}
 use Rattle.demands.specs.First.{First, NoneOf}
 use Rattle.demands.specs.Files.{KeyAgain, Found, Lost}
-use Rattle.demands.proofs.Decides.{Decides, holds, fails, when, both, one-of, equal, below}
+use Rattle.demands.proofs.Decides.{Decides, holds, fails, when, both, equal, below}
 use Rattle.demands.proofs.Tests.{same-d, is-d}
 use Rattle.demands.proofs.Lists.{every-at}
 use Rattle.demands.proofs.Firsts.{any-d, none-nil, none-cons, first-here, first-later}
@@ -31,6 +29,7 @@ same-datum-d (number a) (words o t) = fails (λ e. absurd (false≢true (cc)))
 same-datum-d (words o t) (number b) = fails (λ e. absurd (false≢true (cc)))
 same-datum-d (words o t) (words p u) = when (λ e. rw e) (λ e. cc) (same-d t u)
 
+-- two keys are the same by value, whoever's their texts are
 pub same-record-d : (us vs : Record) → Decides (map bare us ≡ map bare vs) (same-record us vs)
 unfolding same-record
 same-record-d [] [] = holds refl
@@ -115,6 +114,7 @@ meets-d e d r n h =
     both (when (λ q. rw q n) (λ q. sym (name-tells (d .table) h) ∙ ap (λ (x : _). table-named (bytes x)) q) (equal (d .table) (table-named (bytes (r .target)))))
     (same-record-d (key-of by-primary d) (referred (r .columns) (e .values)))
 
+-- a reference is found among the records by the test exactly if one of them has the key
 pub found-d : (every : List Filed) → Every (λ d. d .table < table-count) every → (e : Filed) (r : Reference) → List·Memᴰ r (table-at (e .table) .references) →
     Decides (Found every e r) (any (meets e r) every)
 found-d every k e r m =

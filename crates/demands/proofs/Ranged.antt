@@ -1,13 +1,12 @@
 -- The numbers of a line's laws are 4 to 16.
-use mathlib.Core.Path.{_≡_}
 use mathlib.Core.Bool.{Bool, true, false}
 use mathlib.Core.List.{List, [], _∷_, _++_}
-use mathlib.Core.Logic.{_⊎_, inl, inr}
+use mathlib.Core.Logic.{inl, inr}
 use Prim.Native.Nat.{ℕ, _≤_}
 use native.Mathlib.Omega.{arith}
 use lib.Dec.{eqb}
 use Rattle.page.specs.Bytes.{Bytes}
-use Rattle.page.specs.Lines.{content, blank, command, rest, Rec, Com}
+use Rattle.page.specs.Lines.{content, blank, command, Rec, Com}
 use Rattle.page.specs.Tables.{Named, standing}
 use Rattle.page.specs.Grammar.{fields-of}
 use Rattle.page.specs.Refusals.{Law, law, FirstBroken, either-laws, kind-law, fields-laws, command-laws, laws}

@@ -1,31 +1,28 @@
 -- What a sound section says is read in one way only, and is what is handed out of it.
 use mathlib.Core.Path.{_≡_, refl, ap, sym, _∙_}
-use mathlib.Core.Bool.{Bool, true, false, false≢true}
+use mathlib.Core.Bool.{Bool, true, false}
 use mathlib.Core.List.{List, [], _∷_, map}
 use mathlib.Core.Logic.{_⊎_, inl, inr, _↔_}
-use Prim.Native.Nat.{ℕ, zero, suc, _+_, _<_}
+use Prim.Native.Nat.{ℕ, suc, _<_}
 use native.Mathlib.Omega.{arith}
 use lib.Dec.{eqb}
-use lib.ListN.{length, getD}
+use lib.ListN.{length}
 use borrow.Author.Tests.{eqb-true}
-use Rattle.page.specs.Bytes.{Bytes, bytes, pick}
-use Rattle.page.specs.Lines.{content, command, rest, Tbl, Atr, Frm, Rec, End, Com, Missing}
-use Rattle.page.specs.Tables.{number-at, standing, table-named, table-count}
+use Rattle.page.specs.Bytes.{Bytes}
+use Rattle.page.specs.Lines.{content, command, Tbl, Atr, Frm, Rec, End, Com, Missing}
+use Rattle.page.specs.Tables.{number-at, table-count}
 use Rattle.page.specs.Cut.{begins-table}
-use Rattle.page.specs.Marks.{remarkOf, may-mark}
+use Rattle.page.specs.Marks.{may-mark}
 use Rattle.page.specs.Section.{outcome}
 use Rattle.page.specs.Records.{Record, Entry, waits, record-in, entries, table-of, entriesOf, recordsOf}
-use Rattle.page.specs.Grammar.{fields-of, Says, Quiet, empty, remark, TblLine, AtrLine, FrmLine, MarkLine, RecLine, EndLine, Then, found, skip, Silence, over, still, Records, pause, a-mark, a-record, the-end, Denotes}
+use Rattle.page.specs.Grammar.{Quiet, empty, remark, MarkLine, RecLine, Then, found, skip, Silence, over, still, Records, pause, a-mark, a-record, the-end, Denotes}
 use Rattle.page.specs.Refusals.{marks-of}
-use Rattle.page.specs.Rules.{times}
-use Rattle.page.specs.declared.Remark.the-variants as R
 use Rattle.page.specs.declared.Outcome.{Outcome}
 use Rattle.page.proofs.TableLaws.{name-tells, number-injective}
 use Rattle.demands.specs.Begins.{begins}
-use Rattle.demands.proofs.Decides.{fact, equal}
 use Rattle.demands.proofs.Tests.{blank-missing}
 use Rattle.demands.proofs.Values.{values-are}
-use Rattle.demands.proofs.Accepts.{only-mark, accepted, denotes-accepted, accepted-denotes}
+use Rattle.demands.proofs.Accepts.{only-mark, denotes-accepted, accepted-denotes}
 
 abbrev values-of : List Entry → List Record
 values-of es = map (λ (e : Entry). e .values) es
@@ -40,10 +37,11 @@ unfolding waits
 no-mark m k c e h = rw (e, h)
 
 -- and one of another than `com` too leaves the mark that waits
-plain-line : (t m n k : ℕ) (l : Bytes) (ls : List Bytes) → command (content l) ≡ k → eqb k Rec ≡ false → eqb k Com ≡ false → entries t m n (l ∷ ls) ≡ entries t m (suc n) ls
+pub plain-line : (t m n k : ℕ) (l : Bytes) (ls : List Bytes) → command (content l) ≡ k → eqb k Rec ≡ false → eqb k Com ≡ false → entries t m n (l ∷ ls) ≡ entries t m (suc n) ls
 plain-line t m n k l ls e h g = other-line t m n k l ls e h ∙ ap (λ (z : ℕ). entries t z (suc n) ls) (no-mark m k (content l) e g)
 
-quiet-line : {latin : Bool} (t m n : ℕ) (l : Bytes) (ls : List Bytes) → Quiet latin l → entries t m n (l ∷ ls) ≡ entries t m (suc n) ls
+-- a line that says nothing hands out no record and leaves the mark
+pub quiet-line : {latin : Bool} (t m n : ℕ) (l : Bytes) (ls : List Bytes) → Quiet latin l → entries t m n (l ∷ ls) ≡ entries t m (suc n) ls
 unfolding waits
 quiet-line t m n l ls (empty ok b) = plain-line t m n Missing l ls (blank-missing (content l) b) refl refl
 quiet-line t m n l ls (remark s e) = other-line t m n Com l ls (s .named) refl ∙ rw (s .named, e)

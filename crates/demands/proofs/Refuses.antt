@@ -3,7 +3,7 @@ use mathlib.Core.Path.{_≡_, refl, ap, sym, _∙_}
 use mathlib.Core.Bool.{Bool, true, false, false≢true}
 use mathlib.Core.List.{List, [], _∷_, _++_, append-nil}
 use mathlib.Core.Logic.{_⊎_, inl, inr, _↔_}
-use Prim.Native.Nat.{ℕ, zero, suc, _+_, _≤_, _<_}
+use Prim.Native.Nat.{ℕ, suc, _+_, _≤_}
 use native.Mathlib.Omega.{arith}
 use native.Mathlib.Nat.{zero-add}
 use lib.ListN.{length}
@@ -84,7 +84,8 @@ module _ (latin : Bool) where
       let z : run latin P.Tbl 0 (ls ++ []) ≡ refused k v n = reach-run 0 [] g ∙ finish-six r (length ls + 0) c ∙ rw (a, f, b) (ap (refused (table-in r) 6) (omega arith)) in
       rw append-nil at z
 
-  refused-ranged : (ls : List Bytes) (k v n : ℕ) → Refused latin ls k v n → (4 ≤ v) × (v ≤ 16)
+  -- the number of a refusal is one of 4 to 16
+  pub refused-ranged : (ls : List Bytes) (k v n : ℕ) → Refused latin ls k v n → (4 ≤ v) × (v ≤ 16)
   refused-ranged ls k v n (at-line before after l q s g f a b) = laws-ranged latin q l v f
   refused-ranged ls k v n (unfinished q g c a f b) = (omega arith, omega arith)
 

@@ -1,34 +1,33 @@
 -- The machine's step goes on exactly where the grammar leads on, and stops exactly by the first broken law.
-use mathlib.Core.Path.{_≡_, refl, ap, sym, _∙_}
-use mathlib.Core.Bool.{Bool, true, false, _&&_, false≢true}
-use mathlib.Core.List.{List, [], _∷_}
+use mathlib.Core.Path.{_≡_, refl}
+use mathlib.Core.Bool.{Bool, true, false}
+use mathlib.Core.List.{List}
 use mathlib.Core.Logic.{_↔_}
-use Prim.Native.Nat.{ℕ, zero, suc, _+_, _<_}
+use Prim.Native.Nat.{ℕ, _<_}
 use native.Mathlib.Omega.{arith}
 use native.Mathlib.Numerals.{add-one}
-use lib.Dec.{eqb, leb, ltb}
-use lib.ListN.{length, getD}
+use lib.Dec.{eqb}
+use lib.ListN.{length}
 use borrow.Author.Tests.{lt-ltb, lt-leb}
-use Rattle.page.specs.Bytes.{Bytes, bytes, pick}
+use Rattle.page.specs.Bytes.{Bytes}
 use Rattle.page.specs.Lines.{content, blank, command, rest, clean, Tbl, Atr, Frm, Rec, End, Com, Unknown, Missing}
-use Rattle.page.specs.Fields.{fields, numberOf}
-use Rattle.page.specs.Tables.{Named, table-at, table-named, table-count, columns, standing, width}
-use Rattle.page.specs.Marks.{remarkOf, may-mark}
+use Rattle.page.specs.Fields.{fields}
+use Rattle.page.specs.Tables.{Named, table-count, columns, standing, width}
+use Rattle.page.specs.Marks.{remarkOf}
 use Rattle.page.specs.Section
 use Rattle.page.specs.Records.{Datum, Record}
-use Rattle.page.specs.Grammar.{fields-of, Says, Quiet, empty, remark, TblLine, AtrLine, FrmLine, RecLine, MarkLine, EndLine, Holds, a-number, a-text, Values, no-field, a-field}
-use Rattle.page.specs.Refusals.{FirstBroken, marks-of, laws, Leads, quiet, tbl, atr, frm, mark, record-line, end}
+use Rattle.page.specs.Grammar.{fields-of, Says, empty, remark, Holds, a-number, a-text, Values, no-field, a-field}
+use Rattle.page.specs.Refusals.{FirstBroken, laws, Leads, quiet, tbl, atr, frm, mark, record-line, end}
 use Rattle.page.specs.declared.Column.{Column}
 use Rattle.page.specs.declared.Owner.{Owner}
 use Rattle.page.specs.declared.Phase.{Phase}
 use Rattle.page.specs.declared.Phase.the-variants as P
-use Rattle.page.specs.declared.Step.{Step}
 use Rattle.page.specs.declared.Step.the-variants as S
 use Rattle.page.proofs.TableLaws.{name-tells}
-use Rattle.demands.proofs.Decides.{tested, untested, both, equal, at-most, below}
+use Rattle.demands.proofs.Decides.{tested, untested, both, equal, at-most}
 use Rattle.demands.proofs.Tests.{names-d, formats-d, rises-d, blank-missing}
 use Rattle.demands.proofs.Values.{values-length, points-d, empty-d}
-use Rattle.demands.proofs.Agrees.{Agrees, step-agrees}
+use Rattle.demands.proofs.Agrees.{step-agrees}
 
 -- a line with a command is not blank
 pub not-blank : (c : Bytes) (k : ℕ) → command c ≡ k → k < Missing → blank c ≡ false

@@ -1,15 +1,14 @@
 -- Each test of a section's machine decides the rule of the grammar.
 use mathlib.Core.Path.{_≡_, refl, ap, sym, _∙_}
-use mathlib.Core.Bool.{Bool, true, false, not, _&&_, _||_, false≢true}
+use mathlib.Core.Bool.{Bool, true, false, not, _&&_, false≢true}
 use mathlib.Core.List.{List, [], _∷_, map}
 use mathlib.Core.Logic.{_⊎_, inl, inr}
-use Prim.Native.Nat.{ℕ, zero, suc, _+_, _≤_, _<_}
+use Prim.Native.Nat.{ℕ, zero, suc, _≤_, _<_}
 use native.Mathlib.Omega.{arith}
-use native.Mathlib.Nat.{zero-add}
 use lib.Dec.{eqb, leb, ltb}
-use lib.ListN.{length, getD, take}
-use borrow.Author.Tests.{eqb-true, leb-true, lt-ltb, le-ltb, eq-eqb, ne-eqb}
-use Rattle.page.specs.Bytes.{Bytes, bytes, pick, same, all, until, space, no-space, trim}
+use lib.ListN.{length, take}
+use borrow.Author.Tests.{eqb-true, leb-true, le-ltb, ne-eqb}
+use Rattle.page.specs.Bytes.{Bytes, bytes, pick, same, until, no-space, trim}
 use Rattle.page.specs.Lines.{blank, command, semicolon, find, known, Mod, Unknown, Missing}
 use Rattle.page.specs.Tables.{Named, table-at, table-named, table-count}
 use Rattle.page.specs.Section.{names-same, format-ok, formats-ok}
@@ -18,7 +17,7 @@ use Rattle.page.specs.Refusals.{marks-of, One}
 use Rattle.page.specs.Marks.{may-mark}
 use Rattle.page.proofs.NameLaws.{find-within}
 use Rattle.page.proofs.TableLaws.{name-tells, named-is}
-use Rattle.demands.proofs.Decides.{Decides, holds, fails, fact, lie, tested, untested, when, both, one-of, by-test, equal, at-most, below}
+use Rattle.demands.proofs.Decides.{Decides, holds, fails, when, both, equal, at-most, below}
 
 -- equal bytes
 pub same-d : (x y : Bytes) → Decides (x ≡ y) (same x y)
@@ -79,6 +78,7 @@ command-le c = by (ltb (until semicolon c) (length c)) (find-within Mod known (t
     by true h = omega arith
     by false h = omega arith
 
+-- 5: the test on the command's number decides it
 pub unknown-d : (c : Bytes) → Decides ((command c ≡ Missing) ⊎ (command c ≡ Unknown)) (leb Unknown (command c))
 unknown-d c = when into back (at-most Unknown (command c))
   where

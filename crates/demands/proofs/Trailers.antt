@@ -1,15 +1,14 @@
 -- The trailer: accepted exactly if it keeps the rules, and else refused exactly at the first line that breaks one.
 use mathlib.Core.Path.{_≡_, refl, ap, sym, _∙_}
-use mathlib.Core.Bool.{Bool, true, false, _&&_, false≢true}
+use mathlib.Core.Bool.{Bool, true, false, false≢true}
 use mathlib.Core.List.{List, [], _∷_, _++_}
 use mathlib.Core.Logic.{_⊎_, inl, inr, _↔_}
-use Prim.Native.Nat.{ℕ, zero, suc, _+_}
+use Prim.Native.Nat.{ℕ, suc, _+_}
 use native.Mathlib.Omega.{arith}
-use lib.Dec.{eqb}
 use lib.ListN.{length, getD}
 use Rattle.page.specs.Bytes.{Bytes, pick}
-use Rattle.page.specs.Lines.{content, blank, rest, clean}
-use Rattle.page.specs.Fields.{fields, numberOf}
+use Rattle.page.specs.Lines.{content, blank, clean}
+use Rattle.page.specs.Fields.{numberOf}
 use Rattle.page.specs.Trailer.{counts, eof-ok, all-blank, trailer-of}
 use Rattle.page.specs.Grammar.{fields-of}
 use Rattle.page.specs.Refusals.{One}
@@ -18,8 +17,7 @@ use Rattle.page.specs.declared.Number.{Number}
 use Rattle.page.specs.declared.Number.the-variants as N
 use Rattle.page.specs.declared.Finding.{Finding}
 use Rattle.demands.specs.Trailers.{EofLine, TrailerFault, no-eof, bad-eof, not-blank}
-use Rattle.demands.proofs.Decides.{Decides, holds, fails, fact, tested, untested, when, both, equal}
-use Rattle.demands.proofs.Lists.{every-head, every-tail}
+use Rattle.demands.proofs.Decides.{Decides, holds, fails, tested, untested, when, both, equal}
 use Rattle.demands.proofs.Tests.{is-d, one-d}
 
 abbrev finding : ℕ → ℕ → Finding

@@ -1,24 +1,23 @@
 -- A record's fields: what the grammar reads in them is read once, is what `valuesOf` gives, and the tests on fields decide the rules on values.
-use mathlib.Core.Path.{_≡_, refl, ap, sym, _∙_}
+use mathlib.Core.Path.{_≡_, refl, ap, _∙_}
 use mathlib.Core.Bool.{Bool, true, false, not, _&&_, _||_, false≢true}
-use mathlib.Core.List.{List, [], _∷_, map, List·Memᴰ, List·Memᴰ·head, List·Memᴰ·tail, List·Memᴰ·not-nil, List·Memᴰ·cases-cons}
-use mathlib.Core.Logic.{_⊎_, inl, inr}
+use mathlib.Core.List.{List, [], _∷_, List·Memᴰ, List·Memᴰ·head, List·Memᴰ·tail, List·Memᴰ·not-nil, List·Memᴰ·cases-cons}
+use mathlib.Core.Logic.{inl, inr}
 use mathlib.Core.Option.{Option, none, some}
-use Prim.Native.Nat.{ℕ, zero, suc, _+_, _-_, _≤_, _<_}
+use Prim.Native.Nat.{ℕ, zero, suc, _+_, _-_, _≤_}
 use native.Mathlib.Omega.{arith}
 use lib.Dec.{eqb, leb}
 use lib.ListN.{length, getD}
-use borrow.Author.Tests.{eqb-true, eq-eqb, ne-eqb, le-leb, lt-leb}
+use borrow.Author.Tests.{ne-eqb, le-leb, lt-leb}
 use Rattle.page.specs.Bytes.{Bytes, pick, all}
 use Rattle.page.specs.Fields.{textOf, bodyOf, numberOf, digit, digits, value}
 use Rattle.page.specs.Tables.{Named, no-column, standing, columns, table-at, all-tables, points-from}
 use Rattle.page.specs.Marks.{owner-of}
-use Rattle.page.specs.Section.{record-text, amount, amount-at, points-same, same-points, no-bytes, empty-marked}
-use Rattle.page.specs.Records.{Datum, number, words, Record, own-bytes, datumOf, valuesOf}
+use Rattle.page.specs.Section.{record-text, amount-at, points-same, same-points, no-bytes, empty-marked}
+use Rattle.page.specs.Records.{Datum, number, words, Record, datumOf, valuesOf}
 use Rattle.page.specs.Grammar.{Holds, a-number, a-text, marked, owner-by, Values, no-field, a-field, SamePoints}
 use Rattle.page.specs.Refusals.{marks-of}
 use Rattle.page.specs.declared.Column.{Column}
-use Rattle.page.specs.declared.Number.{Number}
 use Rattle.page.specs.declared.Number.the-variants as N
 use Rattle.page.specs.declared.Owner.{Owner}
 use Rattle.page.specs.declared.Owner.the-variants as O
@@ -176,6 +175,7 @@ empty-from m i l (a-field {f} {fs} h k) =
     rw (further m i f fs) at
     (when (λ s. elim s [ inl e ↦ List·Memᴰ·head e | inr x ↦ List·Memᴰ·tail x ]) (λ x. List·Memᴰ·cases-cons x) (one-of (here-d m i l h) (empty-from m (suc i) (omega arith) k)))
 
+-- the whole record
 pub empty-d : (m : ℕ) {cs : List Named} {fs : List Bytes} {vs : Record} → Values (marks-of m) 1 cs fs vs → Decides (List·Memᴰ (words O.Suggestion []) vs) (empty-marked m fs)
 unfolding empty-marked
 empty-d m h = empty-from m 1 (omega arith) h

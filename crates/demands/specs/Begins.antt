@@ -1,5 +1,5 @@
 -- Lines as the cut hands them out for a section.
-use mathlib.Core.Bool.{Bool, true, false}
+use mathlib.Core.Bool.{Bool, false}
 use mathlib.Core.List.{List, [], _∷_}
 use Rattle.page.specs.Bytes.{Bytes}
 use Rattle.page.specs.Cut.{begins-table}

@@ -1,8 +1,8 @@
 -- What a refused file is, number by number: "the first of 1, 2, 3, the first unsound section in file order, 17, 18, 19, 20, each at
 -- the first record in file order that breaks it (for 17 the second table's line 1)".
 use mathlib.Core.Path.{_≡_}
-use mathlib.Core.Bool.{Bool, true, false}
-use mathlib.Core.List.{List, [], _∷_, _++_, map, List·Memᴰ}
+use mathlib.Core.Bool.{Bool, true}
+use mathlib.Core.List.{List, [], map, List·Memᴰ}
 use Prim.Native.Nat.{ℕ, suc, _≤_, _<_}
 use lib.ListN.{length}
 use Rattle.page.specs.Bytes.{Bytes}
@@ -14,7 +14,7 @@ use Rattle.page.specs.File.{limit, by-primary, by-second, has-key, referred, Fi
 use Rattle.page.specs.Model.{Content}
 use Rattle.page.specs.Grammar.{Denotes}
 use Rattle.page.specs.Refusals.{Refused}
-use Rattle.page.specs.Rules.{Every, SoundHeader, SoundTrailer, Tables, bare, key, OneKey, Refers}
+use Rattle.page.specs.Rules.{SoundHeader, SoundTrailer, Tables, bare, key}
 use Rattle.page.specs.declared.Column.{Column}
 use Rattle.demands.specs.First.{First, NoneOf}
 use Rattle.demands.specs.Headers.{HeaderFault}

@@ -1,6 +1,6 @@
 -- The first of a list that breaks a rule, where the rule may look at what stands before.
 use mathlib.Core.Path.{_≡_}
-use mathlib.Core.List.{List, [], _∷_, _++_}
+use mathlib.Core.List.{List, _∷_, _++_}
 
 -- none of xs breaks the rule, where `seen` stands before them
 abbrev pub NoneOf : {A : Type 0} → (List A → A → Type 0) → List A → List A → Type 0

@@ -1,5 +1,13 @@
+pub mod Local
+pub mod Promises
+pub mod Round
+pub mod RoundKeys
 pub mod Begins
 pub mod Headers
 pub mod Trailers
 pub mod First
 pub mod Files
+pub mod Places
+pub mod Marks
+pub mod RoundAlike
+pub mod Viable

@@ -2,17 +2,16 @@
 use mathlib.Core.Path.{_≡_, refl, ap, sym, _∙_}
 use mathlib.Core.Bool.{Bool, true, false, not, _||_}
 use mathlib.Core.List.{List, [], _∷_}
-use Prim.Native.Nat.{ℕ, zero, suc, _+_, _-_, _<_, _≤_}
+use Prim.Native.Nat.{ℕ, _+_, _-_, _<_, _≤_}
 use native.Mathlib.Omega.{arith}
 use borrow.Author.Tests.{eq-eqb, ne-eqb, ltb-true, ltb-false}
 use lib.Dec.{eqb, ltb}
 use lib.ListN.{length, take, drop}
 use lib.Seq.{take-take}
 use Rattle.page.specs.Bytes.{Bytes, pick, part, moved, until}
-use Rattle.page.specs.Lines.{lines, content-size, content, command, rest, semicolon, Missing}
+use Rattle.page.specs.Lines.{lines, content-size, content, command, rest, semicolon}
 use Rattle.page.specs.Places.{Standing, stands, line-of}
 use Rattle.page.specs.Head.{stands-in}
-use Rattle.page.specs.declared.Span.{Span}
 use Rattle.page.proofs.PartLaws.{part-rest}
 use Rattle.page.proofs.ScanLaws.{part-length, part-moved}
 use Rattle.page.proofs.LineLaws.{line-size, line-in, cut-at, lines-end}

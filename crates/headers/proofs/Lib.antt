@@ -1,3 +1,4 @@
+pub mod FrontLaws
 pub mod FoundLaws
 pub mod TrailerLaws
 pub mod TextLaws

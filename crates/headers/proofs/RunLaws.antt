@@ -1,7 +1,6 @@
 -- A header's lines, one after the other. Assumes nothing.
-use mathlib.Core.Path.{_≡_, refl, ap, sym, _∙_}
-use mathlib.Core.List.{[], _∷_}
-use Prim.Native.Nat.{ℕ, suc, _+_, _-_, _<_, _≤_}
+use mathlib.Core.Path.{_≡_, sym, _∙_}
+use Prim.Native.Nat.{ℕ, _+_, _-_, _<_, _≤_}
 use native.Mathlib.Numerals.{add-one}
 use lib.ListN.{length, take, drop}
 use Rattle.page.specs.Bytes.{Bytes}
@@ -10,7 +9,6 @@ use Rattle.page.specs.Header.{head-step, head-continue, head-end, head-run}
 use Rattle.page.specs.declared.Met.{Met}
 use Rattle.page.specs.declared.Heading.{Heading}
 use Rattle.page.specs.declared.Heading.the-variants as H
-use Rattle.page.specs.declared.Finding.{Finding}
 use Rattle.page.proofs.LineLaws.{line-size, cut-at, lines-end}
 
 -- the line at a place, that ends at e, leads to r

@@ -1,14 +1,12 @@
 -- A trailer's lines, one after the other. Assumes nothing.
-use mathlib.Core.Path.{_≡_, refl, ap, sym, _∙_}
-use mathlib.Core.Bool.{Bool, true, false}
-use mathlib.Core.List.{[], _∷_}
-use Prim.Native.Nat.{ℕ, suc, _+_, _-_, _<_, _≤_}
+use mathlib.Core.Path.{_≡_}
+use mathlib.Core.Bool.{true, false}
+use Prim.Native.Nat.{ℕ, _+_, _-_, _<_, _≤_}
 use native.Mathlib.Numerals.{add-one}
 use lib.ListN.{length, take, drop}
 use Rattle.page.specs.Bytes.{Bytes}
 use Rattle.page.specs.Lines.{lines, content, blank}
 use Rattle.page.specs.Trailer.{eof-ok, all-blank, trailer-of}
-use Rattle.page.specs.declared.Finding.{Finding}
 use Rattle.page.proofs.LineLaws.{line-size, cut-at, lines-end}
 
 module _ (s : Bytes) (at e n : ℕ) (h : at < length s) (q : e ≡ at + line-size (drop at s)) where

@@ -1,22 +1,39 @@
 -- A text is told by its number. Assumes nothing.
 use mathlib.Core.Path.{_≡_, refl, ap, sym, _∙_}
-use mathlib.Core.Bool.{Bool, true, false, _&&_}
-use mathlib.Core.List.{List, [], _∷_}
+use mathlib.Core.Bool.{Bool, true, false}
+use mathlib.Core.List.{[], _∷_}
 use mathlib.Core.Logic.{_⊎_, inl, inr}
-use Prim.Native.Nat.{ℕ, zero, suc, _+_, _-_, _*_, _^_, _<_, _≤_}
-use native.Mathlib.Nat.{pow-suc, pow-succ', pow-le-pow-right, mul-assoc, mul-le-mul-right, lt-of-lt-of-le, le-trans, eq-or-lt-of-le}
+use Prim.Native.Nat.{ℕ, suc, _+_, _*_, _^_, _<_, _≤_, zero-le}
+use native.Mathlib.Nat.{pow-suc, pow-succ', pow-le-pow-right, mul-assoc, mul-le-mul-right, mul-le-mul-left, lt-of-lt-of-le, le-trans, eq-or-lt-of-le}
 use native.Mathlib.Omega.{arith}
-use borrow.Author.Tests.{eq-eqb, eqb-true, ltb-true, leb-true, leb-false}
+use borrow.Author.Tests.{eq-eqb, eqb-true, lt-ltb, ltb-true, leb-true, leb-false}
 use lib.Dec.{eqb, leb, ltb, lit<}
-use lib.ListN.{length, getD, take}
-use lib.Seq.{take-all}
+use lib.ListN.{length}
 use Rattle.page.specs.Bytes.{Bytes, same, all}
 use Rattle.page.proofs.TestLaws.{and-left, and-right, same-refl, same-true, both-ways}
-use Rattle.keys.specs.Numbers.{text-number, packed}
+use Rattle.keys.specs.Numbers.{room, push, packed-from, packed}
 
 -- a byte
 abbrev pub byte : ℕ → Bool
 byte b = ltb b 256
+
+-- where there is room for every byte
+unfoldable pub text-number : ℕ → Bytes → ℕ
+text-number n [] = n
+text-number n (b ∷ bs) = text-number (n * 256 + b) bs
+
+packed-plain : (t : Bytes) (n : ℕ) → all byte t ≡ true → (n + 1) * 256 ^ length t ≤ 2 * room → packed-from n t ≡ text-number n t
+unfolding packed-from push text-number all
+packed-plain [] n e h = refl
+packed-plain (b ∷ t) n e h =
+    let l : b < 256 = ltb-true b 256 (and-left (byte b) (all byte t) e) in
+    let p : (n + 1) * 256 ^ suc (length t) ≡ (n + 1) * 256 * 256 ^ length t =
+    ap (λ (k : ℕ). (n + 1) * k) (pow-succ' 256 (length t)) ∙ sym (mul-assoc (n + 1) 256 (256 ^ length t)) in
+    let o : 1 ≤ 256 ^ length t = pow-le-pow-right (lit< tt) zero-le in
+    let k : (n + 1) * 256 * 1 ≤ (n + 1) * 256 * 256 ^ length t = mul-le-mul-left ((n + 1) * 256) o in
+    let up : n * 256 + b + 1 ≤ (n + 1) * 256 = omega arith in
+    let m : (n * 256 + b + 1) * 256 ^ length t ≤ (n + 1) * 256 * 256 ^ length t = mul-le-mul-right (256 ^ length t) up in
+    rw (lt-ltb n room (omega arith)) (packed-plain t (n * 256 + b) (and-right (byte b) (all byte t) e) (omega arith))
 
 -- a number that begins with n lies between n and n + 1 times 256 to the length
 pub number-ge : (t : Bytes) (n : ℕ) → n * 256 ^ length t ≤ text-number n t
@@ -81,9 +98,15 @@ number-tells t u e f q = by (leb (length u) (length t)) refl
     by false h = absurd (omega (arith, longer t u e (leb-false (length u) (length t) h)))
 
 -- two texts of at most seven bytes are the same exactly if their numbers are
-pub packed-same : (t u : Bytes) → length t ≤ 7 → length u ≤ 7 → all byte t ≡ true → all byte u ≡ true → eqb (packed t) (packed u) ≡ same t u
+
+short-packed : (t : Bytes) → length t ≤ 7 → all byte t ≡ true → packed t ≡ text-number 1 t
 unfolding packed
-packed-same t u h k e f = rw (take-all 7 t h, take-all 7 u k) (both-ways (eqb (text-number 1 t) (text-number 1 u)) (same t u) there back)
+short-packed t h e =
+    let p : 256 ^ length t ≤ 256 ^ 7 = pow-le-pow-right (lit< tt) h in
+    packed-plain t 1 e (omega arith)
+
+pub packed-same : (t u : Bytes) → length t ≤ 7 → length u ≤ 7 → all byte t ≡ true → all byte u ≡ true → eqb (packed t) (packed u) ≡ same t u
+packed-same t u h k e f = rw (short-packed t h e, short-packed u k f) (both-ways (eqb (text-number 1 t) (text-number 1 u)) (same t u) there back)
   where
     there : eqb (text-number 1 t) (text-number 1 u) ≡ true → same t u ≡ true
     there q = rw (number-tells t u e f (eqb-true (text-number 1 t) (text-number 1 u) q)) (same-refl u)

@@ -1,26 +1,26 @@
 -- What holds of each reference is computed over the one list of tables. Assumes nothing.
-use mathlib.Core.Path.{_≡_, refl, ap, sym, _∙_}
-use mathlib.Core.Bool.{Bool, true, false, not, _&&_, _||_, false≢true}
+use mathlib.Core.Path.{_≡_, refl, sym, _∙_}
+use mathlib.Core.Bool.{Bool, true, not, _||_}
 use mathlib.Core.List.{List, [], _∷_, map}
-use Prim.Native.Nat.{ℕ, zero, suc, _+_, _<_, _≤_}
+use Prim.Native.Nat.{ℕ, zero, suc, _<_, _≤_}
+use native.Mathlib.Omega.{arith}
 use lib.Dec.{eqb, leb}
-use lib.ListN.{length, getD}
-use borrow.Author.Tests.{eqb-true, leb-true, not-true}
-use Rattle.page.specs.Bytes.{Bytes, bytes, pick, same}
+use lib.ListN.{length, getD, List·getD-eq-default}
+use borrow.Author.Tests.{eqb-true, leb-true}
+use Rattle.page.specs.Bytes.{bytes, pick, same}
 use Rattle.page.specs.Lines.{find}
-use Rattle.page.specs.Tables.{Named, Reference, Table, all-tables, no-table, no-column, table-at, columns, table-named, to}
+use Rattle.page.specs.Tables.{Named, Reference, Table, all-tables, no-table, no-column, table-at, columns, table-named}
 use Rattle.page.specs.File.{any, by-primary, by-second}
 use Rattle.page.specs.declared.Column.{Column}
-use Rattle.page.proofs.NameLaws.{and-true}
-use Rattle.page.proofs.TestLaws.{same-true}
-use Rattle.page.proofs.TableLaws.{each, table-test}
-use Rattle.keys.specs.Numbers.{no-reference, reference-at, flags}
+use Rattle.page.proofs.TestLaws.{and-left, and-right, same-true}
+use Rattle.page.proofs.TableLaws.{each, table-test, fill, past-tables}
+use Rattle.keys.specs.Numbers.{no-reference, reference-at, flags, kind-of, choice-by, refer-choice, target-at}
 
 pub each-at : {A : Type 0} (p : A → Bool) (d : A) → p d ≡ true → (l : List A) → each p l ≡ true → (n : ℕ) → p (getD l n d) ≡ true
 unfolding each
 each-at p d h [] e n = h
-each-at p d h (x ∷ xs) e zero = and-true (p x) (each p xs) e .0
-each-at p d h (x ∷ xs) e (suc n) = each-at p d h xs (and-true (p x) (each p xs) e .1) n
+each-at p d h (x ∷ xs) e zero = and-left (p x) (each p xs) e
+each-at p d h (x ∷ xs) e (suc n) = each-at p d h xs (and-right (p x) (each p xs) e) n
 
 pub reference-test : (p : Table → Reference → Bool) → ((x : Table) → p x no-reference ≡ true)
     → each (λ (x : Table). each (p x) (x .references)) all-tables ≡ true → (t r : ℕ) → p (table-at t) (reference-at t r) ≡ true
@@ -88,3 +88,71 @@ small-second =
 pub primary-plain : (t : ℕ) → each (λ (c : Named). not (c .column .primary) || not (c .column .text)) (columns t) ≡ true
 unfolding all-tables each columns
 primary-plain t = table-test (λ (x : Table). each (λ (c : Named). not (c .column .primary) || not (c .column .text)) (x .columns)) refl refl t
+
+-- a property of the references, as an array has it: a row of three places a table
+
+fill-at : {A : Type 0} (d e : A) (n : ℕ) (xs : List A) (k : ℕ) → k < n → getD (fill n d xs) k e ≡ getD xs k d
+unfolding fill
+fill-at d e zero xs k h = absurd (omega arith)
+fill-at d e (suc n) [] zero h = refl
+fill-at d e (suc n) [] (suc k) h = fill-at d e n [] k (omega arith)
+fill-at d e (suc n) (x ∷ xs) zero h = refl
+fill-at d e (suc n) (x ∷ xs) (suc k) h = fill-at d e n xs k (omega arith)
+
+module _ {B : Type 0} (f : Table → Reference → B) (d : B) (z : (x : Table) → f x no-reference ≡ d) where
+  unfoldable pub rows : List Table → List (List B)
+  rows xs = map (λ (x : Table). fill 3 d (map (f x) (x .references))) xs
+
+  at-map : (x : Table) (rs : List Reference) (r : ℕ) → getD (map (f x) rs) r d ≡ f x (getD rs r no-reference)
+  at-map x [] r = sym (z x)
+  at-map x (y ∷ rs) zero = refl
+  at-map x (y ∷ rs) (suc r) = at-map x rs r
+
+  rows-at : (xs : List Table) (t r : ℕ) (e : B) → t < length xs → r < 3
+      → getD (getD (rows xs) t []) r e ≡ f (getD xs t no-table) (getD (getD xs t no-table .references) r no-reference)
+  unfolding rows
+  rows-at [] t r e l h = absurd (omega arith)
+  rows-at (x ∷ xs) zero r e l h = fill-at d e 3 (map (f x) (x .references)) r h ∙ at-map x (x .references) r
+  rows-at (x ∷ xs) (suc t) r e l h = rows-at xs t r e (omega arith) h
+
+  pub row-entry : (t r : ℕ) (e : B) → t < 8 → r < 3 → getD (getD (rows all-tables) t []) r e ≡ f (table-at t) (reference-at t r)
+  unfolding table-at reference-at all-tables
+  row-entry t r e l h = rows-at all-tables t r e l h
+
+-- no table has more than three
+pub past-references : (t r : ℕ) → 3 ≤ r → reference-at t r ≡ no-reference
+unfolding reference-at all-tables each
+past-references t r h =
+    List·getD-eq-default (table-at t .references) no-reference
+    (let l : length (table-at t .references) ≤ 3 = leb-true _ _ (table-test (λ (x : Table). leb (length (x .references)) 3) refl refl t) in omega arith)
+
+pub past-table-references : (t r : ℕ) → 8 ≤ t → reference-at t r ≡ no-reference
+unfolding reference-at
+past-table-references t r h = rw (past-tables t h)
+
+choice-none : (n i : ℕ) (cs : List Named) → choice-by (flags n i []) cs ≡ 0
+unfolding choice-by flags kind-of any
+choice-none zero i cs = refl
+choice-none (suc n) i [] = refl
+choice-none (suc n) i (c ∷ cs) = rw (choice-none n (suc i) cs)
+
+abbrev pub choice-in : Table → Reference → ℕ
+choice-in x y = choice-by (flags 8 0 (y .columns)) (x .columns)
+
+pub no-choice : (x : Table) → choice-in x no-reference ≡ 0
+no-choice x = choice-none 8 0 (x .columns)
+
+pub refer-choice-is : (t r : ℕ) → refer-choice t r ≡ choice-in (table-at t) (reference-at t r)
+unfolding refer-choice columns
+refer-choice-is t r = refl
+
+abbrev pub target-in : Table → Reference → ℕ
+target-in x y = table-named (bytes (y .target))
+
+pub no-target : (x : Table) → target-in x no-reference ≡ 8
+unfolding table-named find same bytes all-tables
+no-target x = refl
+
+pub target-is : (t r : ℕ) → target-at t r ≡ target-in (table-at t) (reference-at t r)
+unfolding target-at
+target-is t r = refl

@@ -1,22 +1,22 @@
 -- Two keys are the same exactly if their numbers are. Assumes nothing.
 use mathlib.Core.Path.{_≡_, refl, ap, sym, _∙_}
-use mathlib.Core.Bool.{Bool, true, false, not, _&&_, _||_, false≢true}
+use mathlib.Core.Bool.{Bool, true, false, not, _||_, false≢true}
 use mathlib.Core.List.{List, [], _∷_, map}
-use Prim.Native.Nat.{ℕ, zero, suc, _+_, _<_, _≤_}
+use Prim.Native.Nat.{ℕ, zero, suc, _≤_}
 use native.Mathlib.Omega.{arith}
 use native.Mathlib.Nat.{le-trans}
-use lib.Dec.{eqb, leb}
+use lib.Dec.{eqb}
 use lib.ListN.{length, getD, length-map}
-use borrow.Author.Tests.{eqb-true, leb-true, not-true}
+use borrow.Author.Tests.{leb-true, not-true}
 use Rattle.page.specs.Bytes.{Bytes, bytes, pick, same, all}
 use Rattle.page.specs.Tables.{Named, no-column, columns, table-named}
 use Rattle.page.specs.Records.{Datum, number, words, Record}
 use Rattle.page.specs.File.{same-datum, same-record, key-in, by-primary, referred}
 use Rattle.page.specs.declared.Column.{Column}
 use Rattle.page.specs.declared.Owner.{Owner}
-use Rattle.page.proofs.NameLaws.{and-true}
+use Rattle.page.proofs.TestLaws.{and-left, and-right}
 use Rattle.page.proofs.TableLaws.{each, fill}
-use Rattle.keys.specs.Numbers.{packed, datum-number, seven, key-numbers, refer-numbers, reference-at}
+use Rattle.keys.specs.Numbers.{datum-number, seven, key-numbers, refer-numbers, reference-at}
 use Rattle.keys.proofs.PackLaws.{byte, packed-same}
 use Rattle.keys.proofs.ReferenceLaws.{count, Small, short, plain-at, reference-size, reference-plain, primary-plain, small-primary}
 
@@ -88,7 +88,7 @@ keys-alike p [] s no-value no-value = none
 keys-alike p (c ∷ cs) s (a-value {v = u} {vs = us} h k) (a-value {v = v} {vs = vs} g l) = by (p (c .column)) refl (keys-alike p cs (a .1) k l)
   where
     a : (short p c ≡ true) × (each (short p) cs ≡ true)
-    a = and-true (short p c) (each (short p) cs) s
+    a = (and-left (short p c) (each (short p) cs) s, and-right (short p c) (each (short p) cs) s)
 
     by : (b : Bool) → p (c .column) ≡ b → Alikes (key-in p cs us) (key-in p cs vs)
         → Alikes (pick b (u ∷ key-in p cs us) (key-in p cs us)) (pick b (v ∷ key-in p cs vs) (key-in p cs vs))
@@ -127,7 +127,7 @@ primary-numbers [] s no-value = all-plain
 primary-numbers (c ∷ cs) s (a-value {v} {vs} h k) = by (c .column .primary) h (a .0) (primary-numbers cs (a .1) k)
   where
     a : ((not (c .column .primary) || not (c .column .text)) ≡ true) × (each (λ (c : Named). not (c .column .primary) || not (c .column .text)) cs ≡ true)
-    a = and-true (not (c .column .primary) || not (c .column .text)) (each (λ (c : Named). not (c .column .primary) || not (c .column .text)) cs) s
+    a = (and-left (not (c .column .primary) || not (c .column .text)) (each (λ (c : Named). not (c .column .primary) || not (c .column .text)) cs) s, and-right (not (c .column .primary) || not (c .column .text)) (each (λ (c : Named). not (c .column .primary) || not (c .column .text)) cs) s)
 
     by : (b : Bool) {v : Datum} → Fits (c .column) v → (not b || not (c .column .text)) ≡ true → Plain (key-in by-primary cs vs) → Plain (pick b (v ∷ key-in by-primary cs vs) (key-in by-primary cs vs))
     by true (fits-number t) e r = a-plain r
@@ -147,7 +147,7 @@ referred-numbers : (cs : List Named) {vs : Record} → Fitting cs vs → (ks : L
 unfolding each referred
 referred-numbers cs h [] e = all-plain
 referred-numbers cs {vs} h (k ∷ ks) e =
-    by (plain-value cs h k (not-true _ (and-true (plain-at cs k) (each (plain-at cs) ks) e .0))) (referred-numbers cs h ks (and-true (plain-at cs k) (each (plain-at cs) ks) e .1))
+    by (plain-value cs h k (not-true _ (and-left (plain-at cs k) (each (plain-at cs) ks) e))) (referred-numbers cs h ks (and-right (plain-at cs k) (each (plain-at cs) ks) e))
   where
     by : {v : Datum} → IsNumber v → Plain (map (λ (k : ℕ). getD vs k (number 0)) ks) → Plain (v ∷ map (λ (k : ℕ). getD vs k (number 0)) ks)
     by is-number r = a-plain r

@@ -1,20 +1,20 @@
 -- What a sound section's verdict tells: its table, and that each value fits its column. Assumes nothing.
-use mathlib.Core.Path.{_≡_, refl, ap, sym, _∙_}
+use mathlib.Core.Path.{_≡_, refl, ap, _∙_}
 use mathlib.Core.Bool.{Bool, true, false, false≢true, _&&_, _||_}
 use mathlib.Core.List.{List, [], _∷_, map}
 use mathlib.Core.Option.{Option, none, some}
 use Prim.Native.Nat.{ℕ, zero, suc, _+_, _-_, _<_, _≤_}
 use native.Mathlib.Omega.{arith}
-use lib.Dec.{eqb, leb, ltb}
-use lib.ListN.{length, getD, take, drop}
+use lib.Dec.{eqb, leb}
+use lib.ListN.{getD, take, drop}
 use borrow.Author.Tests.{leb-true, lt-ltb}
-use Rattle.page.specs.Bytes.{Bytes, pick, all, until, part, trimOf, trim}
+use Rattle.page.specs.Bytes.{Bytes, pick, all, until, trimOf, trim}
 use Rattle.page.specs.Lines.{content, command, rest, semicolon, allowed, clean, Rec}
 use Rattle.page.specs.Fields.{parts-here, inside-after, into, split, fields, quote, with-byte, bodyOf, textOf}
 use Rattle.page.specs.Tables.{Named, number-at, table-count, columns, standing}
 use Rattle.page.specs.Section.{outcome, record-text}
-use Rattle.page.specs.Records.{Datum, number, words, Record, recordsOf, table-of}
-use Rattle.page.specs.Grammar.{fields-of, Says, Quiet, RecLine, Holds, a-number, a-text, Values, no-field, a-field, Then, found, skip, Records, pause, a-mark, a-record, the-end, Denotes}
+use Rattle.page.specs.Records.{Datum, number, Record, recordsOf, table-of}
+use Rattle.page.specs.Grammar.{fields-of, Says, Holds, a-number, a-text, Values, no-field, a-field, Then, found, skip, Records, pause, a-mark, a-record, the-end, Denotes}
 use Rattle.page.specs.Rules.{Every, none-left, one-more}
 use Rattle.page.specs.declared.Outcome.{Outcome}
 use Rattle.page.specs.declared.Owner.{Owner}

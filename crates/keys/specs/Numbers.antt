@@ -2,25 +2,31 @@
 use mathlib.Core.Bool.{Bool, true, false}
 use mathlib.Core.List.{List, [], _∷_, map}
 use Prim.Native.Nat.{ℕ, zero, suc, _+_, _*_, _/_, _%_}
-use lib.Dec.{eqb}
-use lib.ListN.{take, getD}
-use Rattle.page.specs.Bytes.{Bytes, pick}
+use lib.Dec.{eqb, ltb}
+use lib.ListN.{getD}
+use Rattle.page.specs.Bytes.{Bytes, bytes, pick}
 use Rattle.page.specs.Fields.{numberOf}
-use Rattle.page.specs.Tables.{Named, Reference, columns, table-at, to}
+use Rattle.page.specs.Tables.{Named, Reference, columns, table-at, table-named, to}
 use Rattle.page.specs.Section.{record-text, amount}
 use Rattle.page.specs.Records.{Datum, number, words, Record, own-bytes}
-use Rattle.page.specs.File.{any, key-in, referred}
+use Rattle.page.specs.File.{any, key-in, by-primary, by-second, referred}
 use Rattle.page.proofs.TableLaws.{fill}
 use Rattle.page.specs.declared.Column.{Column}
 
--- a text goes on in base 256 from what is worth n
-unfoldable pub text-number : ℕ → Bytes → ℕ
-text-number n [] = n
-text-number n (b ∷ bs) = text-number (n * 256 + b) bs
+-- one byte more, in base 256; past seven bytes there is no room
+abbrev pub room : ℕ
+room = 72057594037927936
 
--- a text as a number: it begins with 1, so that its length is in it; more than seven bytes have no room
+unfoldable pub push : ℕ → ℕ → ℕ
+push n b = pick (ltb n room) (n * 256 + b) n
+
+unfoldable pub packed-from : ℕ → Bytes → ℕ
+packed-from n [] = n
+packed-from n (b ∷ bs) = packed-from (push n b) bs
+
+-- a text as a number: it begins with 1, so that its length is in it
 unfoldable pub packed : Bytes → ℕ
-packed t = text-number 1 (take 7 t)
+packed t = packed-from 1 t
 
 unfoldable pub datum-number : Datum → ℕ
 datum-number (number n) = n
@@ -57,6 +63,11 @@ choice-by [] cs = 0
 choice-by (b ∷ bs) [] = 0
 choice-by (b ∷ bs) (c ∷ cs) = choice-by bs cs * 4 + kind-of b (c .column)
 
+-- the primary key, or the second one
+abbrev pub by-key : Bool → Column → Bool
+by-key true = by-second
+by-key false = by-primary
+
 -- the columns of a key
 unfoldable pub key-choice : (Column → Bool) → ℕ → ℕ
 key-choice p t = choice-by (map (λ (c : Named). p (c .column)) (columns t)) (columns t)
@@ -67,6 +78,9 @@ no-reference = to [] ""
 
 unfoldable pub reference-at : ℕ → ℕ → Reference
 reference-at t r = getD (table-at t .references) r no-reference
+
+unfoldable pub target-at : ℕ → ℕ → ℕ
+target-at t r = table-named (bytes (reference-at t r .target))
 
 -- whether each of n places from i on is one of ks
 unfoldable pub flags : ℕ → ℕ → List ℕ → List Bool

@@ -1,25 +1,25 @@
 -- The file's records, section by section. Where each table stands at most once, a repeated key is a matter of one section, and a
 -- reference a matter of the one section of its target. Assumes nothing.
 use mathlib.Core.Path.{_≡_, refl, ap, sym, _∙_}
-use mathlib.Core.Bool.{Bool, true, false, not, _&&_, _||_, false≢true}
+use mathlib.Core.Bool.{Bool, true, false, _&&_, _||_, false≢true}
 use mathlib.Core.List.{List, [], _∷_, _++_, map}
-use Prim.Native.Nat.{ℕ, zero, suc, _+_, _-_, _<_, _≤_}
+use Prim.Native.Nat.{ℕ, zero, suc, _+_, _<_, _≤_}
 use native.Mathlib.Omega.{arith}
 use native.Mathlib.Nat.{add-zero}
-use borrow.Author.Tests.{eq-eqb, ne-eqb, eqb-true}
+use borrow.Author.Tests.{eq-eqb, ne-eqb}
 use lib.Dec.{eqb}
 use lib.ListN.{length, getD, take, drop, length-map}
 use lib.Seq.{drop-cons, drop-length}
 use Rattle.page.specs.declared.Column.{Column}
 use Rattle.page.specs.declared.Refusal.{Refusal}
 use Rattle.page.specs.declared.Row.{Row}
-use Rattle.page.specs.Bytes.{Bytes, bytes, pick}
+use Rattle.page.specs.Bytes.{bytes, pick}
 use Rattle.page.specs.Tables.{Reference, table-named}
 use Rattle.page.specs.Cut.{Section}
 use Rattle.page.specs.Records.{Entry, entriesOf, table-of}
 use Rattle.page.specs.Answers.{refusal, sound, earlier}
 use Rattle.page.specs.Rules.{Apart}
-use Rattle.page.specs.File.{any, Filed, filed-in, filed, key-of, by-primary, same-record, has-key, repeats, referred, meets, lost, first-record, first-again}
+use Rattle.page.specs.File.{any, Filed, filed-in, filed, key-of, by-primary, same-record, repeats, referred, meets, first-record, first-again}
 use Rattle.page.proofs.CutLaws.{no-section}
 use Rattle.page.proofs.KeyLaws.{any-no, any-onto, any-append, onto, no-filed, faulty}
 

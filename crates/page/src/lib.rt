@@ -84,6 +84,7 @@ pub struct Outcome {
 }
 
 // "One row a section with table number, place, length, record count and verdict; the verdict stands with its line."
+#[repr(C)]
 pub struct Row {
     pub table: u32,
     pub place: usize,
@@ -148,6 +149,7 @@ pub struct Header {
 }
 
 // A refusal: the paper's number, and its place.
+#[repr(C)]
 pub struct Refusal {
     pub number: u32,
     pub section: usize,

@@ -1,21 +1,13 @@
+-- `headers::answer::header` meets its contract. Assumes nothing.
+use mathlib.Core.Path.{ap, sym, _∙_}
+use borrow.Author.Tests.{eq-eqb, ne-eqb}
+use borrow.Author.Needs.{needs}
 use Rattle.page.specs.declared.Refusal.{Refusal}
-use Rattle.page.proofs.LimitLaws.{header-short}
 use Rattle.page.specs.Answers.{headed}
 use Rattle.page.specs.Reading.{headerOf}
-use Prim.Native.Nat.{ℕ, suc, _+_, _-_, _*_, _<_, _≤_}
-use mathlib.Core.Path.{_≡_, refl, ap, sym, _∙_}
-use mathlib.Core.Logic.{⊎-elim}
-use mathlib.Core.Bool.{Bool, true, false}
-use native.Mathlib.Omega.{arith}
-use borrow.Author.Tests.{lt-ltb, le-ltb, le-leb, lt-leb, eq-eqb, ne-eqb}
-use lib.ListN.{length, getD, take, drop}
-use borrow.Author.Needs.{needs}
+use Rattle.page.proofs.LimitLaws.{header-short}
 use Rattle.headers.proofs.answer.header.Statement.{statement}
 use Rattle.headers.proofs.answer.header.Tie as tie
-use Rattle.headers.proofs.answer.header.Reads as reads
-use Rattle.headers.proofs.answer.header.Lts as lts
-use Rattle.headers.proofs.answer.refuse_header.Reads as refuse-header-reads
-use Rattle.headers.proofs.values.read_values.Reads as read-values-reads
 
 refuse-header-requires : tie.Need-refuse-header-requires
 refuse-header-requires c κs = search needs

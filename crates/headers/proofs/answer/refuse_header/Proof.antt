@@ -1,18 +1,11 @@
+-- `headers::answer::refuse_header` meets its contract. Assumes nothing.
+use borrow.Author.Tests.{lt-ltb, le-ltb}
+use borrow.Author.Needs.{needs}
+use lib.ListN.{length}
 use Rattle.page.specs.Answers.{earlier, refuse-if}
 use Rattle.page.specs.File.{header-refusal, too-long}
-use Prim.Native.Nat.{ℕ, suc, _+_, _-_, _*_, _<_, _≤_}
-use mathlib.Core.Path.{_≡_, refl, ap, sym, _∙_}
-use mathlib.Core.Logic.{⊎-elim}
-use mathlib.Core.Bool.{Bool, true, false}
-use native.Mathlib.Omega.{arith}
-use borrow.Author.Tests.{lt-ltb, le-ltb, le-leb, lt-leb, eq-eqb, ne-eqb}
-use lib.ListN.{length, getD, take, drop}
-use borrow.Author.Needs.{needs}
 use Rattle.headers.proofs.answer.refuse_header.Statement.{statement}
 use Rattle.headers.proofs.answer.refuse_header.Tie as tie
-use Rattle.headers.proofs.answer.refuse_header.Reads as reads
-use Rattle.headers.proofs.answer.refuse_header.Lts as lts
-use Rattle.headers.proofs.steps.read_header.Reads as read-header-reads
 
 returns : tie.Need-returns
 unfolding header-refusal too-long earlier refuse-if

@@ -1,18 +1,10 @@
-use Rattle.page.specs.Cut.{begins-table, begins-end}
-use Prim.Native.Nat.{ℕ, suc, _+_, _-_, _*_, _<_, _≤_}
-use mathlib.Core.Path.{_≡_, refl, ap, sym, _∙_}
-use mathlib.Core.Logic.{⊎-elim}
-use mathlib.Core.Bool.{Bool, true, false}
-use native.Mathlib.Omega.{arith}
-use borrow.Author.Tests.{lt-ltb, le-ltb, le-leb, lt-leb, eq-eqb, ne-eqb}
-use lib.ListN.{length, getD, take, drop}
+-- `headers::cut::begins_part` meets its contract. Assumes nothing.
+use mathlib.Core.Path.{sym}
+use borrow.Author.Tests.{ne-eqb}
 use borrow.Author.Needs.{needs}
+use Rattle.page.specs.Cut.{begins-table, begins-end}
 use Rattle.headers.proofs.cut.begins_part.Statement.{statement}
 use Rattle.headers.proofs.cut.begins_part.Tie as tie
-use Rattle.headers.proofs.cut.begins_part.Reads as reads
-use Rattle.headers.proofs.cut.begins_part.Lts as lts
-use Rattle.lines.proofs.command_of.Reads as command-of-reads
-use Rattle.lines.proofs.content_of.Reads as content-of-reads
 
 content-of-requires : tie.Need-content-of-requires
 content-of-requires c κs = search needs

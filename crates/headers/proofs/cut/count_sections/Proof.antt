@@ -1,25 +1,20 @@
-use Rattle.lines.proofs.CursorLaws.{handed}
-use Rattle.page.specs.Lines.{lines, joined}
-use Rattle.page.specs.Cut.{sections}
-use Rattle.page.proofs.FrontLaws.{tables-in, sections-tables, tables-more, tables-same, tables-none}
-use borrow.Author.Needs.{needs}
-use Prim.Native.Nat.{ℕ, suc, _+_, _-_, _*_, _<_, _≤_}
-use mathlib.Core.Path.{_≡_, refl, ap, sym, _∙_}
-use mathlib.Core.Logic.{⊎-elim}
-use mathlib.Core.Bool.{Bool, true, false}
+-- `headers::cut::count_sections` meets its contract. The invariant: the `tbl` lines passed, and those that are left, are all.
+-- Assumes nothing.
+use mathlib.Core.Path.{_≡_, sym, _∙_, ap}
+use Prim.Native.Nat.{_+_, _-_, _≤_}
 use native.Mathlib.Omega.{arith}
-use borrow.Author.Tests.{lt-ltb, le-ltb, le-leb, lt-leb, eq-eqb, ne-eqb}
-use lib.ListN.{length, getD, take, drop}
+use borrow.Author.Needs.{needs}
+use lib.ListN.{length}
+use Rattle.page.specs.Cut.{sections}
+use Rattle.page.proofs.CutLaws.{sections-from, sections-all, sections-table, sections-end}
+use Rattle.lines.proofs.CursorLaws.{handed}
+use Rattle.headers.proofs.FrontLaws.{sections-on}
 use Rattle.headers.proofs.cut.count_sections.Statement.{statement}
 use Rattle.headers.proofs.cut.count_sections.Tie as tie
-use Rattle.headers.proofs.cut.count_sections.Reads as reads
-use Rattle.headers.proofs.cut.count_sections.Lts as lts
-use Rattle.lines.proofs.begins_table.Reads as begins-table-reads
-use Rattle.lines.proofs.cursor.Cursor.line.Reads as line-reads
 
 abbrev Inv-loop : tie.InvT-loop
 Inv-loop s c₀ n₀ c n =
-    (c .at ≤ length s) × (n ≤ c .at) × (n + tables-in (lines (drop (c .at) s)) ≡ tables-in (lines s))
+    (c .at ≤ length s) × (n ≤ c .at) × (n + length (sections-from s (c .at)) ≡ length (sections s))
 
 abbrev μ-loop : tie.MeasureT-loop
 μ-loop s c₀ n₀ c n =
@@ -27,7 +22,7 @@ abbrev μ-loop : tie.MeasureT-loop
 
 loop-holds : tie.Need-loop-holds Inv-loop μ-loop
 loop-holds c =
-    (omega arith, omega arith, omega arith)
+    (omega arith, omega arith, rw (sections-all (c .before .args .s .now)) (omega arith))
 
 line-requires : tie.Need-line-requires Inv-loop μ-loop
 line-requires c κs = search needs
@@ -65,7 +60,7 @@ loop-again c =
     let s = c .before .before .before .before .before .before .before .before .before .args .s .now in
     let at = c .before .before .before .before .before .before .before .loop .c .at in
     let t = handed s at (c .before .before .before .before .line .result) (c .before .before .before .before .before .if1 .taken) (c .before .before .before .before .line .ensures) in
-    (omega arith, omega arith, rw (t .next) (omega (arith, tables-more s at (c .before .before .before .before .line .result .span .to) (c .before .before .before .before .before .if1 .taken) (t .size) (sym (c .before .begins-table .ensures) ∙ c .if2 .taken))))
+    (omega arith, omega arith, rw (t .next) (omega (arith, ap length (sections-table s at (c .before .before .before .before .line .result .span .to) (c .before .before .before .before .before .if1 .taken) (t .size) (sym (c .before .begins-table .ensures) ∙ c .if2 .taken)))))
 
 loop-less-2 : tie.Need-loop-less-2 Inv-loop μ-loop
 loop-less-2 c =
@@ -77,12 +72,11 @@ loop-again-2 c =
     let s = c .before .before .before .before .before .before .before .before .before .args .s .now in
     let at = c .before .before .before .before .before .before .before .loop .c .at in
     let t = handed s at (c .before .before .before .before .line .result) (c .before .before .before .before .before .if1 .taken) (c .before .before .before .before .line .ensures) in
-    (omega arith, omega arith, rw (t .next) (omega (arith, tables-same s at (c .before .before .before .before .line .result .span .to) (c .before .before .before .before .before .if1 .taken) (t .size) (sym (c .before .begins-table .ensures) ∙ c .if2 .left))))
+    (omega arith, omega arith, rw (t .next) (omega (arith, ap length (sections-on s at (c .before .before .before .before .line .result .span .to) (c .before .before .before .before .before .if1 .taken) (t .size) (sym (c .before .begins-table .ensures) ∙ c .if2 .left)))))
 
 returns : tie.Need-returns Inv-loop μ-loop
 returns c =
-    let s = c .before .before .before .before .args .s .now in
-    rw (sections-tables s) (omega (arith, tables-none s (c .before .before .loop .c .at) (c .if1 .left)))
+    omega (arith, ap length (sections-end (c .before .before .before .before .args .s .now) (c .before .before .loop .c .at) (c .if1 .left)))
 
 pub count-sections-spec : {M : Type 1} → statement M
 count-sections-spec =

@@ -1,21 +1,17 @@
-use Rattle.lines.proofs.CursorLaws.{handed}
-use Rattle.page.specs.Lines.{lines, joined}
-use Rattle.page.specs.Cut.{from-end, trailer-lines}
-use Rattle.page.proofs.FrontLaws.{end-stop, end-more, end-none}
-use borrow.Author.Needs.{needs}
-use Prim.Native.Nat.{ℕ, suc, _+_, _-_, _*_, _<_, _≤_}
-use mathlib.Core.Path.{_≡_, refl, ap, sym, _∙_}
-use mathlib.Core.Logic.{⊎-elim}
-use mathlib.Core.Bool.{Bool, true, false}
+-- `headers::cut::find_end` meets its contract. The invariant: the trailer's lines are those of what is left, from its first `eof` line on.
+-- Assumes nothing.
+use mathlib.Core.Path.{_≡_, refl, sym, _∙_}
+use Prim.Native.Nat.{_-_, _≤_}
 use native.Mathlib.Omega.{arith}
-use borrow.Author.Tests.{lt-ltb, le-ltb, le-leb, lt-leb, eq-eqb, ne-eqb}
-use lib.ListN.{length, getD, take, drop}
+use borrow.Author.Needs.{needs}
+use lib.ListN.{length, drop}
+use Rattle.page.specs.Lines.{lines}
+use Rattle.page.specs.Cut.{from-end, trailer-lines}
+use Rattle.page.proofs.LineLaws.{lines-end}
+use Rattle.page.proofs.CutLaws.{trailer-here, trailer-more, trailer-none}
+use Rattle.lines.proofs.CursorLaws.{handed}
 use Rattle.headers.proofs.cut.find_end.Statement.{statement}
 use Rattle.headers.proofs.cut.find_end.Tie as tie
-use Rattle.headers.proofs.cut.find_end.Reads as reads
-use Rattle.headers.proofs.cut.find_end.Lts as lts
-use Rattle.lines.proofs.begins_end.Reads as begins-end-reads
-use Rattle.lines.proofs.cursor.Cursor.line.Reads as line-reads
 
 abbrev Inv-loop : tie.InvT-loop
 Inv-loop s c₀ c =
@@ -56,7 +52,7 @@ returns c =
     let s = c .before .before .before .before .before .before .before .before .args .s .now in
     let at = c .before .before .before .before .before .before .loop .c .at in
     let t = handed s at (c .before .before .before .line .result) (c .before .before .before .before .if1 .taken) (c .before .before .before .line .ensures) in
-    (omega arith, sym (end-stop s at (c .before .before .before .line .result .span .to) (c .before .before .before .before .if1 .taken) (t .size) (sym (c .before .begins-end .ensures) ∙ c .if2 .taken)) ∙ c .before .before .before .before .before .before .loop .inv .1)
+    (omega arith, sym (trailer-here s at (c .before .before .before .line .result .span .to) (c .before .before .before .before .if1 .taken) (t .size) (sym (c .before .begins-end .ensures) ∙ c .if2 .taken)) ∙ c .before .before .before .before .before .before .loop .inv .1)
 
 loop-less : tie.Need-loop-less Inv-loop μ-loop
 loop-less c =
@@ -68,13 +64,14 @@ loop-again c =
     let s = c .before .before .before .before .before .before .before .before .before .args .s .now in
     let at = c .before .before .before .before .before .before .before .loop .c .at in
     let t = handed s at (c .before .before .before .before .line .result) (c .before .before .before .before .before .if1 .taken) (c .before .before .before .before .line .ensures) in
-    (omega arith, rw (t .next) (sym (end-more s at (c .before .before .before .before .line .result .span .to) (c .before .before .before .before .before .if1 .taken) (t .size) (sym (c .before .before .begins-end .ensures) ∙ c .before .if2 .left)) ∙ c .before .before .before .before .before .before .before .loop .inv .1))
+    (omega arith, rw (t .next) (sym (trailer-more s at (c .before .before .before .before .line .result .span .to) (c .before .before .before .before .before .if1 .taken) (t .size) (sym (c .before .before .begins-end .ensures) ∙ c .before .if2 .left)) ∙ c .before .before .before .before .before .before .before .loop .inv .1))
 
 returns-2 : tie.Need-returns-2 Inv-loop μ-loop
 returns-2 c =
     let s = c .before .before .before .before .args .s .now in
-    let e : length s ≡ c .before .before .loop .c .at = omega arith in
-    (omega arith, rw e (sym (end-none s (c .before .before .loop .c .at) (c .if1 .left)) ∙ c .before .before .loop .inv .1))
+    let at = c .before .before .loop .c .at in
+    let e : length s ≡ at = omega arith in
+    (omega arith, rw e (lines-end s at (c .if1 .left) ∙ sym (trailer-none s at (c .if1 .left)) ∙ c .before .before .loop .inv .1))
 
 pub find-end-spec : {M : Type 1} → statement M
 find-end-spec =

@@ -1,21 +1,17 @@
-use Rattle.lines.proofs.CursorLaws.{handed}
-use Rattle.page.specs.Lines.{lines, joined}
-use Rattle.page.specs.Cut.{header-lines}
-use Rattle.page.proofs.FrontLaws.{front-size, front-all, front-within, front-lines, front-stop, front-more, front-none}
-use borrow.Author.Needs.{needs}
-use Prim.Native.Nat.{ℕ, suc, _+_, _-_, _*_, _<_, _≤_}
-use mathlib.Core.Path.{_≡_, refl, ap, sym, _∙_}
-use mathlib.Core.Logic.{⊎-elim}
-use mathlib.Core.Bool.{Bool, true, false}
+-- `headers::cut::header_size` meets its contract. The invariant: the bytes passed, and those before the next `tbl` or `eof` line, are the header's.
+-- Assumes nothing.
+use mathlib.Core.Path.{_≡_, sym, _∙_}
+use Prim.Native.Nat.{_+_, _-_, _≤_}
 use native.Mathlib.Omega.{arith}
-use borrow.Author.Tests.{lt-ltb, le-ltb, le-leb, lt-leb, eq-eqb, ne-eqb}
-use lib.ListN.{length, getD, take, drop}
+use borrow.Author.Needs.{needs}
+use lib.ListN.{length, drop}
+use Rattle.page.specs.Lines.{joined}
+use Rattle.page.specs.Cut.{header-lines}
+use Rattle.page.proofs.CutLaws.{front-size, front-end, header-run}
+use Rattle.lines.proofs.CursorLaws.{handed}
+use Rattle.headers.proofs.FrontLaws.{front-stop, front-on}
 use Rattle.headers.proofs.cut.header_size.Statement.{statement}
 use Rattle.headers.proofs.cut.header_size.Tie as tie
-use Rattle.headers.proofs.cut.header_size.Reads as reads
-use Rattle.headers.proofs.cut.header_size.Lts as lts
-use Rattle.headers.proofs.cut.begins_part.Reads as begins-part-reads
-use Rattle.lines.proofs.cursor.Cursor.line.Reads as line-reads
 
 abbrev Inv-loop : tie.InvT-loop
 Inv-loop s c₀ c =
@@ -26,8 +22,9 @@ abbrev μ-loop : tie.MeasureT-loop
     length s - c .at
 
 loop-holds : tie.Need-loop-holds Inv-loop μ-loop
+unfolding front-size header-lines
 loop-holds c =
-    (omega arith, omega (arith, front-all (c .before .args .s .now)))
+    (omega arith, omega arith)
 
 line-requires : tie.Need-line-requires Inv-loop μ-loop
 line-requires c κs = search needs
@@ -57,7 +54,7 @@ returns c =
     let t = handed s at (c .before .before .before .line .result) (c .before .before .before .before .if1 .taken) (c .before .before .before .line .ensures) in
     let e : at ≡ length (joined (header-lines s)) =
     omega (arith, front-stop s at (c .before .before .before .line .result .span .to) (c .before .before .before .before .if1 .taken) (t .size) (sym (c .before .begins-part .ensures) ∙ c .if2 .taken)) in
-    (e, omega arith, rw e (front-lines s))
+    (e, omega arith, rw e (header-run s))
 
 loop-less : tie.Need-loop-less Inv-loop μ-loop
 loop-less c =
@@ -69,13 +66,13 @@ loop-again c =
     let s = c .before .before .before .before .before .before .before .before .before .args .s .now in
     let at = c .before .before .before .before .before .before .before .loop .c .at in
     let t = handed s at (c .before .before .before .before .line .result) (c .before .before .before .before .before .if1 .taken) (c .before .before .before .before .line .ensures) in
-    (omega arith, rw (t .next) (omega (arith, front-more s at (c .before .before .before .before .line .result .span .to) (c .before .before .before .before .before .if1 .taken) (t .size) (sym (c .before .before .begins-part .ensures) ∙ c .before .if2 .left))))
+    (omega arith, rw (t .next) (omega (arith, front-on s at (c .before .before .before .before .line .result .span .to) (c .before .before .before .before .before .if1 .taken) (t .size) (sym (c .before .before .begins-part .ensures) ∙ c .before .if2 .left))))
 
 returns-2 : tie.Need-returns-2 Inv-loop μ-loop
 returns-2 c =
     let s = c .before .before .before .before .args .s .now in
-    let e : length s ≡ length (joined (header-lines s)) = omega (arith, front-none s (c .before .before .loop .c .at) (c .if1 .left)) in
-    (e, omega arith, rw e (front-lines s))
+    let e : length s ≡ length (joined (header-lines s)) = omega (arith, front-end s (c .before .before .loop .c .at) (c .if1 .left)) in
+    (e, omega arith, rw e (header-run s))
 
 pub header-size-spec : {M : Type 1} → statement M
 header-size-spec =

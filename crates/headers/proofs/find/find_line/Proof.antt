@@ -1,23 +1,16 @@
-use Rattle.headers.proofs.FoundLaws.{line-none, content-in, line-more, semicolon-in, found-here}
-use Rattle.lines.proofs.CursorLaws.{handed}
+-- `headers::find::find_line` meets its contract. The invariant: the first line of command k among what is left is the header's.
+-- Assumes nothing.
+use mathlib.Core.Path.{_≡_, refl, ap, sym, _∙_}
+use Prim.Native.Nat.{ℕ, _+_, _-_, _≤_}
+use native.Mathlib.Omega.{arith}
+use borrow.Author.Needs.{needs}
+use lib.ListN.{length, take, drop}
 use Rattle.page.specs.Places.{line-of, Standing}
 use Rattle.page.specs.Lines.{lines, content-size}
-use borrow.Author.Needs.{needs}
-use Prim.Native.Nat.{ℕ, suc, _+_, _-_, _*_, _<_, _≤_}
-use mathlib.Core.Path.{_≡_, refl, ap, sym, _∙_}
-use mathlib.Core.Logic.{⊎-elim}
-use mathlib.Core.Bool.{Bool, true, false}
-use native.Mathlib.Omega.{arith}
-use borrow.Author.Tests.{lt-ltb, le-ltb, le-leb, lt-leb, eq-eqb, ne-eqb}
-use lib.ListN.{length, getD, take, drop}
+use Rattle.lines.proofs.CursorLaws.{handed}
+use Rattle.headers.proofs.FoundLaws.{line-none, content-in, line-more, semicolon-in, found-here}
 use Rattle.headers.proofs.find.find_line.Statement.{statement}
 use Rattle.headers.proofs.find.find_line.Tie as tie
-use Rattle.headers.proofs.find.find_line.Reads as reads
-use Rattle.headers.proofs.find.find_line.Lts as lts
-use Rattle.lines.proofs.command_of.Reads as command-of-reads
-use Rattle.lines.proofs.content_len.Reads as content-len-reads
-use Rattle.lines.proofs.find_semicolon.Reads as find-semicolon-reads
-use Rattle.lines.proofs.cursor.Cursor.line.Reads as line-reads
 
 abbrev Inv-loop : tie.InvT-loop
 Inv-loop h k c₀ c =

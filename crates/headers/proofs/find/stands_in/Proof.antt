@@ -1,18 +1,10 @@
-use Rattle.headers.proofs.FoundLaws.{stands-place}
-use Rattle.page.specs.Lines.{lines}
-use Prim.Native.Nat.{ℕ, suc, _+_, _-_, _*_, _<_, _≤_}
-use mathlib.Core.Path.{_≡_, refl, ap, sym, _∙_}
-use mathlib.Core.Logic.{⊎-elim}
-use mathlib.Core.Bool.{Bool, true, false}
-use native.Mathlib.Omega.{arith}
-use borrow.Author.Tests.{lt-ltb, le-ltb, le-leb, lt-leb, eq-eqb, ne-eqb}
-use lib.ListN.{length, getD, take, drop}
+-- `headers::find::stands_in` meets its contract. Assumes nothing.
+use mathlib.Core.Path.{sym}
 use borrow.Author.Needs.{needs}
+use Rattle.page.specs.Lines.{lines}
+use Rattle.headers.proofs.FoundLaws.{stands-place}
 use Rattle.headers.proofs.find.stands_in.Statement.{statement}
 use Rattle.headers.proofs.find.stands_in.Tie as tie
-use Rattle.headers.proofs.find.stands_in.Reads as reads
-use Rattle.headers.proofs.find.stands_in.Lts as lts
-use Rattle.headers.proofs.find.find_line.Reads as find-line-reads
 
 find-line-requires : tie.Need-find-line-requires
 find-line-requires c κs = search needs

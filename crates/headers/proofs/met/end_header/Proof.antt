@@ -1,17 +1,9 @@
-use Rattle.page.specs.Header.{head-end}
-use Prim.Native.Nat.{ℕ, suc, _+_, _-_, _*_, _<_, _≤_}
-use mathlib.Core.Path.{_≡_, refl, ap, sym, _∙_}
-use mathlib.Core.Logic.{⊎-elim}
-use mathlib.Core.Bool.{Bool, true, false}
-use native.Mathlib.Omega.{arith}
-use borrow.Author.Tests.{lt-ltb, le-ltb, le-leb, lt-leb, eq-eqb, ne-eqb}
-use lib.ListN.{length, getD, take, drop}
+-- `headers::met::end_header` meets its contract. Assumes nothing.
+use mathlib.Core.Path.{sym, _∙_}
 use borrow.Author.Needs.{needs}
+use Rattle.page.specs.Header.{head-end}
 use Rattle.headers.proofs.met.end_header.Statement.{statement}
 use Rattle.headers.proofs.met.end_header.Tie as tie
-use Rattle.headers.proofs.met.end_header.Reads as reads
-use Rattle.headers.proofs.met.end_header.Lts as lts
-use Rattle.headers.proofs.met.is_complete.Reads as is-complete-reads
 
 is-complete-requires : tie.Need-is-complete-requires
 is-complete-requires c κs = search needs

@@ -1,17 +1,8 @@
-use Rattle.page.specs.Header.{meet}
-use Prim.Native.Nat.{ℕ, suc, _+_, _-_, _*_, _<_, _≤_}
-use mathlib.Core.Path.{_≡_, refl, ap, sym, _∙_}
-use mathlib.Core.Logic.{⊎-elim}
-use mathlib.Core.Bool.{Bool, true, false}
-use native.Mathlib.Omega.{arith}
-use borrow.Author.Tests.{lt-ltb, le-ltb, le-leb, lt-leb, eq-eqb, ne-eqb}
-use lib.ListN.{length, getD, take, drop}
+-- `headers::met::meet` meets its contract. Assumes nothing.
 use borrow.Author.Needs.{needs}
+use Rattle.page.specs.Header.{meet}
 use Rattle.headers.proofs.met.meet.Statement.{statement}
 use Rattle.headers.proofs.met.meet.Tie as tie
-use Rattle.headers.proofs.met.meet.Reads as reads
-use Rattle.headers.proofs.met.meet.Lts as lts
-use Rattle.headers.proofs.met.met_with.Reads as met-with-reads
 
 met-with-requires : tie.Need-met-with-requires
 met-with-requires c κs = search needs

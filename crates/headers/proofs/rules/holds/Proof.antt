@@ -1,19 +1,9 @@
-use Rattle.page.specs.Header.{holds}
-use Prim.Native.Nat.{ℕ, suc, _+_, _-_, _*_, _<_, _≤_}
-use mathlib.Core.Path.{_≡_, refl, ap, sym, _∙_}
-use mathlib.Core.Logic.{⊎-elim}
-use mathlib.Core.Bool.{Bool, true, false}
-use native.Mathlib.Omega.{arith}
-use borrow.Author.Tests.{lt-ltb, le-ltb, le-leb, lt-leb, eq-eqb, ne-eqb}
-use lib.ListN.{length, getD, take, drop}
+-- `headers::rules::holds` meets its contract. Assumes nothing.
+use borrow.Author.Tests.{ne-eqb}
 use borrow.Author.Needs.{needs}
+use Rattle.page.specs.Header.{holds}
 use Rattle.headers.proofs.rules.holds.Statement.{statement}
 use Rattle.headers.proofs.rules.holds.Tie as tie
-use Rattle.headers.proofs.rules.holds.Reads as reads
-use Rattle.headers.proofs.rules.holds.Lts as lts
-use Rattle.headers.proofs.rules.holds_charset.Reads as holds-charset-reads
-use Rattle.headers.proofs.rules.holds_source.Reads as holds-source-reads
-use Rattle.headers.proofs.rules.holds_text.Reads as holds-text-reads
 
 holds-source-requires : tie.Need-holds-source-requires
 holds-source-requires c κs = search needs

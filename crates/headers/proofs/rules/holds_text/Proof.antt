@@ -1,19 +1,10 @@
-use Rattle.page.specs.Header.{text-ok}
-use Prim.Native.Nat.{ℕ, suc, _+_, _-_, _*_, _<_, _≤_}
-use mathlib.Core.Path.{_≡_, refl, ap, sym, _∙_}
-use mathlib.Core.Logic.{⊎-elim}
-use mathlib.Core.Bool.{Bool, true, false}
-use native.Mathlib.Omega.{arith}
-use borrow.Author.Tests.{lt-ltb, le-ltb, le-leb, lt-leb, eq-eqb, ne-eqb}
-use lib.ListN.{length, getD, take, drop}
+-- `headers::rules::holds_text` meets its contract. Assumes nothing.
+use mathlib.Core.Path.{sym}
+use borrow.Author.Tests.{eq-eqb, ne-eqb}
 use borrow.Author.Needs.{needs}
+use Rattle.page.specs.Header.{text-ok}
 use Rattle.headers.proofs.rules.holds_text.Statement.{statement}
 use Rattle.headers.proofs.rules.holds_text.Tie as tie
-use Rattle.headers.proofs.rules.holds_text.Reads as reads
-use Rattle.headers.proofs.rules.holds_text.Lts as lts
-use Rattle.headers.proofs.rules.is_text.Reads as is-text-reads
-use Rattle.lines.proofs.count_fields.Reads as count-fields-reads
-use Rattle.lines.proofs.field_at.Reads as field-at-reads
 
 count-fields-requires : tie.Need-count-fields-requires
 count-fields-requires c κs = search needs

@@ -1,17 +1,8 @@
-use Prim.Native.Nat.{ℕ, suc, _+_, _-_, _*_, _<_, _≤_}
-use mathlib.Core.Path.{_≡_, refl, ap, sym, _∙_}
-use mathlib.Core.Logic.{⊎-elim}
-use mathlib.Core.Bool.{Bool, true, false}
-use native.Mathlib.Omega.{arith}
-use borrow.Author.Tests.{lt-ltb, le-ltb, le-leb, lt-leb, eq-eqb, ne-eqb}
-use lib.ListN.{length, getD, take, drop}
+-- `headers::rules::is_charset` meets its contract. Assumes nothing.
+use mathlib.Core.Path.{sym, _∙_}
 use borrow.Author.Needs.{needs}
 use Rattle.headers.proofs.rules.is_charset.Statement.{statement}
 use Rattle.headers.proofs.rules.is_charset.Tie as tie
-use Rattle.headers.proofs.rules.is_charset.Reads as reads
-use Rattle.headers.proofs.rules.is_charset.Lts as lts
-use Rattle.fields.proofs.is_ascii_name.Reads as is-ascii-name-reads
-use Rattle.fields.proofs.is_latin_name.Reads as is-latin-name-reads
 
 is-ascii-name-requires : tie.Need-is-ascii-name-requires
 is-ascii-name-requires c κs = search needs

@@ -1,18 +1,10 @@
-use Rattle.headers.proofs.TextLaws.{text-some, text-none}
-use Rattle.page.specs.Fields.{textOf}
-use Prim.Native.Nat.{ℕ, suc, _+_, _-_, _*_, _<_, _≤_}
-use mathlib.Core.Path.{_≡_, refl, ap, sym, _∙_}
-use mathlib.Core.Logic.{⊎-elim}
-use mathlib.Core.Bool.{Bool, true, false}
-use native.Mathlib.Omega.{arith}
-use borrow.Author.Tests.{lt-ltb, le-ltb, le-leb, lt-leb, eq-eqb, ne-eqb}
-use lib.ListN.{length, getD, take, drop}
+-- `headers::rules::is_text` meets its contract. Assumes nothing.
+use mathlib.Core.Path.{sym, _∙_}
 use borrow.Author.Needs.{needs}
+use Rattle.page.specs.Fields.{textOf}
+use Rattle.headers.proofs.TextLaws.{text-some, text-none}
 use Rattle.headers.proofs.rules.is_text.Statement.{statement}
 use Rattle.headers.proofs.rules.is_text.Tie as tie
-use Rattle.headers.proofs.rules.is_text.Reads as reads
-use Rattle.headers.proofs.rules.is_text.Lts as lts
-use Rattle.fields.proofs.text_size.Reads as text-size-reads
 
 text-size-requires : tie.Need-text-size-requires
 text-size-requires c κs = search needs

@@ -1,21 +1,10 @@
-use Rattle.page.specs.Header.{mod-form}
-use Prim.Native.Nat.{ℕ, suc, _+_, _-_, _*_, _<_, _≤_}
-use mathlib.Core.Path.{_≡_, refl, ap, sym, _∙_}
-use mathlib.Core.Logic.{⊎-elim}
-use mathlib.Core.Bool.{Bool, true, false}
-use native.Mathlib.Omega.{arith}
-use borrow.Author.Tests.{lt-ltb, le-ltb, le-leb, lt-leb, eq-eqb, ne-eqb, not-true, not-false}
-use lib.ListN.{length, getD, take, drop}
+-- `headers::rules::read_mode` meets its contract. Assumes nothing.
+use mathlib.Core.Path.{sym, _∙_}
+use borrow.Author.Tests.{eq-eqb, ne-eqb, not-true, not-false}
 use borrow.Author.Needs.{needs}
+use Rattle.page.specs.Header.{mod-form}
 use Rattle.headers.proofs.rules.read_mode.Statement.{statement}
 use Rattle.headers.proofs.rules.read_mode.Tie as tie
-use Rattle.headers.proofs.rules.read_mode.Reads as reads
-use Rattle.headers.proofs.rules.read_mode.Lts as lts
-use Rattle.headers.proofs.rules.is_clock.Reads as is-clock-reads
-use Rattle.headers.proofs.rules.is_mode.Reads as is-mode-reads
-use Rattle.fields.proofs.form_named.Reads as form-named-reads
-use Rattle.lines.proofs.count_fields.Reads as count-fields-reads
-use Rattle.lines.proofs.field_at.Reads as field-at-reads
 
 count-fields-requires : tie.Need-count-fields-requires
 count-fields-requires c κs = search needs

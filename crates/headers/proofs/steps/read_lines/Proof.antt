@@ -1,24 +1,16 @@
-use Rattle.headers.proofs.RunLaws.{turn-go, turn-stop, run-end}
-use Rattle.lines.proofs.CursorLaws.{handed}
+-- `headers::steps::read_lines` meets its contract. The invariant: the verdict on what is left, with what has been met in n lines, is the header's.
+-- Assumes nothing.
+use mathlib.Core.Path.{_≡_, ap, sym, _∙_}
+use Prim.Native.Nat.{_-_, _≤_}
+use native.Mathlib.Omega.{arith}
+use borrow.Author.Needs.{needs}
+use lib.ListN.{length, drop}
 use Rattle.page.specs.Header.{head-step, head-run, headOf}
 use Rattle.page.specs.Lines.{lines}
-use borrow.Author.Needs.{needs}
-use Prim.Native.Nat.{ℕ, suc, _+_, _-_, _*_, _<_, _≤_}
-use mathlib.Core.Path.{_≡_, refl, ap, sym, _∙_}
-use mathlib.Core.Logic.{⊎-elim}
-use mathlib.Core.Bool.{Bool, true, false}
-use native.Mathlib.Omega.{arith}
-use borrow.Author.Tests.{lt-ltb, le-ltb, le-leb, lt-leb, eq-eqb, ne-eqb}
-use lib.ListN.{length, getD, take, drop}
+use Rattle.lines.proofs.CursorLaws.{handed}
+use Rattle.headers.proofs.RunLaws.{turn-go, turn-stop, run-end}
 use Rattle.headers.proofs.steps.read_lines.Statement.{statement}
 use Rattle.headers.proofs.steps.read_lines.Tie as tie
-use Rattle.headers.proofs.steps.read_lines.Reads as reads
-use Rattle.headers.proofs.steps.read_lines.Lts as lts
-use Rattle.headers.proofs.met.end_header.Reads as end-header-reads
-use Rattle.headers.proofs.steps.begin.Reads as begin-reads
-use Rattle.headers.proofs.steps.step_header.Reads as step-header-reads
-use Rattle.lines.proofs.content_of.Reads as content-of-reads
-use Rattle.lines.proofs.cursor.Cursor.line.Reads as line-reads
 
 abbrev Inv-loop : tie.InvT-loop
 Inv-loop s c₀ m₀ n₀ c m n =

@@ -1,22 +1,10 @@
-use Rattle.page.specs.Header.{head-step, head-choose}
-use Prim.Native.Nat.{ℕ, suc, _+_, _-_, _*_, _<_, _≤_}
-use mathlib.Core.Path.{_≡_, refl, ap, sym, _∙_}
-use mathlib.Core.Logic.{⊎-elim}
-use mathlib.Core.Bool.{Bool, true, false}
-use native.Mathlib.Omega.{arith}
-use borrow.Author.Tests.{lt-ltb, le-ltb, le-leb, lt-leb, eq-eqb, ne-eqb, not-true, not-false}
-use lib.ListN.{length, getD, take, drop}
+-- `headers::steps::step_header` meets its contract. Assumes nothing.
+use mathlib.Core.Path.{sym}
+use borrow.Author.Tests.{ne-eqb, not-true, not-false}
 use borrow.Author.Needs.{needs}
+use Rattle.page.specs.Header.{head-step, head-choose}
 use Rattle.headers.proofs.steps.step_header.Statement.{statement}
 use Rattle.headers.proofs.steps.step_header.Tie as tie
-use Rattle.headers.proofs.steps.step_header.Reads as reads
-use Rattle.headers.proofs.steps.step_header.Lts as lts
-use Rattle.headers.proofs.steps.step_mode.Reads as step-mode-reads
-use Rattle.headers.proofs.steps.step_other.Reads as step-other-reads
-use Rattle.lines.proofs.command_of.Reads as command-of-reads
-use Rattle.lines.proofs.is_clean.Reads as is-clean-reads
-use Rattle.lines.proofs.is_blank.Reads as is-blank-reads
-use Rattle.lines.proofs.rest_of.Reads as rest-of-reads
 
 is-clean-requires : tie.Need-is-clean-requires
 is-clean-requires c κs = search needs

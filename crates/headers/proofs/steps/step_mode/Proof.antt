@@ -1,19 +1,10 @@
-use Rattle.page.specs.declared.Heading.the-variants as H
-use Rattle.page.specs.Header.{mod-step, head-choose}
-use Prim.Native.Nat.{ℕ, suc, _+_, _-_, _*_, _<_, _≤_}
-use mathlib.Core.Path.{_≡_, refl, ap, sym, _∙_}
-use mathlib.Core.Logic.{⊎-elim}
-use mathlib.Core.Bool.{Bool, true, false}
-use native.Mathlib.Omega.{arith}
-use borrow.Author.Tests.{lt-ltb, le-ltb, le-leb, lt-leb, eq-eqb, ne-eqb}
-use lib.ListN.{length, getD, take, drop}
+-- `headers::steps::step_mode` meets its contract. Assumes nothing.
+use mathlib.Core.Path.{sym}
+use borrow.Author.Tests.{ne-eqb}
 use borrow.Author.Needs.{needs}
+use Rattle.page.specs.Header.{mod-step, head-choose}
 use Rattle.headers.proofs.steps.step_mode.Statement.{statement}
 use Rattle.headers.proofs.steps.step_mode.Tie as tie
-use Rattle.headers.proofs.steps.step_mode.Reads as reads
-use Rattle.headers.proofs.steps.step_mode.Lts as lts
-use Rattle.headers.proofs.rules.read_mode.Reads as read-mode-reads
-use Rattle.headers.proofs.steps.begin.Reads as begin-reads
 
 returns : tie.Need-returns
 unfolding mod-step head-choose

@@ -1,19 +1,9 @@
-use Rattle.page.specs.Header.{other-step, head-choose}
-use Prim.Native.Nat.{ℕ, suc, _+_, _-_, _*_, _<_, _≤_}
-use mathlib.Core.Path.{_≡_, refl, ap, sym, _∙_}
-use mathlib.Core.Logic.{⊎-elim}
-use mathlib.Core.Bool.{Bool, true, false}
-use native.Mathlib.Omega.{arith}
-use borrow.Author.Tests.{lt-ltb, le-ltb, le-leb, lt-leb, eq-eqb, ne-eqb}
-use lib.ListN.{length, getD, take, drop}
+-- `headers::steps::step_other` meets its contract. Assumes nothing.
+use mathlib.Core.Path.{sym}
 use borrow.Author.Needs.{needs}
+use Rattle.page.specs.Header.{other-step, head-choose}
 use Rattle.headers.proofs.steps.step_other.Statement.{statement}
 use Rattle.headers.proofs.steps.step_other.Tie as tie
-use Rattle.headers.proofs.steps.step_other.Reads as reads
-use Rattle.headers.proofs.steps.step_other.Lts as lts
-use Rattle.headers.proofs.met.meet.Reads as meet-reads
-use Rattle.headers.proofs.met.was_met.Reads as was-met-reads
-use Rattle.headers.proofs.rules.holds.Reads as holds-reads
 
 was-met-requires : tie.Need-was-met-requires
 was-met-requires c κs = search needs

@@ -1,22 +1,10 @@
-use Rattle.page.specs.Trailer.{eof-ok}
-use Prim.Native.Nat.{ℕ, suc, _+_, _-_, _*_, _<_, _≤_}
-use mathlib.Core.Path.{_≡_, refl, ap, sym, _∙_}
-use mathlib.Core.Logic.{⊎-elim}
-use mathlib.Core.Bool.{Bool, true, false}
-use native.Mathlib.Omega.{arith}
-use borrow.Author.Tests.{lt-ltb, le-ltb, le-leb, lt-leb, eq-eqb, ne-eqb, not-true, not-false}
-use lib.ListN.{length, getD, take, drop}
+-- `headers::trailer::holds_count` meets its contract. Assumes nothing.
+use mathlib.Core.Path.{sym}
+use borrow.Author.Tests.{eq-eqb, ne-eqb, not-true, not-false}
 use borrow.Author.Needs.{needs}
+use Rattle.page.specs.Trailer.{eof-ok}
 use Rattle.headers.proofs.trailer.holds_count.Statement.{statement}
 use Rattle.headers.proofs.trailer.holds_count.Tie as tie
-use Rattle.headers.proofs.trailer.holds_count.Reads as reads
-use Rattle.headers.proofs.trailer.holds_count.Lts as lts
-use Rattle.fields.proofs.read_number.Reads as read-number-reads
-use Rattle.headers.proofs.trailer.is_count.Reads as is-count-reads
-use Rattle.lines.proofs.is_clean.Reads as is-clean-reads
-use Rattle.lines.proofs.rest_of.Reads as rest-of-reads
-use Rattle.lines.proofs.count_fields.Reads as count-fields-reads
-use Rattle.lines.proofs.field_at.Reads as field-at-reads
 
 is-clean-requires : tie.Need-is-clean-requires
 is-clean-requires c κs = search needs

@@ -1,16 +1,7 @@
-use Rattle.page.specs.Trailer.{counts}
-use Prim.Native.Nat.{ℕ, suc, _+_, _-_, _*_, _<_, _≤_}
-use mathlib.Core.Path.{_≡_, refl, ap, sym, _∙_}
-use mathlib.Core.Logic.{⊎-elim}
-use mathlib.Core.Bool.{Bool, true, false}
-use native.Mathlib.Omega.{arith}
-use borrow.Author.Tests.{lt-ltb, le-ltb, le-leb, lt-leb, eq-eqb, ne-eqb}
-use lib.ListN.{length, getD, take, drop}
+-- `headers::trailer::is_count` meets its contract. Assumes nothing.
 use borrow.Author.Needs.{needs}
 use Rattle.headers.proofs.trailer.is_count.Statement.{statement}
 use Rattle.headers.proofs.trailer.is_count.Tie as tie
-use Rattle.headers.proofs.trailer.is_count.Reads as reads
-use Rattle.headers.proofs.trailer.is_count.Lts as lts
 
 enum-known-x : tie.Need-enum-known-x
 enum-known-x c = search needs

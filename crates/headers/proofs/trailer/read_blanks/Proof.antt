@@ -1,22 +1,17 @@
-use Rattle.headers.proofs.TrailerLaws.{blank-more, blank-stop, blank-end}
-use Rattle.lines.proofs.CursorLaws.{handed}
-use Rattle.page.specs.Trailer.{all-blank}
-use Rattle.page.specs.Lines.{lines, blank, content}
-use borrow.Author.Needs.{needs}
-use Prim.Native.Nat.{ℕ, suc, _+_, _-_, _*_, _<_, _≤_}
+-- `headers::trailer::read_blanks` meets its contract. The invariant: the verdict on what is left, after n lines, is the whole's.
+-- Assumes nothing.
 use mathlib.Core.Path.{_≡_, refl, ap, sym, _∙_}
-use mathlib.Core.Logic.{⊎-elim}
-use mathlib.Core.Bool.{Bool, true, false}
+use Prim.Native.Nat.{_-_, _≤_}
 use native.Mathlib.Omega.{arith}
-use borrow.Author.Tests.{lt-ltb, le-ltb, le-leb, lt-leb, eq-eqb, ne-eqb, not-true, not-false}
-use lib.ListN.{length, getD, take, drop}
+use borrow.Author.Needs.{needs}
+use borrow.Author.Tests.{not-true, not-false}
+use lib.ListN.{length, drop}
+use Rattle.page.specs.Trailer.{all-blank}
+use Rattle.page.specs.Lines.{lines, blank}
+use Rattle.lines.proofs.CursorLaws.{handed}
+use Rattle.headers.proofs.TrailerLaws.{blank-more, blank-stop, blank-end}
 use Rattle.headers.proofs.trailer.read_blanks.Statement.{statement}
 use Rattle.headers.proofs.trailer.read_blanks.Tie as tie
-use Rattle.headers.proofs.trailer.read_blanks.Reads as reads
-use Rattle.headers.proofs.trailer.read_blanks.Lts as lts
-use Rattle.lines.proofs.content_of.Reads as content-of-reads
-use Rattle.lines.proofs.is_blank.Reads as is-blank-reads
-use Rattle.lines.proofs.cursor.Cursor.line.Reads as line-reads
 
 abbrev Inv-loop : tie.InvT-loop
 Inv-loop s from c₀ n₀ c n =

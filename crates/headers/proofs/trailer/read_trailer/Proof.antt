@@ -1,24 +1,13 @@
-use Rattle.headers.proofs.TrailerLaws.{trailer-more, trailer-stop, trailer-none}
-use Rattle.lines.proofs.CursorLaws.{handed}
-use Rattle.page.specs.Trailer.{trailer-of, eof-ok}
-use Rattle.page.specs.Lines.{lines, content}
-use Prim.Native.Nat.{ℕ, suc, _+_, _-_, _*_, _<_, _≤_}
-use mathlib.Core.Path.{_≡_, refl, ap, sym, _∙_}
-use mathlib.Core.Logic.{⊎-elim}
-use mathlib.Core.Bool.{Bool, true, false}
+-- `headers::trailer::read_trailer` meets its contract. Assumes nothing.
+use mathlib.Core.Path.{ap, sym, _∙_}
 use native.Mathlib.Omega.{arith}
-use borrow.Author.Tests.{lt-ltb, le-ltb, le-leb, lt-leb, eq-eqb, ne-eqb, not-true, not-false}
-use lib.ListN.{length, getD, take, drop}
+use borrow.Author.Tests.{not-true, not-false}
 use borrow.Author.Needs.{needs}
+use Rattle.page.specs.Trailer.{eof-ok}
+use Rattle.lines.proofs.CursorLaws.{handed}
+use Rattle.headers.proofs.TrailerLaws.{trailer-more, trailer-stop, trailer-none}
 use Rattle.headers.proofs.trailer.read_trailer.Statement.{statement}
 use Rattle.headers.proofs.trailer.read_trailer.Tie as tie
-use Rattle.headers.proofs.trailer.read_trailer.Reads as reads
-use Rattle.headers.proofs.trailer.read_trailer.Lts as lts
-use Rattle.headers.proofs.cut.find_end.Reads as find-end-reads
-use Rattle.headers.proofs.trailer.holds_count.Reads as holds-count-reads
-use Rattle.headers.proofs.trailer.read_blanks.Reads as read-blanks-reads
-use Rattle.lines.proofs.content_of.Reads as content-of-reads
-use Rattle.lines.proofs.cursor.Cursor.line.Reads as line-reads
 
 find-end-requires : tie.Need-find-end-requires
 find-end-requires c κs = search needs

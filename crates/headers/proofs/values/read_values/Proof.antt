@@ -1,19 +1,11 @@
-use Rattle.page.specs.Head.{header-values}
-use lib.Seq.{length-take-le}
-use Prim.Native.Nat.{ℕ, suc, _+_, _-_, _*_, _<_, _≤_}
-use mathlib.Core.Path.{_≡_, refl, ap, sym, _∙_}
-use mathlib.Core.Logic.{⊎-elim}
-use mathlib.Core.Bool.{Bool, true, false}
+-- `headers::values::read_values` meets its contract. Assumes nothing.
+use mathlib.Core.Path.{ap, sym, _∙_}
 use native.Mathlib.Omega.{arith}
-use borrow.Author.Tests.{lt-ltb, le-ltb, le-leb, lt-leb, eq-eqb, ne-eqb}
-use lib.ListN.{length, getD, take, drop}
 use borrow.Author.Needs.{needs}
+use lib.Seq.{length-take-le}
+use Rattle.page.specs.Head.{header-values}
 use Rattle.headers.proofs.values.read_values.Statement.{statement}
 use Rattle.headers.proofs.values.read_values.Tie as tie
-use Rattle.headers.proofs.values.read_values.Reads as reads
-use Rattle.headers.proofs.values.read_values.Lts as lts
-use Rattle.headers.proofs.cut.header_size.Reads as header-size-reads
-use Rattle.headers.proofs.values.values_in.Reads as values-in-reads
 
 header-size-requires : tie.Need-header-size-requires
 header-size-requires c κs = search needs

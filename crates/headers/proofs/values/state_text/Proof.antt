@@ -1,18 +1,9 @@
-use Rattle.page.specs.Head.{span-if}
-use Prim.Native.Nat.{ℕ, suc, _+_, _-_, _*_, _<_, _≤_}
-use mathlib.Core.Path.{_≡_, refl, ap, sym, _∙_}
-use mathlib.Core.Logic.{⊎-elim}
-use mathlib.Core.Bool.{Bool, true, false}
-use native.Mathlib.Omega.{arith}
-use borrow.Author.Tests.{lt-ltb, le-ltb, le-leb, lt-leb, eq-eqb, ne-eqb}
-use lib.ListN.{length, getD, take, drop}
+-- `headers::values::state_text` meets its contract. Assumes nothing.
+use mathlib.Core.Path.{sym}
 use borrow.Author.Needs.{needs}
+use Rattle.page.specs.Head.{span-if}
 use Rattle.headers.proofs.values.state_text.Statement.{statement}
 use Rattle.headers.proofs.values.state_text.Tie as tie
-use Rattle.headers.proofs.values.state_text.Reads as reads
-use Rattle.headers.proofs.values.state_text.Lts as lts
-use Rattle.headers.proofs.find.stands_in.Reads as stands-in-reads
-use Rattle.headers.proofs.values.text_in.Reads as text-in-reads
 
 stands-in-requires : tie.Need-stands-in-requires
 stands-in-requires c κs = search needs

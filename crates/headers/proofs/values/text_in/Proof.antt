@@ -1,20 +1,10 @@
-use Rattle.headers.proofs.TextLaws.{fields-some}
-use Rattle.page.specs.Head.{text-span}
-use Prim.Native.Nat.{ℕ, suc, _+_, _-_, _*_, _<_, _≤_}
-use mathlib.Core.Path.{_≡_, refl, ap, sym, _∙_}
-use mathlib.Core.Logic.{⊎-elim}
-use mathlib.Core.Bool.{Bool, true, false}
-use native.Mathlib.Omega.{arith}
-use borrow.Author.Tests.{lt-ltb, le-ltb, le-leb, lt-leb, eq-eqb, ne-eqb}
-use lib.ListN.{length, getD, take, drop}
+-- `headers::values::text_in` meets its contract. Assumes nothing.
+use mathlib.Core.Path.{sym}
 use borrow.Author.Needs.{needs}
+use Rattle.page.specs.Head.{text-span}
+use Rattle.headers.proofs.TextLaws.{fields-some}
 use Rattle.headers.proofs.values.text_in.Statement.{statement}
 use Rattle.headers.proofs.values.text_in.Tie as tie
-use Rattle.headers.proofs.values.text_in.Reads as reads
-use Rattle.headers.proofs.values.text_in.Lts as lts
-use Rattle.headers.proofs.find.find_line.Reads as find-line-reads
-use Rattle.headers.proofs.values.one_less.Reads as one-less-reads
-use Rattle.lines.proofs.find_field.Reads as find-field-reads
 
 find-line-requires : tie.Need-find-line-requires
 find-line-requires c κs = search needs

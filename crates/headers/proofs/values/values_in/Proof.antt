@@ -1,21 +1,8 @@
-use Rattle.page.specs.Head.{header-values}
-use Prim.Native.Nat.{ℕ, suc, _+_, _-_, _*_, _<_, _≤_}
-use mathlib.Core.Path.{_≡_, refl, ap, sym, _∙_}
-use mathlib.Core.Logic.{⊎-elim}
-use mathlib.Core.Bool.{Bool, true, false}
-use native.Mathlib.Omega.{arith}
-use borrow.Author.Tests.{lt-ltb, le-ltb, le-leb, lt-leb, eq-eqb, ne-eqb}
-use lib.ListN.{length, getD, take, drop}
+-- `headers::values::values_in` meets its contract. Assumes nothing.
 use borrow.Author.Needs.{needs}
+use Rattle.page.specs.Head.{header-values}
 use Rattle.headers.proofs.values.values_in.Statement.{statement}
 use Rattle.headers.proofs.values.values_in.Tie as tie
-use Rattle.headers.proofs.values.values_in.Reads as reads
-use Rattle.headers.proofs.values.values_in.Lts as lts
-use Rattle.headers.proofs.values.charset_in.Reads as charset-in-reads
-use Rattle.headers.proofs.values.date_in.Reads as date-in-reads
-use Rattle.headers.proofs.values.state_text.Reads as state-text-reads
-use Rattle.headers.proofs.values.text_in.Reads as text-in-reads
-use Rattle.headers.proofs.values.time_in.Reads as time-in-reads
 
 text-in-requires : tie.Need-text-in-requires
 text-in-requires c κs = search needs

@@ -1,0 +1,38 @@
+-- The theorems on what is written speak of something: a file of the trade's habits, written, stripped and filled, by computing. Assumes nothing.
+use mathlib.Core.Path.{_≡_, refl}
+use mathlib.Core.List.{[]}
+use Rattle.page.specs.Bytes.{Bytes, bytes}
+use Rattle.page.specs.Answers.{sound}
+use Rattle.page.specs.File.{file-refusal}
+use Rattle.page.specs.Writing.{write-form, strip-form, fill-refusal, fill-form}
+use Rattle.page.specs.Open.{open-all}
+
+-- another mode and date, comments, blank lines, spaces, leading zeros, small formats, a mark
+pub habits : Bytes
+habits =
+    bytes
+    "mod; YYYY/MM/DD; HH:MM:SS; aligned\r\ncom; \"SUGGESTED 9\"\nsrc; \"Desk \"\"A\"\"\"; \"2024/02/29\"; \"06:00:00\"\nchs; \"ISO-8859-1\"\nifv;\"1.0\"\n\nver ; \"1\"\ntbl; MENGE_BASIS_VERSIONEN\natr; BASIS_VERSION; BASIS_VERSION_TEXT\nfrm; num[1.0]; char[9]\ncom; \"SUGGESTED 2\"\n\nrec ;007; \"Wint;er\"\nend; 1\ntbl; MENGE_TAGESART\natr; BASIS_VERSION; TAGESART_NR; TAGESART_TEXT\nfrm; num[9.0]; num[3.0]; char[40]\ncom; a comment\nrec; 7; 1; \"\"\nrec;7;02;\"Séance\"\nend; 0002\neof; 2\n  \n"
+
+accepted : file-refusal habits ≡ sound
+unfolding open-all habits
+accepted = refl
+
+written : write-form habits ≡ bytes
+    "mod; DD.MM.YYYY; HH:MM:SS; free\nsrc; \"Desk \"\"A\"\"\"; \"29.02.2024\"; \"06:00:00\"\nchs; \"ISO8859-1\"\nver; \"1\"\nifv; \"1.0\"\ntbl; MENGE_BASIS_VERSIONEN\natr; BASIS_VERSION; BASIS_VERSION_TEXT\nfrm; num[9.0]; char[40]\ncom; \"SUGGESTED 2\"\nrec; 7; \"Wint;er\"\nend; 1\ntbl; MENGE_TAGESART\natr; BASIS_VERSION; TAGESART_NR; TAGESART_TEXT\nfrm; num[9.0]; num[3.0]; char[40]\nrec; 7; 1; \"\"\nrec; 7; 2; \"Séance\"\nend; 2\neof; 2\n"
+unfolding open-all habits
+written = refl
+
+stripped : strip-form habits ≡ bytes
+    "mod; DD.MM.YYYY; HH:MM:SS; free\nsrc; \"Desk \"\"A\"\"\"; \"29.02.2024\"; \"06:00:00\"\nchs; \"ISO8859-1\"\nver; \"1\"\nifv; \"1.0\"\ntbl; MENGE_BASIS_VERSIONEN\natr; BASIS_VERSION; BASIS_VERSION_TEXT\nfrm; num[9.0]; char[40]\nrec; 7; \"\"\nend; 1\ntbl; MENGE_TAGESART\natr; BASIS_VERSION; TAGESART_NR; TAGESART_TEXT\nfrm; num[9.0]; num[3.0]; char[40]\nrec; 7; 1; \"\"\nrec; 7; 2; \"Séance\"\nend; 2\neof; 2\n"
+unfolding open-all habits
+stripped = refl
+
+-- the empty text of the first day type filled
+may-fill : fill-refusal habits 2 1 3 (bytes "School") ≡ sound
+unfolding open-all habits
+may-fill = refl
+
+filled : fill-form habits 2 1 3 (bytes "School") ≡ bytes
+    "mod; DD.MM.YYYY; HH:MM:SS; free\nsrc; \"Desk \"\"A\"\"\"; \"29.02.2024\"; \"06:00:00\"\nchs; \"ISO8859-1\"\nver; \"1\"\nifv; \"1.0\"\ntbl; MENGE_BASIS_VERSIONEN\natr; BASIS_VERSION; BASIS_VERSION_TEXT\nfrm; num[9.0]; char[40]\ncom; \"SUGGESTED 2\"\nrec; 7; \"Wint;er\"\nend; 1\ntbl; MENGE_TAGESART\natr; BASIS_VERSION; TAGESART_NR; TAGESART_TEXT\nfrm; num[9.0]; num[3.0]; char[40]\ncom; \"SUGGESTED 3\"\nrec; 7; 1; \"School\"\nrec; 7; 2; \"Séance\"\nend; 2\neof; 2\n"
+unfolding open-all habits
+filled = refl

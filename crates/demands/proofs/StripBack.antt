@@ -1,0 +1,84 @@
+-- A stripped file is an accepted file that says the same with the suggestions emptied. Assumes nothing.
+use mathlib.Core.Path.{_≡_, refl, ap, _∙_}
+use mathlib.Core.Bool.{Bool}
+use mathlib.Core.List.{List, map}
+use Prim.Native.Nat.{ℕ, _≤_}
+use native.Mathlib.Omega.{arith}
+use lib.ListN.{length}
+use Rattle.page.specs.Bytes.{Bytes, all}
+use Rattle.page.specs.Tables.{Named, columns}
+use Rattle.page.specs.Records.{number, Record}
+use Rattle.page.specs.Model.{Content, Model, modelOf, strip-datum, strip-content, strip-model}
+use Rattle.page.specs.Answers.{sound}
+use Rattle.page.specs.File.{limit, file-refusal}
+use Rattle.page.specs.Form.{formOf}
+use Rattle.page.specs.Writing.{write-form, strip-form}
+use Rattle.page.specs.Rules.{Every, none-left, one-more}
+use Rattle.demands.specs.Round.{a-number, a-text, a-suggestion, FitAll, no-value, a-value, SoundRecord, SoundContent, SoundModel}
+use Rattle.demands.specs.RoundKeys.{KeysHold}
+use Rattle.demands.specs.RoundAlike.{Pairs, no-pair, a-pair, Alike, alike-none, alike-same, alike-text, AlikeContent}
+use Rattle.demands.proofs.RoundForm.{form-model, form-sound}
+use Rattle.demands.proofs.RoundAlike.{keys-alike, sound-alike}
+use Rattle.demands.proofs.Round.{accepted-model, accepted-keys}
+use Rattle.demands.proofs.Strip.{strip-twice}
+
+module _ (latin : Bool) where
+  strip-fit : {cs : List Named} {vs : Record} → FitAll latin cs vs → FitAll latin cs (map strip-datum vs)
+  unfolding strip-datum all
+  strip-fit no-value = no-value
+  strip-fit (a-value (a-number k l h) g) = a-value (a-number k l h) (strip-fit g)
+  strip-fit (a-value (a-text k l a) g) = a-value (a-text k l a) (strip-fit g)
+  strip-fit (a-value {c} (a-suggestion k f p l a) g) = a-value (a-text k (let z : 0 ≤ c .column .hi = omega arith in z) refl) (strip-fit g)
+
+  strip-alike : {cs : List Named} {vs : Record} → FitAll latin cs vs → Alike cs vs (map strip-datum vs)
+  unfolding strip-datum
+  strip-alike no-value = alike-none
+  strip-alike (a-value (a-number k l h) g) = alike-same (strip-alike g)
+  strip-alike (a-value (a-text k l a) g) = alike-same (strip-alike g)
+  strip-alike (a-value (a-suggestion k f p l a) g) = alike-text f (strip-alike g)
+
+  records-sound : (t : ℕ) {rs : List Record} → Every (SoundRecord latin t) rs → Every (SoundRecord latin t) (map (map strip-datum) rs)
+  records-sound t none-left = none-left
+  records-sound t (one-more r rs) = one-more (sound-alike latin t r (strip-fit (r .fit)) (strip-alike (r .fit))) (records-sound t rs)
+
+  records-alike : (t : ℕ) {rs : List Record} → Every (SoundRecord latin t) rs → Pairs (Alike (columns t)) rs (map (map strip-datum) rs)
+  records-alike t none-left = no-pair
+  records-alike t (one-more r rs) = a-pair (strip-alike (r .fit)) (records-alike t rs)
+
+  tables-sound : {cs : List Content} → Every (SoundContent latin) cs → Every (SoundContent latin) (map strip-content cs)
+  unfolding strip-content
+  tables-sound none-left = none-left
+  tables-sound (one-more {x} c cs) = one-more (record { known = c .known; records = records-sound (x .table) (c .records) }) (tables-sound cs)
+
+  tables-alike : {cs : List Content} → Every (SoundContent latin) cs → Pairs AlikeContent cs (map strip-content cs)
+  unfolding strip-content
+  tables-alike none-left = no-pair
+  tables-alike (one-more {x} c cs) = a-pair (record { table = refl; records = records-alike (x .table) (c .records) }) (tables-alike cs)
+
+pub strip-sound : (m : Model) → SoundModel m → SoundModel (strip-model m)
+unfolding strip-model
+strip-sound m s = record { head = s .head; tables = tables-sound (m .head .latin) (s .tables) }
+
+pub strip-keys : (m : Model) → SoundModel m → KeysHold (m .tables) → KeysHold (strip-model m .tables)
+unfolding strip-model
+strip-keys m s k = keys-alike (tables-alike (m .head .latin) (s .tables)) k
+
+-- "Stripping gives the written form with marked texts empty and no marks."
+module _ (s : Bytes) (h : file-refusal s .number ≡ 0) (short : length (strip-form s) ≤ limit) where
+  pub strip-accepted : file-refusal (strip-form s) ≡ sound
+  unfolding strip-form
+  strip-accepted =
+      form-sound (strip-model (modelOf s)) (strip-sound (modelOf s) (accepted-model s h)) short (strip-keys (modelOf s) (accepted-model s h) (accepted-keys s h))
+
+  pub strip-model-back : modelOf (strip-form s) ≡ strip-model (modelOf s)
+  unfolding strip-form
+  strip-model-back = form-model (strip-model (modelOf s)) (strip-sound (modelOf s) (accepted-model s h)) short
+
+  -- stripped again, or written again, it is the same
+  pub strip-form-again : strip-form (strip-form s) ≡ strip-form s
+  unfolding strip-form
+  strip-form-again = ap (λ (m : Model). formOf (strip-model m)) strip-model-back ∙ ap formOf (strip-twice (modelOf s))
+
+  pub strip-written : write-form (strip-form s) ≡ strip-form s
+  unfolding strip-form write-form
+  strip-written = ap formOf strip-model-back

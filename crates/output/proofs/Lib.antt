@@ -1,0 +1,5 @@
+pub mod PutLaws
+pub mod FormLaws
+pub mod LineLaws
+pub mod WriteLaws
+pub mod TitleLaws
