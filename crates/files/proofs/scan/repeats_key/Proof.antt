@@ -1,0 +1,65 @@
+use Rattle.files.proofs.ScanLaws.{again-other, again-record}
+use Prim.Native.Nat.{ℕ, suc, _+_, _-_, _*_, _<_, _≤_}
+use mathlib.Core.Path.{_≡_, refl, ap, sym, _∙_}
+use mathlib.Core.Logic.{⊎-elim}
+use mathlib.Core.Bool.{Bool, true, false}
+use native.Mathlib.Omega.{arith}
+use borrow.Author.Tests.{lt-ltb, le-ltb, le-leb, lt-leb, eq-eqb, ne-eqb}
+use lib.ListN.{length, getD, take, drop}
+use borrow.Author.Needs.{needs}
+use Rattle.files.proofs.scan.repeats_key.Statement.{statement}
+use Rattle.files.proofs.scan.repeats_key.Tie as tie
+use Rattle.files.proofs.scan.repeats_key.Reads as reads
+use Rattle.files.proofs.scan.repeats_key.Lts as lts
+use Rattle.files.proofs.scan.was_met.Reads as was-met-reads
+use Rattle.keys.proofs.read_chosen.Reads as read-chosen-reads
+use Rattle.lines.proofs.command_of.Reads as command-of-reads
+use Rattle.lines.proofs.content_of.Reads as content-of-reads
+use Rattle.lines.proofs.rest_of.Reads as rest-of-reads
+
+sub-content-of : tie.Need-sub-content-of
+sub-content-of c = search needs
+
+part-content-of-start : tie.Need-part-content-of-start
+part-content-of-start c = search needs
+
+part-content-of-end : tie.Need-part-content-of-end
+part-content-of-end c = search needs
+
+content-of-requires : tie.Need-content-of-requires
+content-of-requires c κs = search needs
+
+command-of-requires : tie.Need-command-of-requires
+command-of-requires c κs = search needs
+
+returns : tie.Need-returns
+returns c =
+    sym (again-other _ _ _ _ (c .before .before .content-of .ensures) (c .before .command-of .ensures) _ (c .if1 .taken))
+
+rest-of-requires : tie.Need-rest-of-requires
+rest-of-requires c κs = search needs
+
+read-chosen-requires : tie.Need-read-chosen-requires
+read-chosen-requires c κs = search needs
+
+was-met-requires : tie.Need-was-met-requires
+was-met-requires c κs = search needs
+
+returns-2 : tie.Need-returns-2
+returns-2 c =
+    c .was-met .ensures ∙ sym (again-record _ _ _ _ (c .before .before .before .before .before .content-of .ensures) (c .before .before .before .before .command-of .ensures) (c .before .before .before .if1 .left) _ (c .before .before .rest-of .ensures) _ (c .before .read-chosen .ensures) _)
+
+pub repeats-key-spec : {M : Type 1} → statement M
+repeats-key-spec =
+    tie.close
+    (tie.spec
+    sub-content-of
+    part-content-of-start
+    part-content-of-end
+    content-of-requires
+    command-of-requires
+    returns
+    rest-of-requires
+    read-chosen-requires
+    was-met-requires
+    returns-2)
