@@ -4,11 +4,11 @@ use mathlib.Core.Bool.{Bool, true, false}
 use mathlib.Core.List.{List, [], _∷_, map}
 use Prim.Native.Nat.{ℕ, suc}
 use native.Mathlib.Omega.{arith}
-use borrow.Author.Tests.{eq-eqb, ne-eqb, eqb-true, eqb-false}
+use borrow.Author.Tests.{eq-eqb, ne-eqb, eqb-false}
 use lib.Dec.{eqb}
 use lib.ListN.{length}
 use Rattle.page.specs.Bytes.{Bytes, pick}
-use Rattle.page.specs.Cut.{Section, sections, trailer-lines}
+use Rattle.page.specs.Cut.{sections, trailer-lines}
 use Rattle.page.specs.Head.{latinOf}
 use Rattle.page.specs.Trailer.{trailer-of, trailerOf}
 use Rattle.page.specs.Answers.{refusal, sound, earlier}

@@ -1,19 +1,18 @@
 -- A sound section's records, and its lines: what is tested of the one can be tested of the other. Assumes nothing.
-use mathlib.Core.Path.{_≡_, refl, ap, sym, _∙_}
+use mathlib.Core.Path.{_≡_, refl, _∙_}
 use mathlib.Core.Bool.{Bool, true, false, _||_}
 use mathlib.Core.List.{List, [], _∷_, _++_, map}
-use Prim.Native.Nat.{ℕ, zero, suc, _+_, _-_, _<_, _≤_}
+use Prim.Native.Nat.{ℕ, suc, _+_, _-_, _<_}
 use native.Mathlib.Omega.{arith}
 use borrow.Author.Tests.{eq-eqb, ne-eqb}
-use lib.Dec.{eqb}
 use lib.ListN.{length, getD}
 use Rattle.page.specs.Bytes.{Bytes, pick}
 use Rattle.page.specs.Lines.{content}
 use Rattle.page.specs.Tables.{columns}
 use Rattle.page.specs.Cut.{Section}
 use Rattle.page.specs.Section.{outcome}
-use Rattle.page.specs.Records.{Record, Entry, waits, record-in, entries, table-of, entriesOf, recordsOf}
-use Rattle.page.specs.Rules.{Every, none-left, one-more}
+use Rattle.page.specs.Records.{Entry, waits, record-in, entries, table-of, entriesOf, recordsOf}
+use Rattle.page.specs.Rules.{Every, one-more}
 use Rattle.page.specs.Answers.{refusal, sound}
 use Rattle.page.specs.File.{any, Filed, filed-in, first-record}
 use Rattle.page.specs.declared.Refusal.{Refusal}
@@ -62,7 +61,7 @@ module _ (i t : ℕ) (p : Filed → Bool) (q : Bytes → Bool)
 -- the first record at fault is the first line at fault, where R relates the records passed to the lines passed
 module _ (v i t : ℕ) (bad : List Filed → Filed → Bool) (fault : List Bytes → Bytes → Bool) (R : List Filed → List Bytes → Type 0)
     (here : (b : List Filed) (before : List Bytes) (l : Bytes) (n m : ℕ) → R b before → is-record l ≡ true → Fitting (columns t) (record-in t m (content l))
-        → (bad b (filing i t (entry-of t n m l)) ≡ fault before l) × R (filing i t (entry-of t n m l) ∷ b) (before ++ l ∷ []))
+    → (bad b (filing i t (entry-of t n m l)) ≡ fault before l) × R (filing i t (entry-of t n m l) ∷ b) (before ++ l ∷ []))
     (other : (b : List Filed) (before : List Bytes) (l : Bytes) → R b before → is-record l ≡ false → (fault before l ≡ false) × R b (before ++ l ∷ [])) where
   pub first-lines : (ls : List Bytes) (m n : ℕ) (b : List Filed) (before : List Bytes) → R b before → Fit t m n ls
       → first-record v bad b (map (filing i t) (entries t m n ls)) ≡ refused-at v i (first-line fault before n ls)

@@ -1,8 +1,8 @@
 -- 20: a reference finds its record in the one section of its target, among that section's lines. Assumes nothing.
 use mathlib.Core.Path.{_≡_, refl, ap, sym, _∙_}
-use mathlib.Core.Bool.{Bool, true, false, not, _&&_}
-use mathlib.Core.List.{List, [], _∷_, _++_, map}
-use Prim.Native.Nat.{ℕ, zero, suc, _+_, _-_, _<_, _≤_}
+use mathlib.Core.Bool.{Bool, true, false, not}
+use mathlib.Core.List.{List, [], map}
+use Prim.Native.Nat.{ℕ, zero, suc, _+_, _-_, _<_}
 use native.Mathlib.Omega.{arith}
 use borrow.Author.Tests.{eq-eqb, ne-eqb}
 use lib.Dec.{eqb}
@@ -13,9 +13,9 @@ use Rattle.page.specs.Fields.{fields}
 use Rattle.page.specs.Tables.{Reference, table-at, columns, standing, table-named}
 use Rattle.page.specs.Cut.{Section, sections}
 use Rattle.page.specs.Head.{latinOf}
-use Rattle.page.specs.Records.{Record, record-in, valuesOf, entries, table-of}
+use Rattle.page.specs.Records.{record-in, valuesOf, entries, table-of}
 use Rattle.page.specs.Answers.{refusal, sound}
-use Rattle.page.specs.File.{any, Filed, filed-in, filed, filedOf, same-record, key-in, key-of, by-primary, referred, meets, lost, first-record}
+use Rattle.page.specs.File.{any, Filed, filed-in, filed, filedOf, key-of, by-primary, meets, lost, first-record}
 use Rattle.page.proofs.CutLaws.{no-section}
 use Rattle.page.proofs.FileLaws.{first-section, by-section, meets-nowhere, meets-in}
 use Rattle.keys.specs.Numbers.{key-numbers, refer-numbers, key-choice, no-reference, reference-at, target-at}
@@ -25,7 +25,7 @@ use Rattle.keys.proofs.SoundLaws.{Sound}
 use Rattle.files.specs.declared.seating.Seat.{Seat}
 use Rattle.files.specs.declared.seating.Seats.{Seats}
 use Rattle.files.specs.Scan.{is-record, line-key, bears, first-line, refused-at, some}
-use Rattle.files.specs.Seating.{no-seat, seat-at, Sits, Seated, Ready}
+use Rattle.files.specs.Seating.{no-seat, seat-at, Sits, Ready}
 use Rattle.files.specs.Faults.{reaches, misses, loses, loses-any, lost-line}
 use Rattle.files.proofs.ScanLaws.{any-some}
 use Rattle.files.proofs.WalkLaws.{sound-at}

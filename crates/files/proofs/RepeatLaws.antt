@@ -4,24 +4,24 @@ use mathlib.Core.Bool.{Bool, true, false, not, _&&_, _||_}
 use mathlib.Core.List.{List, [], _∷_, _++_, map}
 use Prim.Native.Nat.{ℕ, zero, suc, _+_, _-_, _<_, _≤_}
 use native.Mathlib.Omega.{arith}
-use borrow.Author.Tests.{eq-eqb, ne-eqb, eqb-true}
+use borrow.Author.Tests.{eq-eqb}
 use lib.Dec.{eqb}
 use lib.ListN.{length, getD, take, drop}
 use Rattle.page.specs.Bytes.{Bytes, pick}
 use Rattle.page.specs.Lines.{lines, content, rest}
 use Rattle.page.specs.Fields.{fields}
-use Rattle.page.specs.Tables.{Named, all-tables, table-at, columns, standing}
+use Rattle.page.specs.Tables.{all-tables, table-at, columns}
 use Rattle.page.specs.Cut.{Section, sections}
 use Rattle.page.specs.Head.{latinOf}
-use Rattle.page.specs.Records.{Record, record-in, valuesOf, entries, table-of}
+use Rattle.page.specs.Records.{Record, record-in, entries, table-of}
 use Rattle.page.specs.Answers.{refusal, sound}
 use Rattle.page.specs.Rules.{Apart}
-use Rattle.page.specs.File.{any, Filed, filed-in, filed, filedOf, same-record, key-in, key-of, has-key, repeats, first-record}
+use Rattle.page.specs.File.{any, Filed, filed-in, filedOf, same-record, key-in, key-of, has-key, repeats, first-record}
 use Rattle.page.specs.declared.Column.{Column}
 use Rattle.page.proofs.CutLaws.{no-section}
 use Rattle.page.proofs.KeyLaws.{any-append, faulty, record-none}
 use Rattle.page.proofs.TableLaws.{each-of-eight}
-use Rattle.page.proofs.FileLaws.{first-section, repeats-by-section}
+use Rattle.page.proofs.FileLaws.{repeats-by-section}
 use Rattle.keys.specs.Numbers.{key-numbers, kind-of, choice-by, by-key, key-choice}
 use Rattle.keys.proofs.ReferenceLaws.{Small, small-primary, small-second}
 use Rattle.keys.proofs.ChoiceLaws.{chosen-key}
@@ -30,7 +30,7 @@ use Rattle.keys.proofs.SoundLaws.{Sound}
 use Rattle.files.specs.declared.seating.Seat.{Seat}
 use Rattle.files.specs.declared.seating.Seats.{Seats}
 use Rattle.files.specs.Scan.{is-record, line-key, bears, again, first-line, refused-at}
-use Rattle.files.specs.Seating.{no-seat, seat-at, Sits, Seated, Ready}
+use Rattle.files.specs.Seating.{seat-at, Sits, Ready}
 use Rattle.files.specs.Faults.{repeat-number, scan-end, repeat-line}
 use Rattle.files.proofs.WalkLaws.{sound-at}
 use Rattle.files.proofs.SeatLaws.{seats-apart}
@@ -71,8 +71,8 @@ module _ (p : Column → Bool) (small : Small p) (i t : ℕ) where
   behind-more b before l n m a r f =
       record {
         is = λ us g.
-          rw (any-append (bears (key-choice p t) (key-numbers p t us)) before (l ∷ []), eq-eqb t t refl, a .is us g, one-line l m us r f g)
-          (or-turn (same-record (key-in p (columns t) (record-in t m (content l))) (key-in p (columns t) us)) (any (bears (key-choice p t) (key-numbers p t us)) before));
+            rw (any-append (bears (key-choice p t) (key-numbers p t us)) before (l ∷ []), eq-eqb t t refl, a .is us g, one-line l m us r f g)
+            (or-turn (same-record (key-in p (columns t) (record-in t m (content l))) (key-in p (columns t) us)) (any (bears (key-choice p t) (key-numbers p t us)) before));
       }
 
   behind-other : (b : List Filed) (before : List Bytes) (l : Bytes) → Behind p t b before → is-record l ≡ false → Behind p t b (before ++ l ∷ [])
@@ -80,8 +80,8 @@ module _ (p : Column → Bool) (small : Small p) (i t : ℕ) where
   behind-other b before l a r =
       record {
         is = λ us g.
-          rw (any-append (bears (key-choice p t) (key-numbers p t us)) before (l ∷ []), no-line l (key-numbers p t us) r, a .is us g)
-          (or-false (any (bears (key-choice p t) (key-numbers p t us)) before));
+            rw (any-append (bears (key-choice p t) (key-numbers p t us)) before (l ∷ []), no-line l (key-numbers p t us) r, a .is us g)
+            (or-false (any (bears (key-choice p t) (key-numbers p t us)) before));
       }
 
   module _ (k : has-key p t ≡ true) where

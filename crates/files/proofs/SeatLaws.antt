@@ -1,6 +1,6 @@
 -- Seats taken one after the other, each table once. Assumes nothing.
 use mathlib.Core.Path.{_≡_, refl, ap, sym, _∙_}
-use mathlib.Core.Bool.{Bool, true, false, _||_, false≢true}
+use mathlib.Core.Bool.{Bool, true, false, _||_}
 use mathlib.Core.List.{List, [], _∷_, map}
 use Prim.Native.Nat.{ℕ, zero, suc, _+_, _-_, _<_, _≤_}
 use native.Mathlib.Numerals.{add-one}
@@ -15,7 +15,6 @@ use Rattle.page.specs.Lines.{lines}
 use Rattle.page.specs.Tables.{number-at}
 use Rattle.page.specs.Cut.{Section, sections}
 use Rattle.page.specs.Head.{latinOf}
-use Rattle.page.specs.Section.{outcome}
 use Rattle.page.specs.Records.{table-of}
 use Rattle.page.specs.Answers.{refusal, sound}
 use Rattle.page.specs.File.{any, row-of, rowOf, rowsOf, first-unsound, first-again}
@@ -25,10 +24,8 @@ use Rattle.page.proofs.TableLaws.{number-injective}
 use Rattle.page.proofs.CutLaws.{no-section, sections-from, sections-all, sections-end}
 use Rattle.sections.specs.Walk.{section-size, section-from, Settled, Next}
 use Rattle.sections.proofs.WalkLaws.{section-within}
-use Rattle.keys.proofs.SoundLaws.{Sound}
 use Rattle.files.specs.declared.seating.Seat.{Seat}
-use Rattle.files.specs.declared.seating.Seats.{Seats}
-use Rattle.files.specs.Seating.{no-seat, Sits, Seated, Ready, again-refusal, Seating}
+use Rattle.files.specs.Seating.{no-seat, Sits, Seated, again-refusal, Seating}
 use Rattle.files.proofs.WalkLaws.{sound-at, Among, among}
 
 -- 17, by the places of the rows
@@ -164,11 +161,11 @@ going-first s at x seats l place w z =
       wide = w;
       many = filled-none 0 place (λ k h. z k);
       seated =
-        record {
-          sits = λ i h. absurd (omega arith);
-          placed = λ i h. absurd (omega arith);
-          taken = λ t k e. absurd (let n : _≡_ {A = ℕ} 0 (suc k) = sym (z t) ∙ e in omega arith);
-        };
+          record {
+            sits = λ i h. absurd (omega arith);
+            placed = λ i h. absurd (omega arith);
+            taken = λ t k e. absurd (let n : _≡_ {A = ℕ} 0 (suc k) = sym (z t) ∙ e in omega arith);
+          };
     }
 
 module _ (s : Bytes) (v : first-unsound 1 (rowsOf s) ≡ sound) where

@@ -8,7 +8,6 @@ use native.Mathlib.Omega.{arith}
 use borrow.Author.Tests.{eq-eqb, ne-eqb, eqb-true}
 use lib.Dec.{eqb}
 use lib.ListN.{length, getD, take, drop}
-use lib.Seq.{drop-cons}
 use Rattle.page.specs.Bytes.{Bytes, pick}
 use Rattle.page.specs.Lines.{lines, content, rest}
 use Rattle.page.specs.Fields.{fields}
@@ -17,14 +16,13 @@ use Rattle.page.specs.Cut.{Section, sections, begins-table, cut}
 use Rattle.page.specs.Head.{latinOf}
 use Rattle.page.specs.Section.{outcome}
 use Rattle.page.specs.Records.{table-of}
-use Rattle.page.specs.Rules.{Every, none-left, one-more}
+use Rattle.page.specs.Rules.{Every, one-more}
 use Rattle.page.specs.Answers.{refusal, sound}
 use Rattle.page.specs.File.{row-of, rowOf, rowsOf, first-unsound}
 use Rattle.page.specs.declared.Row.{Row}
 use Rattle.page.specs.declared.Refusal.{Refusal}
-use Rattle.page.proofs.LineLaws.{line-size, line-in}
+use Rattle.page.proofs.LineLaws.{line-size}
 use Rattle.page.proofs.CutLaws.{no-section, sections-from, sections-table, sections-end}
-use Rattle.demands.specs.Begins.{begins}
 use Rattle.demands.proofs.Sections.{sections-begin}
 use Rattle.sections.specs.Walk.{section-size, section-from, Settled}
 use Rattle.sections.proofs.WalkLaws.{walk-here, first-begins}

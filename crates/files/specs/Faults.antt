@@ -10,7 +10,7 @@ use Rattle.page.specs.Fields.{fields}
 use Rattle.page.specs.Tables.{table-at, standing}
 use Rattle.page.specs.Records.{valuesOf}
 use Rattle.page.specs.File.{any, by-primary}
-use Rattle.keys.specs.Numbers.{by-key, key-choice, refer-numbers, reference-at, target-at}
+use Rattle.keys.specs.Numbers.{key-choice, refer-numbers, reference-at, target-at}
 use Rattle.files.specs.Scan.{is-record, bears, again, first-line, some}
 use Rattle.files.specs.Seating.{seat-at}
 use Rattle.files.specs.declared.seating.Seat.{Seat}

@@ -1,6 +1,5 @@
 -- Where each table of a file stands.
 use mathlib.Core.Path.{_≡_}
-use mathlib.Core.Bool.{Bool, true, false}
 use mathlib.Core.List.{List, []}
 use Prim.Native.Nat.{ℕ, suc, _-_, _<_, _≤_}
 use lib.Dec.{eqb}
@@ -13,7 +12,6 @@ use Rattle.page.specs.Answers.{sound}
 use Rattle.page.specs.File.{rowsOf, first-unsound, first-again}
 use Rattle.page.specs.declared.Refusal.{Refusal}
 use Rattle.page.proofs.CutLaws.{no-section}
-use Rattle.files.specs.Scan.{refused-at}
 use Rattle.files.specs.declared.seating.Seat.{Seat}
 use Rattle.files.specs.declared.seating.Seats.{Seats}
 

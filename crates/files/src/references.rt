@@ -38,7 +38,11 @@ fn reaches(s: &[u8], w: &[u8], seats: Seats, t: usize, r: usize) -> bool
     let seat = find_seat(seats, k - 1);
     let from = seat.from;
     let to = seat.to;
-    finds(&s[from..to], keys::choose_key(u, false), keys::read_reference(w, t, r))
+    finds(
+        &s[from..to],
+        keys::choose_key(u, false),
+        keys::read_reference(w, t, r),
+    )
 }
 
 // Is the line from a place to e a record of table t with a reference that finds none?

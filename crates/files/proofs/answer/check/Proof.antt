@@ -1,5 +1,5 @@
 -- `files::answer::check` meets its contract. Assumes nothing.
-use mathlib.Core.Path.{_≡_, refl, ap, sym, _∙_}
+use mathlib.Core.Path.{sym}
 use borrow.Author.Tests.{eq-eqb, ne-eqb}
 use Rattle.page.specs.Answers.{checked}
 use Rattle.page.specs.File.{checkOf}

@@ -1,5 +1,4 @@
 -- `files::answer::check_file` meets its contract. Assumes nothing.
-use mathlib.Core.Path.{_≡_, refl, ap, sym, _∙_}
 use Rattle.files.proofs.AnswerLaws.{file-header, file-trailer, file-sections}
 use borrow.Author.Needs.{needs}
 use Rattle.files.proofs.answer.check_file.Statement.{statement}

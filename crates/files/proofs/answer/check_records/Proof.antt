@@ -1,9 +1,7 @@
 -- `files::answer::check_records` meets its contract. Assumes nothing.
-use mathlib.Core.Path.{_≡_, refl, ap, sym, _∙_}
 use Rattle.page.specs.File.{record-refusal}
 use Rattle.files.specs.Faults.{repeat-number}
 use Rattle.files.proofs.AnswerLaws.{earlier-hit, earlier-more}
-use borrow.Author.Needs.{needs}
 use Rattle.files.proofs.answer.check_records.Statement.{statement}
 use Rattle.files.proofs.answer.check_records.Tie as tie
 

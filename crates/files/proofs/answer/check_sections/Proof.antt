@@ -1,5 +1,4 @@
 -- `files::answer::check_sections` meets its contract. Assumes nothing.
-use mathlib.Core.Path.{_≡_, refl, ap, sym, _∙_}
 use Rattle.files.proofs.AnswerLaws.{sections-unsound, none-unsound, sections-again, sections-records}
 use borrow.Author.Needs.{needs}
 use Rattle.files.proofs.answer.check_sections.Statement.{statement}

@@ -1,16 +1,11 @@
-use lib.ListN.{List·getD-eq-default}
-use Prim.Native.Nat.{ℕ, suc, _+_, _-_, _*_, _<_, _≤_}
-use mathlib.Core.Path.{_≡_, refl, ap, sym, _∙_}
-use mathlib.Core.Logic.{⊎-elim}
-use mathlib.Core.Bool.{Bool, true, false}
+-- `files::references::find_place` meets its contract. Assumes nothing.
+use lib.ListN.{List·getD-eq-default, length}
+use Prim.Native.Nat.{_-_}
+use mathlib.Core.Path.{_≡_, sym}
 use native.Mathlib.Omega.{arith}
-use borrow.Author.Tests.{lt-ltb, le-ltb, le-leb, lt-leb, eq-eqb, ne-eqb}
-use lib.ListN.{length, getD, take, drop}
 use borrow.Author.Needs.{needs}
 use Rattle.files.proofs.references.find_place.Statement.{statement}
 use Rattle.files.proofs.references.find_place.Tie as tie
-use Rattle.files.proofs.references.find_place.Reads as reads
-use Rattle.files.proofs.references.find_place.Lts as lts
 
 mul-result : tie.Need-mul-result
 mul-result c = search needs

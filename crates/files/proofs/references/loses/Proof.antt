@@ -1,25 +1,15 @@
+-- `files::references::loses` meets its contract. Assumes nothing.
 use Rattle.files.proofs.LostLaws.{misses-is, loses-other, loses-record}
 use Rattle.files.proofs.ScanLaws.{some-hit, some-more, some-end}
 use Rattle.files.specs.Faults.{misses}
 use Rattle.files.specs.Scan.{some}
 use Rattle.page.specs.Fields.{fields}
 use borrow.Author.Needs.{needs}
-use Prim.Native.Nat.{ℕ, suc, _+_, _-_, _*_, _<_, _≤_}
-use mathlib.Core.Path.{_≡_, refl, ap, sym, _∙_}
-use mathlib.Core.Logic.{⊎-elim}
-use mathlib.Core.Bool.{Bool, true, false}
+use Prim.Native.Nat.{_-_, _≤_}
+use mathlib.Core.Path.{_≡_, sym, _∙_}
 use native.Mathlib.Omega.{arith}
-use borrow.Author.Tests.{lt-ltb, le-ltb, le-leb, lt-leb, eq-eqb, ne-eqb}
-use lib.ListN.{length, getD, take, drop}
 use Rattle.files.proofs.references.loses.Statement.{statement}
 use Rattle.files.proofs.references.loses.Tie as tie
-use Rattle.files.proofs.references.loses.Reads as reads
-use Rattle.files.proofs.references.loses.Lts as lts
-use Rattle.files.proofs.references.reaches.Reads as reaches-reads
-use Rattle.keys.proofs.count_references.Reads as count-references-reads
-use Rattle.lines.proofs.command_of.Reads as command-of-reads
-use Rattle.lines.proofs.content_of.Reads as content-of-reads
-use Rattle.lines.proofs.rest_of.Reads as rest-of-reads
 
 abbrev Inv-loop : tie.InvT-loop
 Inv-loop s w at e seats t f n r₀ r =

@@ -1,23 +1,12 @@
+-- `files::references::reaches` meets its contract. Assumes nothing.
 use Rattle.files.proofs.LostLaws.{place-few, reaches-none, reaches-some}
 use Rattle.files.proofs.RepeatLaws.{seat-bounds}
-use Prim.Native.Nat.{ℕ, suc, _+_, _-_, _*_, _<_, _≤_}
-use mathlib.Core.Path.{_≡_, refl, ap, sym, _∙_}
-use mathlib.Core.Logic.{⊎-elim}
-use mathlib.Core.Bool.{Bool, true, false}
+use Prim.Native.Nat.{_-_}
+use mathlib.Core.Path.{sym, _∙_}
 use native.Mathlib.Omega.{arith}
-use borrow.Author.Tests.{lt-ltb, le-ltb, le-leb, lt-leb, eq-eqb, ne-eqb}
-use lib.ListN.{length, getD, take, drop}
 use borrow.Author.Needs.{needs}
 use Rattle.files.proofs.references.reaches.Statement.{statement}
 use Rattle.files.proofs.references.reaches.Tie as tie
-use Rattle.files.proofs.references.reaches.Reads as reads
-use Rattle.files.proofs.references.reaches.Lts as lts
-use Rattle.files.proofs.references.find_place.Reads as find-place-reads
-use Rattle.files.proofs.scan.finds.Reads as finds-reads
-use Rattle.files.proofs.seating.find_seat.Reads as find-seat-reads
-use Rattle.keys.proofs.choose_key.Reads as choose-key-reads
-use Rattle.keys.proofs.find_target.Reads as find-target-reads
-use Rattle.keys.proofs.read_reference.Reads as read-reference-reads
 
 find-target-requires : tie.Need-find-target-requires
 find-target-requires c κs = search needs

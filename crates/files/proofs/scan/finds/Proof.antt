@@ -1,22 +1,16 @@
+-- `files::scan::finds` meets its contract. Assumes nothing.
 use Rattle.files.proofs.ScanLaws.{any-hit, any-more, any-end}
 use Rattle.files.specs.Scan.{bears}
 use Rattle.page.specs.File.{any}
 use Rattle.page.specs.Lines.{lines}
 use Rattle.lines.proofs.CursorLaws.{handed}
 use borrow.Author.Needs.{needs}
-use Prim.Native.Nat.{ℕ, suc, _+_, _-_, _*_, _<_, _≤_}
-use mathlib.Core.Path.{_≡_, refl, ap, sym, _∙_}
-use mathlib.Core.Logic.{⊎-elim}
-use mathlib.Core.Bool.{Bool, true, false}
+use Prim.Native.Nat.{_-_, _≤_}
+use mathlib.Core.Path.{_≡_, refl, sym, _∙_}
 use native.Mathlib.Omega.{arith}
-use borrow.Author.Tests.{lt-ltb, le-ltb, le-leb, lt-leb, eq-eqb, ne-eqb}
-use lib.ListN.{length, getD, take, drop}
+use lib.ListN.{length, drop}
 use Rattle.files.proofs.scan.finds.Statement.{statement}
 use Rattle.files.proofs.scan.finds.Tie as tie
-use Rattle.files.proofs.scan.finds.Reads as reads
-use Rattle.files.proofs.scan.finds.Lts as lts
-use Rattle.files.proofs.scan.bears_key.Reads as bears-key-reads
-use Rattle.lines.proofs.cursor.Cursor.line.Reads as line-reads
 
 abbrev Inv-loop : tie.InvT-loop
 Inv-loop w choice key c₀ c =

@@ -1,17 +1,9 @@
+-- `files::scan::was_met` meets its contract. Assumes nothing.
 use lib.Seq.{length-take-le}
-use Prim.Native.Nat.{ℕ, suc, _+_, _-_, _*_, _<_, _≤_}
-use mathlib.Core.Path.{_≡_, refl, ap, sym, _∙_}
-use mathlib.Core.Logic.{⊎-elim}
-use mathlib.Core.Bool.{Bool, true, false}
-use native.Mathlib.Omega.{arith}
-use borrow.Author.Tests.{lt-ltb, le-ltb, le-leb, lt-leb, eq-eqb, ne-eqb}
-use lib.ListN.{length, getD, take, drop}
+use Prim.Native.Nat.{_-_}
 use borrow.Author.Needs.{needs}
 use Rattle.files.proofs.scan.was_met.Statement.{statement}
 use Rattle.files.proofs.scan.was_met.Tie as tie
-use Rattle.files.proofs.scan.was_met.Reads as reads
-use Rattle.files.proofs.scan.was_met.Lts as lts
-use Rattle.files.proofs.scan.finds.Reads as finds-reads
 
 slice-aggregate-finds : tie.Need-slice-aggregate-finds
 slice-aggregate-finds c =

@@ -1,16 +1,9 @@
+-- `files::seating::find_seat` meets its contract. Assumes nothing.
 use Rattle.files.specs.Seating.{seat-at}
-use Prim.Native.Nat.{ℕ, suc, _+_, _-_, _*_, _<_, _≤_}
-use mathlib.Core.Path.{_≡_, refl, ap, sym, _∙_}
-use mathlib.Core.Logic.{⊎-elim}
-use mathlib.Core.Bool.{Bool, true, false}
-use native.Mathlib.Omega.{arith}
-use borrow.Author.Tests.{lt-ltb, le-ltb, le-leb, lt-leb, eq-eqb, ne-eqb}
-use lib.ListN.{length, getD, take, drop}
+use Prim.Native.Nat.{_-_}
 use borrow.Author.Needs.{needs}
 use Rattle.files.proofs.seating.find_seat.Statement.{statement}
 use Rattle.files.proofs.seating.find_seat.Tie as tie
-use Rattle.files.proofs.seating.find_seat.Reads as reads
-use Rattle.files.proofs.seating.find_seat.Lts as lts
 
 mul-result : tie.Need-mul-result
 mul-result c = search needs

@@ -1,27 +1,18 @@
+-- `files::seating::read_table` meets its contract. Assumes nothing.
 use Rattle.files.proofs.WalkLaws.{first-table}
 use Rattle.page.specs.Tables.{table-named}
 use Rattle.page.specs.Fields.{fields}
 use Rattle.page.specs.Lines.{rest}
 use Rattle.page.specs.Bytes.{Bytes}
 use Rattle.lines.proofs.CursorLaws.{handed}
-use mathlib.Core.List.{List, []}
-use Prim.Native.Nat.{ℕ, suc, _+_, _-_, _*_, _<_, _≤_}
-use mathlib.Core.Path.{_≡_, refl, ap, sym, _∙_}
-use mathlib.Core.Logic.{⊎-elim}
-use mathlib.Core.Bool.{Bool, true, false}
+use mathlib.Core.List.{[]}
+use Prim.Native.Nat.{_-_}
+use mathlib.Core.Path.{ap, sym, _∙_}
 use native.Mathlib.Omega.{arith}
-use borrow.Author.Tests.{lt-ltb, le-ltb, le-leb, lt-leb, eq-eqb, ne-eqb}
-use lib.ListN.{length, getD, take, drop}
+use lib.ListN.{getD}
 use borrow.Author.Needs.{needs}
 use Rattle.files.proofs.seating.read_table.Statement.{statement}
 use Rattle.files.proofs.seating.read_table.Tie as tie
-use Rattle.files.proofs.seating.read_table.Reads as reads
-use Rattle.files.proofs.seating.read_table.Lts as lts
-use Rattle.lines.proofs.content_of.Reads as content-of-reads
-use Rattle.lines.proofs.rest_of.Reads as rest-of-reads
-use Rattle.lines.proofs.cursor.Cursor.line.Reads as line-reads
-use Rattle.lines.proofs.field_at.Reads as field-at-reads
-use Rattle.names.proofs.find_table.Reads as find-table-reads
 
 line-requires : tie.Need-line-requires
 line-requires c κs = search needs

@@ -1,19 +1,12 @@
+-- `files::seating::seat_tables` meets its contract. Assumes nothing.
 use Rattle.files.proofs.SeatLaws.{Going, going-few, none-taken, going-first, table-known, going-again, seat-room, going-more, going-end, going-stop}
 use borrow.Author.Needs.{needs}
-use Prim.Native.Nat.{ℕ, suc, _+_, _-_, _*_, _<_, _≤_}
-use mathlib.Core.Path.{_≡_, refl, ap, sym, _∙_}
-use mathlib.Core.Logic.{⊎-elim}
-use mathlib.Core.Bool.{Bool, true, false}
+use Prim.Native.Nat.{_-_}
+use mathlib.Core.Path.{refl}
 use native.Mathlib.Omega.{arith}
-use borrow.Author.Tests.{lt-ltb, le-ltb, le-leb, lt-leb, eq-eqb, ne-eqb}
-use lib.ListN.{length, getD, take, drop}
+use lib.ListN.{length}
 use Rattle.files.proofs.seating.seat_tables.Statement.{statement}
 use Rattle.files.proofs.seating.seat_tables.Tie as tie
-use Rattle.files.proofs.seating.seat_tables.Reads as reads
-use Rattle.files.proofs.seating.seat_tables.Lts as lts
-use Rattle.files.proofs.seating.read_table.Reads as read-table-reads
-use Rattle.sections.proofs.section_end.Reads as section-end-reads
-use Rattle.sections.proofs.find_section.Reads as find-section-reads
 
 abbrev Inv-loop : tie.InvT-loop
 Inv-loop s seats₀ place₀ n₀ at₀ seats place n at =

@@ -1,3 +1,4 @@
+-- `files::unsound::first_unsound` meets its contract. Assumes nothing.
 use Rattle.files.proofs.WalkLaws.{unsound-here, unsound-more, unsound-end}
 use Rattle.sections.specs.Walk.{Settled}
 use Rattle.page.proofs.CutLaws.{sections-from, sections-all}
@@ -5,20 +6,12 @@ use Rattle.page.specs.File.{rowOf, first-unsound}
 use Rattle.page.specs.Cut.{Section, sections}
 use mathlib.Core.List.{List, map}
 use borrow.Author.Needs.{needs}
-use Prim.Native.Nat.{ℕ, suc, _+_, _-_, _*_, _<_, _≤_}
-use mathlib.Core.Path.{_≡_, refl, ap, sym, _∙_}
-use mathlib.Core.Logic.{⊎-elim}
-use mathlib.Core.Bool.{Bool, true, false}
+use Prim.Native.Nat.{_+_, _-_, _≤_}
+use mathlib.Core.Path.{_≡_, ap, sym, _∙_}
 use native.Mathlib.Omega.{arith}
-use borrow.Author.Tests.{lt-ltb, le-ltb, le-leb, lt-leb, eq-eqb, ne-eqb}
-use lib.ListN.{length, getD, take, drop}
+use lib.ListN.{length}
 use Rattle.files.proofs.unsound.first_unsound.Statement.{statement}
 use Rattle.files.proofs.unsound.first_unsound.Tie as tie
-use Rattle.files.proofs.unsound.first_unsound.Reads as reads
-use Rattle.files.proofs.unsound.first_unsound.Lts as lts
-use Rattle.sections.proofs.read_section.Reads as read-section-reads
-use Rattle.sections.proofs.section_end.Reads as section-end-reads
-use Rattle.sections.proofs.find_section.Reads as find-section-reads
 
 abbrev Inv-loop : tie.InvT-loop
 Inv-loop s latin i₀ at₀ i at =
@@ -66,11 +59,14 @@ loop-again c =
     let a = c .before .before .before .before .before .before .before .before .args in
     let l = c .before .before .before .before .before .loop in
     let x = c .before .find-section2 .ensures in
-    let e = c .before .before .section-end in
-    (x .within, omega (arith, x .after, e .ensures .1), x .settled,
-    ap (λ (xs : List Section). first-unsound (l .i + 1) (map (rowOf (a .latin)) xs)) (x .same)
-    ∙ sym (unsound-more (a .s .now) (l .at) (l .i) (a .latin) (c .before .before .before .before .loop-test .taken) (l .inv .2) (c .before .before .before .read-section .result) (c .before .before .before .read-section .ensures) (c .if1 .left) (e .result) (e .ensures .0))
-    ∙ l .inv .3)
+    let e = c .before .before .section-end in (
+      x .within,
+      omega (arith, x .after, e .ensures .1),
+      x .settled,
+      ap (λ (xs : List Section). first-unsound (l .i + 1) (map (rowOf (a .latin)) xs)) (x .same)
+          ∙ sym (unsound-more (a .s .now) (l .at) (l .i) (a .latin) (c .before .before .before .before .loop-test .taken) (l .inv .2) (c .before .before .before .read-section .result) (c .before .before .before .read-section .ensures) (c .if1 .left) (e .result) (e .ensures .0))
+          ∙ l .inv .3,
+    )
 
 returns-2 : tie.Need-returns-2 Inv-loop μ-loop
 returns-2 c =
