@@ -58,3 +58,4 @@ pub mod Places
 pub mod PromisesRoom
 pub mod RoundOutput
 pub mod Viable
+pub mod PromisesHanding
