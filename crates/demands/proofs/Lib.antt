@@ -59,3 +59,5 @@ pub mod PromisesRoom
 pub mod RoundOutput
 pub mod Viable
 pub mod PromisesHanding
+pub mod Turns
+pub mod CallNumbers

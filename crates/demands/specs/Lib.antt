@@ -11,3 +11,4 @@ pub mod Places
 pub mod Marks
 pub mod RoundAlike
 pub mod Viable
+pub mod Turns
