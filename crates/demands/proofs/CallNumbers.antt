@@ -13,7 +13,7 @@ use Rattle.page.specs.Lines.{allowed}
 use Rattle.page.specs.Tables.{column-at, width}
 use Rattle.page.specs.Cut.{sections, header-lines}
 use Rattle.page.specs.Header.{headOf}
-use Rattle.page.specs.Head.{latinOf}
+use Rattle.page.specs.Head.{header-values, latinOf}
 use Rattle.page.specs.Section.{outcome, refused}
 use Rattle.page.specs.Records.{Datum, number, words, table-of}
 use Rattle.page.specs.Model.{modelOf, datum-at}
@@ -445,3 +445,172 @@ text-11 s i r f room =
     value-back h =
         earlier-exactly (value-refusal s i r f) _ (refusal 11 0 0) z .1
         (inr (value-given s i r f .1 (h .0), if-exactly 11 z (turned (is-d (column-at (table-of (section-at s i .lines)) (f - 1) .text))) .1 (h .1)))
+
+-- what is asked first decides, unless the answer is the later question's
+first-alone : (a : Refusal) (b : Bool) (u : ℕ) (x : Refusal) → ¬ (x .number ≡ 0) → ¬ (x ≡ refusal u 0 0) → earlier a (refuse-if b u) ≡ x ↔ a ≡ x
+unfolding refuse-if
+first-alone a b u x z other = (λ e. into b (earlier-exactly a (refuse-if b u) x z .0 e), λ e. earlier-exactly a (refuse-if b u) x z .1 (inl e))
+  where
+    into : (b : Bool) → (a ≡ x) ⊎ ((a .number ≡ 0) × (refuse-if b u ≡ x)) → a ≡ x
+    into b (inl e) = e
+    into true (inr e) = absurd (other (sym (e .1)))
+    into false (inr e) = absurd (z (sym (ap (λ (q : Refusal). q .number) (e .1))))
+
+pub text-else : (s : Bytes) (i r f room : ℕ) (x : Refusal) → ¬ (x .number ≡ 0) → ¬ (x ≡ refusal 11 0 0) → ¬ (x ≡ refusal 21 0 0) →
+    textOut s i r f room ≡ W.Refused x ↔ valueOf s i r f ≡ G.Refused x
+unfolding textOut putOf put-refusal text-refusal valueOf
+text-else s i r f room x z other full =
+    via (written-exactly (put-refusal (text-refusal s i r f) (own-text s i r f) room) x z (length (own-text s i r f)))
+    (via (first-alone (text-refusal s i r f) (ltb room (length (own-text s i r f)) || ltb limit (length (own-text s i r f))) 21 x z full)
+    (via (first-alone (value-refusal s i r f) (not (column-at (table-of (section-at s i .lines)) (f - 1) .text)) 11 x z other)
+    (got-exactly (value-refusal s i r f) x z (value-at (section-at s i) r f) .1, got-exactly (value-refusal s i r f) x z (value-at (section-at s i) r f) .0)))
+
+-- `table`
+
+table-first : (s : Bytes) (i room : ℕ) (x : Refusal) → ¬ (x .number ≡ 0) → ¬ (x ≡ refusal 21 0 0) → tableOf s i room ≡ W.Refused x ↔ table-refusal s i ≡ x
+unfolding tableOf cells-refusal
+table-first s i room x z full =
+    via (written-exactly (cells-refusal s i room) x z (length (cellsOf (section-at s i))))
+    (first-alone (table-refusal s i) (ltb room (length (cellsOf (section-at s i)))) 21 x z full)
+
+-- 24: no such section
+pub table-24 : (s : Bytes) (i room : ℕ) → tableOf s i room ≡ W.Refused (refusal 24 0 0) ↔ (Open s × Outside i (length (sections s)))
+unfolding table-refusal
+table-24 s i room =
+    via (table-first s i room (refusal 24 0 0) (some-number 24 (omega arith)) (λ e. let k : _≡_ {A = ℕ} 24 21 = ap (λ (q : Refusal). q .number) e in omega arith))
+    (via (
+      λ e. into (earlier-exactly (find-refusal s i) (verdict-of i (row-at s i)) (refusal 24 0 0) (some-number 24 (omega arith)) .0 e),
+      λ e. earlier-exactly (find-refusal s i) (verdict-of i (row-at s i)) (refusal 24 0 0) (some-number 24 (omega arith)) .1 (inl e),
+    ) (find-24 s i))
+  where
+    into : (find-refusal s i ≡ refusal 24 0 0) ⊎ ((find-refusal s i .number ≡ 0) × (verdict-of i (row-at s i) ≡ refusal 24 0 0)) → find-refusal s i ≡ refusal 24 0 0
+    into (inl e) = e
+    into (inr e) =
+        let h = verdict-exactly s i 24 0 0 (some-number 24 (omega arith)) .0 (e .1) in
+        let w = refused-ranged (latinOf s) (section-at s i .lines) (h .1 .0) 24 0 (h .1 .1) in
+        absurd (let z : ⊥ = omega (arith, w) in z)
+
+-- 4 to 16: the section's own verdict, with its place
+pub table-verdict : (s : Bytes) (i room v j n : ℕ) → 4 ≤ v → v ≤ 16 → tableOf s i room ≡ W.Refused (refusal v j n) ↔ SectionRefused s i v j n
+unfolding table-refusal refuse-if
+table-verdict s i room v j n lo hi =
+    via (table-first s i room (refusal v j n) (λ (e : v ≡ 0). omega arith) (λ e. let k : v ≡ 21 = ap (λ (q : Refusal). q .number) e in omega arith))
+    (via (λ e. into e, λ e. out e) (after-verdict s i sound v j n lo hi (λ x e h. let k : 0 ≡ x .number = ap (λ (q : Refusal). q .number) e in omega arith)))
+  where
+    z : ¬ (v ≡ 0)
+    z e = omega arith
+
+    same : earlier (verdict-of i (row-at s i)) sound ≡ refusal v j n ↔ verdict-of i (row-at s i) ≡ refusal v j n
+    same = first-alone (verdict-of i (row-at s i)) false 21 (refusal v j n) z (λ e. let k : v ≡ 21 = ap (λ (q : Refusal). q .number) e in omega arith)
+
+    into : earlier (find-refusal s i) (verdict-of i (row-at s i)) ≡ refusal v j n → earlier (find-refusal s i) (earlier (verdict-of i (row-at s i)) sound) ≡ refusal v j n
+    into e = earlier-exactly (find-refusal s i) _ (refusal v j n) z .1 (by (earlier-exactly (find-refusal s i) (verdict-of i (row-at s i)) (refusal v j n) z .0 e))
+      where
+        by : (find-refusal s i ≡ refusal v j n) ⊎ ((find-refusal s i .number ≡ 0) × (verdict-of i (row-at s i) ≡ refusal v j n)) →
+            (find-refusal s i ≡ refusal v j n) ⊎ ((find-refusal s i .number ≡ 0) × (earlier (verdict-of i (row-at s i)) sound ≡ refusal v j n))
+        by (inl h) = inl h
+        by (inr h) = inr (h .0, same .1 (h .1))
+
+    out : earlier (find-refusal s i) (earlier (verdict-of i (row-at s i)) sound) ≡ refusal v j n → earlier (find-refusal s i) (verdict-of i (row-at s i)) ≡ refusal v j n
+    out e = earlier-exactly (find-refusal s i) (verdict-of i (row-at s i)) (refusal v j n) z .1 (by (earlier-exactly (find-refusal s i) _ (refusal v j n) z .0 e))
+      where
+        by : (find-refusal s i ≡ refusal v j n) ⊎ ((find-refusal s i .number ≡ 0) × (earlier (verdict-of i (row-at s i)) sound ≡ refusal v j n)) →
+            (find-refusal s i ≡ refusal v j n) ⊎ ((find-refusal s i .number ≡ 0) × (verdict-of i (row-at s i) ≡ refusal v j n))
+        by (inl h) = inl h
+        by (inr h) = inr (h .0, same .0 (h .1))
+
+-- 1 and 2 are the header's for each of these calls
+
+module _ (s : Bytes) (x : Refusal) (some : 0 < x .number) (small : x .number ≤ 2) where
+  -- what never gives 1 or 2
+  abbrev Big : Refusal → Type 0
+  Big b = ¬ (b ≡ x)
+
+  numbered : ¬ (x .number ≡ 0)
+  numbered e = omega arith
+
+  big-if : (b : Bool) (u : ℕ) → 2 < u → Big (refuse-if b u)
+  unfolding refuse-if
+  big-if true u l e = let k : u ≡ x .number = ap (λ (q : Refusal). q .number) e in omega arith
+  big-if false u l e = let k : 0 ≡ x .number = ap (λ (q : Refusal). q .number) e in omega arith
+
+  big-earlier : (a b : Refusal) → Big a → Big b → Big (earlier a b)
+  big-earlier a b f g e = by (earlier-exactly a b x numbered .0 e)
+    where
+      by : (a ≡ x) ⊎ ((a .number ≡ 0) × (b ≡ x)) → ⊥
+      by (inl e) = f e
+      by (inr e) = g (e .1)
+
+  big-verdict : (i : ℕ) → Big (verdict-of i (row-at s i))
+  big-verdict i e =
+      let h = verdict-exactly s i (x .number) (x .section) (x .line) numbered .0 e in
+      let w = refused-ranged (latinOf s) (section-at s i .lines) (h .1 .0) (x .number) (x .line) (h .1 .1) in
+      omega (arith, w)
+
+  -- a first part that the header begins, and a further one that never gives 1 or 2
+  further-big : (a b : Refusal) → a ≡ x ↔ header-refusal s ≡ x → Big b → earlier a b ≡ x ↔ header-refusal s ≡ x
+  further-big a b f g = via (λ e. by (earlier-exactly a b x numbered .0 e), λ e. earlier-exactly a b x numbered .1 (inl e)) f
+    where
+      by : (a ≡ x) ⊎ ((a .number ≡ 0) × (b ≡ x)) → a ≡ x
+      by (inl e) = e
+      by (inr e) = absurd (g (e .1))
+
+  itself : header-refusal s ≡ x ↔ header-refusal s ≡ x
+  itself = (λ e. e, λ e. e)
+
+  find-header : (i : ℕ) → find-refusal s i ≡ x ↔ header-refusal s ≡ x
+  unfolding find-refusal
+  find-header i = further-big (header-refusal s) _ itself (big-if (outside i (length (sections s))) 24 (omega arith))
+
+  pub headerOf-header : headerOf s ≡ H.Refused x ↔ header-refusal s ≡ x
+  unfolding headerOf
+  headerOf-header = headed-exactly (header-refusal s) x numbered (header-values (header-lines s))
+
+  pub section-header : (i : ℕ) → sectionOf s i ≡ L.Refused x ↔ header-refusal s ≡ x
+  unfolding sectionOf
+  section-header i = via (listed-exactly (find-refusal s i) x numbered (row-at s i)) (find-header i)
+
+  pub value-header : (i r f : ℕ) → valueOf s i r f ≡ G.Refused x ↔ header-refusal s ≡ x
+  unfolding valueOf value-refusal
+  value-header i r f =
+      via (got-exactly (value-refusal s i r f) x numbered (value-at (section-at s i) r f))
+      (further-big (find-refusal s i) _ (find-header i)
+      (big-earlier (verdict-of i (row-at s i)) _ (big-verdict i) (big-if (outside r (row-at s i .records) || outside f (width (table-of (section-at s i .lines)))) 24 (omega arith))))
+
+  pub text-header : (i r f room : ℕ) → textOut s i r f room ≡ W.Refused x ↔ header-refusal s ≡ x
+  text-header i r f room =
+      via (text-else s i r f room x numbered (λ e. let k : x .number ≡ 11 = ap (λ (q : Refusal). q .number) e in omega arith)
+      (λ e. let k : x .number ≡ 21 = ap (λ (q : Refusal). q .number) e in omega arith)) (value-header i r f)
+
+  pub table-header : (i room : ℕ) → tableOf s i room ≡ W.Refused x ↔ header-refusal s ≡ x
+  unfolding table-refusal
+  table-header i room =
+      via (table-first s i room x numbered (λ e. let k : x .number ≡ 21 = ap (λ (q : Refusal). q .number) e in omega arith))
+      (further-big (find-refusal s i) _ (find-header i) (big-verdict i))
+
+  -- the file's too
+  pub file-header : file-refusal s ≡ x ↔ header-refusal s ≡ x
+  unfolding file-refusal
+  file-header =
+      (λ e. by (earlier-exactly (header-refusal s) _ x numbered .0 e) e, λ e. earlier-exactly (header-refusal s) _ x numbered .1 (inl e))
+    where
+      ranged : (file-refusal s .number ≡ 0) ⊎ ((3 ≤ file-refusal s .number) × (file-refusal s .number ≤ 20)) → file-refusal s ≡ x → ⊥
+      ranged (inl z) e = let k : file-refusal s .number ≡ x .number = ap (λ (q : Refusal). q .number) e in omega arith
+      ranged (inr z) e = let k : file-refusal s .number ≡ x .number = ap (λ (q : Refusal). q .number) e in omega (arith, z)
+
+      by : (header-refusal s ≡ x) ⊎ ((header-refusal s .number ≡ 0) × (earlier (found (trailerOf s)) (section-refusal s) ≡ x)) → file-refusal s ≡ x → header-refusal s ≡ x
+      by (inl h) e = h
+      by (inr h) e = absurd (ranged (file-ranged s (h .0)) e)
+
+  pub list-header : (room : ℕ) → listOf s room ≡ C.Refused x ↔ header-refusal s ≡ x
+  unfolding listOf list-refusal
+  list-header room =
+      via (checked-exactly (earlier (list-refusal s room) (file-refusal s)) x numbered)
+      (λ e. by (earlier-exactly (list-refusal s room) (file-refusal s) x numbered .0 e), λ e. earlier-exactly (list-refusal s room) (file-refusal s) x numbered .1 (inl (first .1 e)))
+    where
+      first : earlier (header-refusal s) (refuse-if (ltb room (length (sections s))) 21) ≡ x ↔ header-refusal s ≡ x
+      first = further-big (header-refusal s) _ itself (big-if (ltb room (length (sections s))) 21 (omega arith))
+
+      by : (list-refusal s room ≡ x) ⊎ ((list-refusal s room .number ≡ 0) × (file-refusal s ≡ x)) → header-refusal s ≡ x
+      by (inl e) = first .0 e
+      by (inr e) = file-header .0 (e .1)
