@@ -1,102 +1,44 @@
 -- Each number of the calls other than `check`, exactly: its condition holds, and none that is asked before it. Assumes nothing.
 use mathlib.Core.Path.{_≡_, refl, ap, sym, _∙_}
-use mathlib.Core.Bool.{Bool, true, false, not, _||_, false≢true}
-use mathlib.Core.List.{List, [], _∷_}
+use mathlib.Core.Bool.{Bool, true, false, not, _||_}
 use mathlib.Core.Logic.{_⊎_, inl, inr, _↔_}
 use Prim.Native.Nat.{ℕ, suc, _-_, _<_, _≤_}
 use native.Mathlib.Omega.{arith}
 use lib.Dec.{eqb, ltb}
 use lib.ListN.{length}
-use borrow.Author.Tests.{eqb-true, eqb-false, ne-eqb, ltb-true, ltb-false}
+use borrow.Author.Tests.{eqb-true, ne-eqb, ltb-true, ltb-false}
 use Rattle.page.specs.Bytes.{Bytes, pick, all}
-use Rattle.page.specs.Lines.{allowed}
 use Rattle.page.specs.Tables.{column-at, width}
 use Rattle.page.specs.Cut.{sections, header-lines}
 use Rattle.page.specs.Header.{headOf}
 use Rattle.page.specs.Head.{header-values, latinOf}
 use Rattle.page.specs.Section.{outcome, refused}
-use Rattle.page.specs.Records.{Datum, number, words, table-of}
-use Rattle.page.specs.Model.{modelOf, datum-at}
-use Rattle.page.specs.Answers.{refusal, sound, earlier, refuse-if, checked, headed, listed, got, written}
+use Rattle.page.specs.Records.{number, table-of}
+use Rattle.page.specs.Answers.{refusal, sound, earlier, refuse-if}
 use Rattle.page.specs.File.{limit, too-long, found, row-of, rowOf, header-refusal, section-refusal, file-refusal}
 use Rattle.page.specs.Reading.{outside, section-at, row-at, headerOf, find-refusal, sectionOf, list-refusal, listOf, verdict-of, value-refusal, value-at, valueOf}
 use Rattle.page.specs.Handing.{text-refusal, own-text, textOut, cellsOf, table-refusal, cells-refusal, tableOf}
-use Rattle.page.specs.Writing.{put-refusal, putOf, empty-datum, fill-place, fill-refusal, fill-form, fillOf}
+use Rattle.page.specs.Writing.{put-refusal, putOf}
 use Rattle.page.specs.Trailer.{trailerOf}
 use Rattle.page.specs.Refusals.{Refused}
-use Rattle.page.specs.Rules.{Every, none-left, one-more, SoundHeader}
 use Rattle.page.specs.declared.Refusal.{Refusal}
 use Rattle.page.specs.declared.Finding.{Finding}
-use Rattle.page.specs.declared.Outcome.{Outcome}
-use Rattle.page.specs.declared.Row.{Row}
-use Rattle.page.specs.declared.Header.{Header}
-use Rattle.page.specs.declared.Value.{Value}
-use Rattle.page.specs.declared.Owner.{Owner}
 use Rattle.page.specs.declared.Checked.the-variants as C
 use Rattle.page.specs.declared.Headed.the-variants as H
 use Rattle.page.specs.declared.Listed.the-variants as L
 use Rattle.page.specs.declared.Got.the-variants as G
 use Rattle.page.specs.declared.Written.the-variants as W
 use Rattle.demands.specs.Headers.{HeaderFault}
-use Rattle.demands.specs.Turns.{Question, ask, first-refusal, Turn, Outside, Within}
-use Rattle.demands.proofs.Decides.{Decides, holds, fails, one-of, by-test, equal, below}
+use Rattle.demands.specs.Turns.{Outside, Within}
+use Rattle.demands.proofs.Decides.{Decides, holds, fails, one-of, below}
 use Rattle.demands.proofs.Tests.{is-d}
 use Rattle.demands.proofs.Headers.{header-refused-exactly, header-settled}
 use Rattle.demands.proofs.Refuses.{refuses-exactly, refused-ranged, section-settled}
 use Rattle.demands.proofs.RoundKeys.{earlier-none}
 use Rattle.demands.proofs.Numbers.{exactly-section}
 use Rattle.demands.proofs.PromisesListing.{header-told, file-ranged}
-use Rattle.demands.proofs.PromisesRoom.{TooLong, longer}
-use Rattle.demands.proofs.Turns.{earlier-exactly, first-exactly, after-exactly, absent, turn-now, turn-next, turn-past, turned, via, second, outside-d, within-not, not-within}
-
--- an answer refuses with x exactly if the refusal behind it is x
-
-module _ (r x : Refusal) (z : ¬ (x .number ≡ 0)) where
-  refuses : r ≡ x → eqb (r .number) 0 ≡ false
-  refuses e = ne-eqb (r .number) 0 (λ (w : r .number ≡ 0). z (ap (λ (q : Refusal). q .number) (sym e) ∙ w))
-
-  written-exactly : (n : ℕ) → written r n ≡ W.Refused x ↔ r ≡ x
-  unfolding written
-  written-exactly n = (by (eqb (r .number) 0), λ e. rw (refuses e) (ap W.Refused e))
-    where
-      by : (b : Bool) → pick b (W.Length n) (W.Refused r) ≡ W.Refused x → r ≡ x
-      by true e = absurd (false≢true (cc))
-      by false e = cc
-
-  got-exactly : (v : Value) → got r v ≡ G.Refused x ↔ r ≡ x
-  unfolding got
-  got-exactly v = (by (eqb (r .number) 0), λ e. rw (refuses e) (ap G.Refused e))
-    where
-      by : (b : Bool) → pick b (G.Is v) (G.Refused r) ≡ G.Refused x → r ≡ x
-      by true e = absurd (false≢true (cc))
-      by false e = cc
-
-  listed-exactly : (w : Row) → listed r w ≡ L.Refused x ↔ r ≡ x
-  unfolding listed
-  listed-exactly w = (by (eqb (r .number) 0), λ e. rw (refuses e) (ap L.Refused e))
-    where
-      by : (b : Bool) → pick b (L.Is w) (L.Refused r) ≡ L.Refused x → r ≡ x
-      by true e = absurd (false≢true (cc))
-      by false e = cc
-
-  headed-exactly : (h : Header) → headed r h ≡ H.Refused x ↔ r ≡ x
-  unfolding headed
-  headed-exactly h = (by (eqb (r .number) 0), λ e. rw (refuses e) (ap H.Refused e))
-    where
-      by : (b : Bool) → pick b (H.Is h) (H.Refused r) ≡ H.Refused x → r ≡ x
-      by true e = absurd (false≢true (cc))
-      by false e = cc
-
-  checked-exactly : checked r ≡ C.Refused x ↔ r ≡ x
-  unfolding checked
-  checked-exactly = (by (eqb (r .number) 0), λ e. rw (refuses e) (ap C.Refused e))
-    where
-      by : (b : Bool) → pick b C.Sound (C.Refused r) ≡ C.Refused x → r ≡ x
-      by true e = absurd (false≢true (cc))
-      by false e = cc
-
-some-number : (v : ℕ) → 0 < v → ¬ (v ≡ 0)
-some-number v l e = omega arith
+use Rattle.demands.proofs.CallAnswers.{some-number, written-exactly, got-exactly, listed-exactly, headed-exactly, checked-exactly}
+use Rattle.demands.proofs.Turns.{earlier-exactly, turned, via, second, outside-d, within-not, not-within}
 
 -- what the header and the file never answer
 
@@ -112,7 +54,7 @@ header-other : (s : Bytes) (x : Refusal) → 2 < x .number → ¬ (header-refusa
 header-other s x l e = let z : header-refusal s .number ≡ x .number = ap (λ (q : Refusal). q .number) e in omega (arith, header-small s)
 
 -- the file's own 4, 11 and 13 have a section's place, and 21 to 24 are never its
-file-other : (s : Bytes) (v : ℕ) → ((4 ≤ v) × (v ≤ 16)) ⊎ (20 < v) → ¬ (file-refusal s ≡ refusal v 0 0)
+pub file-other : (s : Bytes) (v : ℕ) → ((4 ≤ v) × (v ≤ 16)) ⊎ (20 < v) → ¬ (file-refusal s ≡ refusal v 0 0)
 unfolding file-refusal
 file-other s v (inl w) e = placed (exactly-section s v 0 0 (w .0) (w .1) .0 e .1 .4)
   where

@@ -61,3 +61,5 @@ pub mod Viable
 pub mod PromisesHanding
 pub mod Turns
 pub mod CallNumbers
+pub mod FillNumbers
+pub mod CallAnswers

@@ -17,10 +17,9 @@ use Rattle.page.specs.Records.{table-of}
 use Rattle.page.specs.Answers.{refusal, earlier, refuse-if, written, paper-written}
 use Rattle.page.specs.File.{limit, row-of, rowOf, header-refusal}
 use Rattle.page.specs.Reading.{outside, section-at, row-at, find-refusal, verdict-of, value-refusal}
-use Rattle.page.specs.Writing.{put-refusal, putOf, put-after}
+use Rattle.page.specs.Writing.{put-refusal, putOf}
 use Rattle.page.specs.Handing.{text-refusal, own-text, textOut, text-after, cellsOf, table-refusal, cells-refusal, tableOf, cells-after}
 use Rattle.page.specs.declared.Refusal.{Refusal}
-use Rattle.page.specs.declared.Row.{Row}
 use Rattle.page.specs.declared.Written.{Written}
 use Rattle.page.specs.declared.Written.the-variants as W
 use Rattle.demands.specs.Promises.{HandsText, HandsTable}

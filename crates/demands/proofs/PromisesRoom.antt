@@ -32,7 +32,7 @@ answer-number r n = by (eqb (r .number) 0) refl
     by true e = rw e (sym (eqb-true (r .number) 0 e))
     by false e = rw e
 
-pub longer : (form : Bytes) (room : ℕ) → (ltb room (length form) || ltb limit (length form)) ≡ true ↔ TooLong form room
+longer : (form : Bytes) (room : ℕ) → (ltb room (length form) || ltb limit (length form)) ≡ true ↔ TooLong form room
 longer form room = (by (ltb room (length form)) refl, back)
   where
     by : (b : Bool) → ltb room (length form) ≡ b → (b || ltb limit (length form)) ≡ true → TooLong form room

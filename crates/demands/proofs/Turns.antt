@@ -1,18 +1,20 @@
 -- The first question that refuses, once for every call. Assumes nothing.
 use mathlib.Core.Path.{_≡_, refl, ap, sym, _∙_}
 use mathlib.Core.Bool.{Bool, true, false, not}
-use mathlib.Core.List.{List, [], _∷_}
+use mathlib.Core.List.{List, _∷_}
 use mathlib.Core.Logic.{_⊎_, inl, inr, _↔_}
-use Prim.Native.Nat.{ℕ, zero, suc, _<_, _≤_}
+use Prim.Native.Nat.{ℕ, zero, suc, _≤_}
 use native.Mathlib.Omega.{arith}
 use lib.Dec.{eqb, ltb}
-use borrow.Author.Tests.{eqb-true, ne-eqb, ltb-true, ltb-false}
+use borrow.Author.Tests.{eqb-true, eqb-false, ne-eqb, ltb-true, ltb-false}
 use Rattle.page.specs.Bytes.{pick}
-use Rattle.page.specs.Answers.{refusal, sound, earlier, refuse-if}
+use Rattle.page.specs.Answers.{refusal, earlier, refuse-if}
+use Rattle.page.specs.File.{any}
 use Rattle.page.specs.Reading.{outside}
 use Rattle.page.specs.Rules.{Every, none-left, one-more}
 use Rattle.page.specs.declared.Refusal.{Refusal}
 use Rattle.demands.specs.Turns.{Question, ask, first-refusal, Turn, now, next, Outside, Within}
+use Rattle.demands.proofs.WrittenScans.{or-false}
 use Rattle.demands.proofs.Decides.{Decides, holds, fails, one-of, equal, below}
 
 -- no question gives 0
@@ -59,18 +61,19 @@ after-exactly a v z other {qs} n = (λ e. into (earlier-exactly a (first-refusal
     into (inr e) = (e .0, turn-into v z n (e .1))
 
 -- none of these questions gives v
-pub absent : {v : ℕ} {qs : List Question} → Every (λ (q : Question). ¬ (q .number ≡ v)) qs → ¬ Turn v qs
-absent (one-more m e) now = m refl
-absent (one-more m e) (next t) = absent e t
+pub absent : {v : ℕ} {qs : List Question} → any (λ (q : Question). eqb (q .number) v) qs ≡ false → ¬ Turn v qs
+unfolding any
+absent {v} e (now {qs}) = eqb-false v v (or-false (eqb v v) (any (λ (q : Question). eqb (q .number) v) qs) e .0) refl
+absent {v} e (next {n} {qs} t) = absent (or-false (eqb n v) (any (λ (q : Question). eqb (q .number) v) qs) e .1) t
 
 -- the turn of the first question; of a later one, for which the first must not refuse. Of a question asked the other way round too
 
-pub turn-now : {v : ℕ} {b : Bool} {A : Type 0} {qs : List Question} → Decides A b → ¬ Turn v qs → Turn v (ask b v ∷ qs) ↔ A
+pub turn-now : {v : ℕ} {b : Bool} {A : Type 0} {qs : List Question} → Decides A b → any (λ (q : Question). eqb (q .number) v) qs ≡ false → Turn v (ask b v ∷ qs) ↔ A
 turn-now {v} {b} {A} {qs} (holds x) other = (λ t. x, λ a. now)
 turn-now {v} {b} {A} {qs} (fails n) other = (into, λ a. absurd (n a))
   where
     into : Turn v (ask false v ∷ qs) → A
-    into (next t) = absurd (other t)
+    into (next t) = absurd (absent other t)
 
 now-number : {v n : ℕ} {qs : List Question} → Turn v (ask true n ∷ qs) → n ≡ v
 now-number now = refl
@@ -78,16 +81,16 @@ now-number now = refl
 later-turn : {v n : ℕ} {qs : List Question} → Turn v (ask false n ∷ qs) → Turn v qs
 later-turn (next t) = t
 
-pub turn-next : {v n : ℕ} {b : Bool} {A B : Type 0} {qs : List Question} → Decides A b → ¬ (n ≡ v) → Turn v qs ↔ B → Turn v (ask b n ∷ qs) ↔ ((¬ A) × B)
-turn-next {v} {n} {b} {A} {B} {qs} (holds x) other f = (λ t. absurd (other (now-number t)), λ h. absurd (h .0 x))
+pub turn-next : {v n : ℕ} {b : Bool} {A B : Type 0} {qs : List Question} → Decides A b → eqb n v ≡ false → Turn v qs ↔ B → Turn v (ask b n ∷ qs) ↔ ((¬ A) × B)
+turn-next {v} {n} {b} {A} {B} {qs} (holds x) other f = (λ t. absurd (eqb-false n v other (now-number t)), λ h. absurd (h .0 x))
 turn-next {v} {n} {b} {A} {B} {qs} (fails m) other f = (λ t. (m, f .0 (later-turn t)), λ h. next (f .1 (h .1)))
 
 pub turned : {A : Type 0} {b : Bool} → Decides A b → Decides (¬ A) (not b)
 turned (holds x) = fails (λ n. n x)
 turned (fails n) = holds n
 
-pub turn-past : {v n : ℕ} {b : Bool} {A B : Type 0} {qs : List Question} → Decides A b → ¬ (n ≡ v) → Turn v qs ↔ B → Turn v (ask (not b) n ∷ qs) ↔ (A × B)
-turn-past {v} {n} {b} {A} {B} {qs} (fails m) other f = (λ t. absurd (other (now-number t)), λ h. absurd (m (h .0)))
+pub turn-past : {v n : ℕ} {b : Bool} {A B : Type 0} {qs : List Question} → Decides A b → eqb n v ≡ false → Turn v qs ↔ B → Turn v (ask (not b) n ∷ qs) ↔ (A × B)
+turn-past {v} {n} {b} {A} {B} {qs} (fails m) other f = (λ t. absurd (eqb-false n v other (now-number t)), λ h. absurd (m (h .0)))
 turn-past {v} {n} {b} {A} {B} {qs} (holds x) other f = (λ t. (x, f .0 (later-turn t)), λ h. next (f .1 (h .1)))
 
 -- one equivalence after another
