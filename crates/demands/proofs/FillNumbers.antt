@@ -27,7 +27,7 @@ use Rattle.page.specs.declared.Written.the-variants as W
 use Rattle.demands.specs.Turns.{first-refusal, Turn, Outside, fill-questions}
 use Rattle.demands.proofs.Decides.{Decides, fails, one-of, when, equal, below}
 use Rattle.demands.proofs.Tests.{is-d}
-use Rattle.demands.proofs.PromisesRoom.{TooLong, longer}
+use Rattle.demands.proofs.PromisesRoom.{TooLong}
 use Rattle.demands.proofs.Turns.{Numbered, earlier-exactly, after-exactly, turn-now, turn-next, turn-past, turned, via, second, outside-d}
 use Rattle.demands.proofs.CallAnswers.{some-number, written-exactly}
 use Rattle.demands.proofs.CallNumbers.{file-other}

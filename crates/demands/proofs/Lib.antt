@@ -63,3 +63,4 @@ pub mod Turns
 pub mod CallNumbers
 pub mod FillNumbers
 pub mod CallAnswers
+pub mod WrittenMarks

@@ -12,3 +12,4 @@ pub mod Marks
 pub mod RoundAlike
 pub mod Viable
 pub mod Turns
+pub mod WrittenMarks
