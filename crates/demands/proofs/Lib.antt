@@ -64,3 +64,4 @@ pub mod CallNumbers
 pub mod FillNumbers
 pub mod CallAnswers
 pub mod WrittenMarks
+pub mod Handed

@@ -13,3 +13,4 @@ pub mod RoundAlike
 pub mod Viable
 pub mod Turns
 pub mod WrittenMarks
+pub mod Handed
