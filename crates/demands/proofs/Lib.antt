@@ -66,3 +66,4 @@ pub mod CallAnswers
 pub mod WrittenMarks
 pub mod Handed
 pub mod HandedCells
+pub mod Lexical
