@@ -168,7 +168,7 @@ find-open s i =
     via (none-exactly (header-refusal s) (refuse-if (outside i (length (sections s))) 24))
     (second (via (if-none 24 (some-number 24 (omega arith)) (outside-d i (length (sections s)))) (within-not i (length (sections s)), not-within i (length (sections s)))))
 
-verdict-open : (s : Bytes) (i : ℕ) → verdict-of i (row-at s i) .number ≡ 0 ↔ row-at s i .verdict ≡ 0
+pub verdict-open : (s : Bytes) (i : ℕ) → verdict-of i (row-at s i) .number ≡ 0 ↔ row-at s i .verdict ≡ 0
 unfolding verdict-of
 verdict-open s i = (by (eqb (row-at s i .verdict) 0) refl, λ e. rw e)
   where
