@@ -257,6 +257,13 @@ module _ (s : Bytes) (i r f : ℕ) (t : Bytes) (h : fill-refusal s i r f t .numb
   pub fill-was-empty : empty-datum (datum-at i r f (modelOf s)) ≡ true
   fill-was-empty = all-open .blank
 
+  -- a field counts from 1, and holds the given text
+  pub fill-field : 0 < f
+  fill-field = places .4
+
+  pub fill-put : datum-at i r f filled-model ≡ words O.Suggestion t
+  fill-put = fill-here i r f t (modelOf s) (places .0) (omega (arith, tables-count, places)) (places .2) r-within (places .4) f-within
+
   module _ (short : length (fill-form s i r f t) ≤ limit) where
     pub fill-accepted : file-refusal (fill-form s i r f t) ≡ sound
     unfolding fill-form
@@ -268,9 +275,7 @@ module _ (s : Bytes) (i r f : ℕ) (t : Bytes) (h : fill-refusal s i r f t .numb
 
     -- read again, the field holds the given text, and a mark stands before its record
     pub fill-read : datum-at i r f (modelOf (fill-form s i r f t)) ≡ words O.Suggestion t
-    fill-read =
-        rw fill-model-back
-        (fill-here i r f t (modelOf s) (places .0) (omega (arith, tables-count, places)) (places .2) r-within (places .4) f-within)
+    fill-read = rw fill-model-back fill-put
 
     pub fill-written : write-form (fill-form s i r f t) ≡ fill-form s i r f t
     unfolding fill-form write-form

@@ -58,3 +58,10 @@ pub mod Places
 pub mod PromisesRoom
 pub mod RoundOutput
 pub mod Viable
+pub mod PromisesHanding
+pub mod Turns
+pub mod CallNumbers
+pub mod FillNumbers
+pub mod CallAnswers
+pub mod WrittenMarks
+pub mod Handed

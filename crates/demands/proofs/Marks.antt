@@ -31,21 +31,21 @@ use Rattle.demands.proofs.Readings.{handed-denoted}
 
 -- lines that are no record: one of another command, one that says nothing, a mark
 
-pass-marks : (r : ℕ) (ms : List ℕ) (k : ℕ) (l : Bytes) (ls : List Bytes) → command (content l) ≡ k → eqb k Rec ≡ false → eqb k Com ≡ false → marks-at r ms (l ∷ ls) ≡ marks-at r ms ls
+pub pass-marks : (r : ℕ) (ms : List ℕ) (k : ℕ) (l : Bytes) (ls : List Bytes) → command (content l) ≡ k → eqb k Rec ≡ false → eqb k Com ≡ false → marks-at r ms (l ∷ ls) ≡ marks-at r ms ls
 unfolding marks-at note
 pass-marks r ms k l ls e a b = rw (e, a, b)
 
-quiet-marks : {latin : Bool} (r : ℕ) (ms : List ℕ) (l : Bytes) (ls : List Bytes) → Quiet latin l → marks-at r ms (l ∷ ls) ≡ marks-at r ms ls
+pub quiet-marks : {latin : Bool} (r : ℕ) (ms : List ℕ) (l : Bytes) (ls : List Bytes) → Quiet latin l → marks-at r ms (l ∷ ls) ≡ marks-at r ms ls
 unfolding marks-at note
 quiet-marks r ms l ls (empty c b) = pass-marks r ms Missing l ls (blank-missing (content l) b) refl refl
 quiet-marks r ms l ls (remark s e) = rw (s .named, e)
 
-mark-marks : (r : ℕ) (ms : List ℕ) (i : ℕ) (l : Bytes) (ls : List Bytes) → command (content l) ≡ Com → remarkOf (rest (content l)) ≡ R.Mark i →
+pub mark-marks : (r : ℕ) (ms : List ℕ) (i : ℕ) (l : Bytes) (ls : List Bytes) → command (content l) ≡ Com → remarkOf (rest (content l)) ≡ R.Mark i →
     marks-at r ms (l ∷ ls) ≡ marks-at r (i ∷ ms) ls
 unfolding marks-at note
 mark-marks r ms i l ls e f = rw (e, f)
 
-record-marks : (r : ℕ) (ms : List ℕ) (l : Bytes) (ls : List Bytes) → command (content l) ≡ Rec → marks-at r ms (l ∷ ls) ≡ here-or r ms (λ q. marks-at q [] ls)
+pub record-marks : (r : ℕ) (ms : List ℕ) (l : Bytes) (ls : List Bytes) → command (content l) ≡ Rec → marks-at r ms (l ∷ ls) ≡ here-or r ms (λ q. marks-at q [] ls)
 unfolding marks-at
 record-marks r ms l ls e = rw e
 
@@ -108,20 +108,20 @@ suggestion-marked ms i e = by (marked i ms) e
 
 -- the same of the value that a call hands out: the mark that waits is the only one
 
-pass-at : (r m at k : ℕ) (l : Bytes) (ls : List Bytes) → command (content l) ≡ k → eqb k Rec ≡ false → eqb k Com ≡ false → record-at r m at (l ∷ ls) ≡ record-at r m (at + length l) ls
+pub pass-at : (r m at k : ℕ) (l : Bytes) (ls : List Bytes) → command (content l) ≡ k → eqb k Rec ≡ false → eqb k Com ≡ false → record-at r m at (l ∷ ls) ≡ record-at r m (at + length l) ls
 unfolding record-at waits
 pass-at r m at k l ls e a b = rw (e, a, b)
 
-quiet-at : {latin : Bool} (r m at : ℕ) (l : Bytes) (ls : List Bytes) → Quiet latin l → record-at r m at (l ∷ ls) ≡ record-at r m (at + length l) ls
+pub quiet-at : {latin : Bool} (r m at : ℕ) (l : Bytes) (ls : List Bytes) → Quiet latin l → record-at r m at (l ∷ ls) ≡ record-at r m (at + length l) ls
 unfolding record-at waits
 quiet-at r m at l ls (empty c b) = pass-at r m at Missing l ls (blank-missing (content l) b) refl refl
 quiet-at r m at l ls (remark s e) = rw (s .named, e)
 
-mark-at : (r m at i : ℕ) (l : Bytes) (ls : List Bytes) → command (content l) ≡ Com → remarkOf (rest (content l)) ≡ R.Mark i → record-at r m at (l ∷ ls) ≡ record-at r i (at + length l) ls
+pub mark-at : (r m at i : ℕ) (l : Bytes) (ls : List Bytes) → command (content l) ≡ Com → remarkOf (rest (content l)) ≡ R.Mark i → record-at r m at (l ∷ ls) ≡ record-at r i (at + length l) ls
 unfolding record-at waits
 mark-at r m at i l ls e f = rw (e, f)
 
-rec-at : (r m at : ℕ) (l : Bytes) (ls : List Bytes) → command (content l) ≡ Rec → record-at r m at (l ∷ ls) ≡ this-or r (stands at l m) (λ q. record-at q 0 (at + length l) ls)
+pub rec-at : (r m at : ℕ) (l : Bytes) (ls : List Bytes) → command (content l) ≡ Rec → record-at r m at (l ∷ ls) ≡ this-or r (stands at l m) (λ q. record-at q 0 (at + length l) ls)
 unfolding record-at
 rec-at r m at l ls e = rw e
 

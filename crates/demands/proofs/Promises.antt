@@ -31,7 +31,7 @@ use Rattle.demands.proofs.WrittenScans.{or-false}
 one-answer : {A : Type 0} {x r q : A} → r ≡ x → q ≡ x → r ≡ q
 one-answer p q = p ∙ sym q
 
-one-outcome : {A B : Type 0} {x r q : A} {y after later : B} → Kept x y r after → Kept x y q later → (r ≡ q) × (after ≡ later)
+pub one-outcome : {A B : Type 0} {x r q : A} {y after later : B} → Kept x y r after → Kept x y q later → (r ≡ q) × (after ≡ later)
 one-outcome p q = (p .answers ∙ sym (q .answers), p .leaves ∙ sym (q .leaves))
 
 pub checks-settled : (s : Bytes) {r q : Checked} → Checks s r → Checks s q → r ≡ q
@@ -60,7 +60,7 @@ fill-settled s i j f t out p q = one-outcome p q
 
 -- a refused call leaves the output as it was
 
-refused-put : (r x : Refusal) (form out : Bytes) → putOf r form (length out) ≡ W.Refused x → put-after r form out ≡ out
+pub refused-put : (r x : Refusal) (form out : Bytes) → putOf r form (length out) ≡ W.Refused x → put-after r form out ≡ out
 unfolding putOf put-after written
 refused-put r x form out e = by (eqb (put-refusal r form (length out) .number) 0) refl e
   where
@@ -134,7 +134,7 @@ module _ (s : Bytes) (long : limit < length s) where
   unfolding file-refusal earlier
   long-file = rw long-header
 
-  long-find : (i : ℕ) → find-refusal s i ≡ refusal 1 0 0
+  pub long-find : (i : ℕ) → find-refusal s i ≡ refusal 1 0 0
   unfolding find-refusal earlier
   long-find i = rw long-header
 

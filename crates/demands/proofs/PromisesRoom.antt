@@ -24,7 +24,7 @@ use Rattle.demands.proofs.PromisesListing.{header-told, file-ranged}
 abbrev pub TooLong : Bytes → ℕ → Type 0
 TooLong form room = (room < length form) ⊎ (limit < length form)
 
-answer-number : (r : Refusal) (n : ℕ) → paper-written (written r n) .number ≡ r .number
+pub answer-number : (r : Refusal) (n : ℕ) → paper-written (written r n) .number ≡ r .number
 unfolding paper-written written
 answer-number r n = by (eqb (r .number) 0) refl
   where
@@ -58,7 +58,7 @@ module _ (r : Refusal) (never : ¬ (r .number ≡ 21)) (form : Bytes) (room : �
       by true false = refl
       by false b = refl
 
-  room-exactly : paper-written (putOf r form room) .number ≡ 21 ↔ ((r .number ≡ 0) × TooLong form room)
+  pub room-exactly : paper-written (putOf r form room) .number ≡ 21 ↔ ((r .number ≡ 0) × TooLong form room)
   room-exactly = (λ e. into (eqb (r .number) 0) refl (ltb room (length form) || ltb limit (length form)) refl (sym put-number ∙ e), back)
     where
       into : (a : Bool) → eqb (r .number) 0 ≡ a → (b : Bool) → (ltb room (length form) || ltb limit (length form)) ≡ b →
@@ -76,7 +76,7 @@ refused-first : (s : Bytes) (n : ℕ) → header-refusal s .number ≡ n → ¬ 
 unfolding file-refusal earlier
 refused-first s n h z w e = w (rw (h, ne-eqb n 0 z) at e)
 
-earlier-never : (a b : Refusal) → ¬ (a .number ≡ 21) → ¬ (b .number ≡ 21) → ¬ (earlier a b .number ≡ 21)
+pub earlier-never : (a b : Refusal) → ¬ (a .number ≡ 21) → ¬ (b .number ≡ 21) → ¬ (earlier a b .number ≡ 21)
 unfolding earlier
 earlier-never a b x y = by (eqb (a .number) 0)
   where
@@ -84,12 +84,12 @@ earlier-never a b x y = by (eqb (a .number) 0)
     by true = y
     by false = x
 
-if-never : (b : Bool) (v : ℕ) → ¬ (v ≡ 21) → ¬ (refuse-if b v .number ≡ 21)
+pub if-never : (b : Bool) (v : ℕ) → ¬ (v ≡ 21) → ¬ (refuse-if b v .number ≡ 21)
 unfolding refuse-if
 if-never true v n e = n e
 if-never false v n e = omega arith
 
-file-never : (s : Bytes) → ¬ (file-refusal s .number ≡ 21)
+pub file-never : (s : Bytes) → ¬ (file-refusal s .number ≡ 21)
 file-never s e = by (header-told s)
   where
     by : (header-refusal s .number ≡ 0) ⊎ ((header-refusal s .number ≡ 1) ⊎ (header-refusal s .number ≡ 2)) → ⊥

@@ -11,3 +11,6 @@ pub mod Places
 pub mod Marks
 pub mod RoundAlike
 pub mod Viable
+pub mod Turns
+pub mod WrittenMarks
+pub mod Handed

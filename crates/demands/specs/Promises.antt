@@ -6,6 +6,7 @@ use lib.ListN.{length}
 use Rattle.page.specs.Bytes.{Bytes}
 use Rattle.page.specs.File.{checkOf}
 use Rattle.page.specs.Reading.{headerOf, sectionOf, listOf, rows-after, valueOf}
+use Rattle.page.specs.Handing.{textOut, text-after, tableOf, cells-after}
 use Rattle.page.specs.Writing.{writeOf, write-after, stripOf, strip-after, fillOf, fill-after}
 use Rattle.page.specs.declared.Checked.{Checked}
 use Rattle.page.specs.declared.Headed.{Headed}
@@ -42,3 +43,11 @@ Strips s out r after = Kept (stripOf s (length out)) (strip-after s out) r after
 
 abbrev pub Fills : Bytes → ℕ → ℕ → ℕ → Bytes → Bytes → Written → Bytes → Type 0
 Fills s i j f t out r after = Kept (fillOf s i j f t (length out)) (fill-after s i j f t out) r after
+
+-- a text's own bytes
+abbrev pub HandsText : Bytes → ℕ → ℕ → ℕ → Bytes → Written → Bytes → Type 0
+HandsText s i j f out r after = Kept (textOut s i j f (length out)) (text-after s i j f out) r after
+
+-- all values of one table
+abbrev pub HandsTable : Bytes → ℕ → List ℕ → Written → List ℕ → Type 0
+HandsTable s i cells r after = Kept (tableOf s i (length cells)) (cells-after s i cells) r after
