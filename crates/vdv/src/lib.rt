@@ -6,6 +6,7 @@ pub use answers::HeaderAnswer;
 pub use answers::LengthAnswer;
 pub use answers::RowAnswer;
 pub use answers::ValueAnswer;
+pub use reading::vdv_check;
 pub use reading::vdv_header;
 pub use reading::vdv_section;
 pub use reading::vdv_value;

@@ -1,5 +1,6 @@
 // What a file says, by value.
 ghost use mathlib.Core.Path.{_≡_};
+ghost use Rattle.page.specs.File.{file-refusal};
 ghost use Rattle.page.specs.Reading.{headerOf, sectionOf, valueOf};
 ghost use Rattle.vdv.specs.Told.{told-headed, told-listed, told-got};
 use crate::answers::HeaderAnswer;
@@ -8,6 +9,15 @@ use crate::answers::ValueAnswer;
 use crate::answers::tell_header;
 use crate::answers::tell_row;
 use crate::answers::tell_value;
+use page::Refusal;
+
+// The file's answer: number 0 is sound.
+#[no_mangle]
+pub extern "C" fn vdv_check(file: &[u8]) -> Refusal
+    ensures { λ r. ⌜ r ≡ file-refusal (now (file .entry)) ⌝ }
+{
+    files::check_file(file)
+}
 
 #[no_mangle]
 pub extern "C" fn vdv_header(file: &[u8]) -> HeaderAnswer
