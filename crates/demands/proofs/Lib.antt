@@ -65,3 +65,5 @@ pub mod FillNumbers
 pub mod CallAnswers
 pub mod WrittenMarks
 pub mod Handed
+pub mod HandedCells
+pub mod Lexical

@@ -24,7 +24,7 @@ value-append n [] w = refl
 value-append n (b ∷ v) w = value-append (n * 10 + (b - 48)) v w
 
 -- one more digit at the end
-value-last : (n d : ℕ) (v : Bytes) → value n (v ++ ((48 + d) ∷ [])) ≡ value n v * 10 + d
+pub value-last : (n d : ℕ) (v : Bytes) → value n (v ++ ((48 + d) ∷ [])) ≡ value n v * 10 + d
 unfolding value
 value-last n d v = value-append n v ((48 + d) ∷ []) ∙ omega arith
 

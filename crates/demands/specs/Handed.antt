@@ -2,7 +2,7 @@
 use mathlib.Core.Path.{_≡_}
 use mathlib.Core.List.{List, [], _++_}
 use Prim.Native.Nat.{ℕ, zero, suc, _-_}
-use lib.ListN.{take, drop}
+use lib.ListN.{length, take, drop}
 use Rattle.page.specs.Bytes.{Bytes}
 use Rattle.page.specs.Tables.{width}
 use Rattle.page.specs.Cut.{Section}
@@ -28,3 +28,10 @@ row-cells x r f (suc n) = cell-of (value-at x r f) ++ row-cells x r (suc f) n
 unfoldable pub table-cells : Section → ℕ → ℕ → List ℕ
 table-cells x r zero = []
 table-cells x r (suc n) = row-cells x r 1 (width (table-of (x .lines))) ++ table-cells x (suc r) n
+
+-- at this place in the cells stand the three numbers of value v
+pub record CellAt (cells : List ℕ) (place : ℕ) (v : Value) : Type 0 where
+  pub before : List ℕ
+  pub after : List ℕ
+  pub split : cells ≡ before ++ (cell-of v ++ after)
+  pub placed : length before ≡ place

@@ -14,3 +14,4 @@ pub mod Viable
 pub mod Turns
 pub mod WrittenMarks
 pub mod Handed
+pub mod Lexical
