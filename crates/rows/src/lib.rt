@@ -1,6 +1,8 @@
 // "Whoever lists a file may lend rows: one row a section."
 ghost use mathlib.Core.Path.{_≡_};
 ghost use lib.ListN.{length};
+ghost use Rattle.page.specs.Answers.{earlier};
+ghost use Rattle.page.specs.File.{file-refusal};
 ghost use Rattle.page.specs.Reading.{list-refusal, rows-after};
 ghost use Rattle.rows.specs.Walk.{Begins, stepOf, refused, startOf};
 use page::Refusal;
@@ -76,10 +78,21 @@ fn read_step(file: &[u8], at: usize, latin: bool) -> Step
     }
 }
 
-// "Listing is refused by 1, 2 and 21 only and then writes no row; other verdicts go into the rows. Spare rows keep their values."
-pub fn fill_rows(file: &[u8], rows: &mut [Row]) -> Refusal
+// The file's answer, unless listing itself is refused.
+fn answer_list(file: &[u8], r: Refusal) -> Refusal
+    ensures { λ a. ⌜ a ≡ earlier r (file-refusal (now (file .entry))) ⌝ }
+{
+    if r.number != 0 {
+        return r;
+    }
+    files::check_file(file)
+}
+
+// "Listing is refused by 1, 2 and 21 only and then writes no row; other verdicts go into the rows and the file's answer. Spare rows
+// keep their values." The number 0 is sound.
+pub fn list(file: &[u8], rows: &mut [Row]) -> Refusal
     ensures { λ r.
-        ⌜ (r ≡ list-refusal (now (file .entry)) (length (now (rows .entry))))
+        ⌜ (r ≡ earlier (list-refusal (now (file .entry)) (length (now (rows .entry)))) (file-refusal (now (file .entry))))
         × (now (rows .exit) ≡ rows-after (now (file .entry)) (now (rows .entry))) ⌝ }
 {
     let b = begin_list(file, rows.len());
@@ -92,5 +105,5 @@ pub fn fill_rows(file: &[u8], rows: &mut [Row]) -> Refusal
         at = t.next;
         i += 1;
     }
-    b.refusal
+    answer_list(file, b.refusal)
 }

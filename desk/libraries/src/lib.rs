@@ -1,10 +1,12 @@
 //! The implementations that stand behind the face. This is the one place that
 //! says which of them the tools use.
 
+mod linked;
 mod plain;
 
 use face::Library;
 
+pub use linked::Linked;
 pub use plain::Plain;
 
 /// What the tool runs on, and what is compared and measured.

@@ -1,4 +1,4 @@
--- `fill_rows` meets its contract: a walk of its MIR by hand. It knows only what its two callees, which the borrow checker covers, promise,
+-- `list` meets its contract: a walk of its MIR by hand. It knows only what its three callees, which the borrow checker covers, promise,
 -- and the laws of the pass (WalkLaws). The invariant: the rows are `filled` up to i, and the place is that of section i. The variant: i, up
 -- to the rows to write. Assumes nothing.
 use mathlib.Core.Path.{_≡_, refl, sym, _∙_, ap, subst}
@@ -49,7 +49,8 @@ use denote.Triple.Clauses.{ensured, lasts}
 use denote.Triple.Table.{entered, cited}
 use denote.Triple.Walked.{says, Stays, stay-slice, stay-none-slice, walkOf, Walks, ends-at, walked, goes-slice, goes-none-slice, walk-meets}
 use Rattle.page.specs.Reading.{list-refusal, rows-after}
-use Rattle.page.specs.File.{rowsOf}
+use Rattle.page.specs.Answers.{earlier}
+use Rattle.page.specs.File.{file-refusal, rowsOf}
 use Rattle.page.specs.declared.Row.{Row}
 use Rattle.page.specs.declared.Refusal.{Refusal}
 use Rattle.page.proofs.Row as T
@@ -72,11 +73,15 @@ use Rattle.rows.proofs.read_step as read-step
 use Rattle.rows.proofs.read_step.Symbol as read-step-def
 use Rattle.rows.proofs.read_step.Symbol.{name as #rows·read-step}
 use Rattle.rows.proofs.read_step.Met as read-step-thm
-use Rattle.rows.proofs.fill_rows.Key.{name as #rows·fill-rows}
-use Rattle.rows.proofs.fill_rows as f
-use Rattle.rows.proofs.fill_rows.Statement as stated
-use Rattle.rows.proofs.fill_rows.Code as code
-use Rattle.rows.proofs.fill_rows.Code.Mir as piece
+use Rattle.rows.proofs.answer_list as answer-list
+use Rattle.rows.proofs.answer_list.Symbol as answer-list-def
+use Rattle.rows.proofs.answer_list.Symbol.{name as #rows·answer-list}
+use Rattle.rows.proofs.answer_list.Met as answer-list-thm
+use Rattle.rows.proofs.list.Key.{name as #rows·list}
+use Rattle.rows.proofs.list as f
+use Rattle.rows.proofs.list.Statement as stated
+use Rattle.rows.proofs.list.Code as code
+use Rattle.rows.proofs.list.Code.Mir as piece
 
 abbrev word : Ty
 word = tyInt w64
@@ -113,6 +118,9 @@ module _ {M : Type 1} (𝓤 : URA M) (H : Heap 𝓤) (A : Atoms 𝓤) (mem : Mem
 
   abbrev Read : Contract 𝓤
   Read = tripleOf 𝓤 H A read-step.signature (read-step.spec 𝓤 H A mem run)
+
+  abbrev Answer : Contract 𝓤
+  Answer = tripleOf 𝓤 H A answer-list.signature (answer-list.spec 𝓤 H A mem run)
 
 module _ {M : Type 1} (𝓤 : URA M) (H : Heap 𝓤) (A : Atoms 𝓤) (W : Given 𝓤 H A) (mem : Memory → SProp 𝓤) (run : Routine → Fun 𝓤) (κ₁ κ₂ : Lft) (q₁ q₂ : Share) (b₁ o₁ : ℕ) (γ₁ : GName) (bs : List ℕ) (b o : ℕ) (γ : GName) (ys : List Row)
     (room₁ : Room u8 (length bs)) (room : Room T.the-row (length ys)) where
@@ -157,6 +165,9 @@ module _ {M : Type 1} (𝓤 : URA M) (H : Heap 𝓤) (A : Atoms 𝓤) (W : Given
   abbrev Post : Val → SProp 𝓤
   Post = walkOf 𝓤 H A f.ended stayed (f.clauses 𝓤 H A mem run) .post bound
 
+  abbrev refusal-val : Refusal → Val
+  refusal-val r = LL.val S.the-type S′.the-laws r
+
   -- what each callee is passed
   abbrev to-begin : ℕ → Begin 𝓤 H A mem run .Ghost
   to-begin k = (((κ₁, tt), (q₁, tt), tt, (x₁, (k, tt)), (s₁ ∷ [], (vint w64 k ∷ [], tt))), tt)
@@ -164,8 +175,14 @@ module _ {M : Type 1} (𝓤 : URA M) (H : Heap 𝓤) (A : Atoms 𝓤) (W : Given
   abbrev to-read : ℕ → Bool → Read 𝓤 H A mem run .Ghost
   to-read k t = (((κ₁, tt), (q₁, tt), tt, (x₁, (k, (t, tt))), (s₁ ∷ [], (vint w64 k ∷ [], (vbool t ∷ [], tt)))), tt)
 
+  abbrev to-answer : Refusal → Answer 𝓤 H A mem run .Ghost
+  to-answer r = (((κ₁, tt), (q₁, tt), tt, (x₁, (r, tt)), (s₁ ∷ [], (refusal-val r ∷ [], tt))), tt)
+
   asks-begin : (k : ℕ) → k < 2 ^ 64 → ent 𝓤 (sep 𝓤 (A .lft κ₁ q₁) (sem 𝓤 H A B)) (Begin 𝓤 H A mem run .pre (to-begin k))
   asks-begin k fits = qed W (‵ (flft κ₁ q₁) ∷ ‵ B ∷ []) ∵ nothing ! $ move ! (1 ∷ 0 ∷ []) $ join ! $ nothing ! $ owned ! usize (Is usize) (uint-makes 𝓤 H A W w64) k _ (refl, fits) $ fjoin ! $ move ! (2 ∷ 0 ∷ []) $ fjoin ! $ move ! (1 ∷ 0 ∷ []) $ join ! $ nothing ! $ move ! (1 ∷ 0 ∷ []) $ done !
+
+  asks-answer : (r : Refusal) → Is S.the-row r (refusal-val r ∷ []) → ent 𝓤 (sep 𝓤 (A .lft κ₁ q₁) (sem 𝓤 H A B)) (Answer 𝓤 H A mem run .pre (to-answer r))
+  asks-answer r is = qed W (‵ (flft κ₁ q₁) ∷ ‵ B ∷ []) ∵ nothing ! $ move ! (1 ∷ 0 ∷ []) $ join ! $ nothing ! $ owned ! S.the-row (Is S.the-row) ((LL.makes S.the-type S′.the-plain) 𝓤 H A) r _ is $ fjoin ! $ move ! (2 ∷ 0 ∷ []) $ fjoin ! $ move ! (1 ∷ 0 ∷ []) $ join ! $ nothing ! $ move ! (1 ∷ 0 ∷ []) $ done !
 
   asks-read : (k : ℕ) (t : Bool) → k < 2 ^ 64 → Begins bs k → ent 𝓤 (sep 𝓤 (A .lft κ₁ q₁) (sem 𝓤 H A B)) (Read 𝓤 H A mem run .pre (to-read k t))
   asks-read k t fits begins = qed W (‵ (flft κ₁ q₁) ∷ ‵ B ∷ []) ∵ says ! begins $ nothing ! $ move ! (1 ∷ 0 ∷ []) $ join ! $ frame ! $ nothing ! $ owned ! Boolean (Is Boolean) (bool-makes 𝓤 H A W) t _ refl $ fjoin ! $ owned ! usize (Is usize) (uint-makes 𝓤 H A W w64) k _ (refl, fits) $ fjoin ! $ move ! (1 ∷ 0 ∷ []) $ fjoin ! $ done !
@@ -177,14 +194,17 @@ module _ {M : Type 1} (𝓤 : URA M) (H : Heap 𝓤) (A : Atoms 𝓤) (W : Given
   said-read : (k : ℕ) (t : Bool) (r : Step) → ent 𝓤 (ensured 𝓤 H A read-step.ended (read-step.clauses 𝓤 H A mem run) (κ₁, tt) (x₁, (k, (t, tt))) tt r) (fact 𝓤 (r ≡ stepOf bs k t))
   said-read k t r = exE 𝓤 _ (λ ws. snd∗ 𝓤 (sem 𝓤 H A (lasts read-step.ended (κ₁, tt) (x₁, (k, (t, tt))) ws)) (fact 𝓤 (r ≡ stepOf bs k t)))
 
-  exits : (r : Refusal) (u : Val) (zs : List Row) → r ≡ list-refusal bs m → zs ≡ rows-after bs ys → length zs ≡ m
+  said-answer : (v r : Refusal) → ent 𝓤 (ensured 𝓤 H A answer-list.ended (answer-list.clauses 𝓤 H A mem run) (κ₁, tt) (x₁, (v, tt)) tt r) (fact 𝓤 (r ≡ earlier v (file-refusal bs)))
+  said-answer v r = exE 𝓤 _ (λ ws. snd∗ 𝓤 (sem 𝓤 H A (lasts answer-list.ended (κ₁, tt) (x₁, (v, tt)) ws)) (fact 𝓤 (r ≡ earlier v (file-refusal bs))))
+
+  exits : (r : Refusal) (u : Val) (zs : List Row) → r ≡ earlier (list-refusal bs m) (file-refusal bs) → zs ≡ rows-after bs ys → length zs ≡ m
       → ent 𝓤 (⋆ 𝓤 H A (‵ (S.the-row .own r (u ∷ [])) ∷ ‵ (Own zs) ∷ ‵ (flft κ₂ q₂) ∷ ‵ B ∷ ‵ (flft κ₁ q₁) ∷ [])) (Post u)
   exits r u zs e₁ e₂ l =
       qed W (‵ (S.the-row .own r (u ∷ [])) ∷ ‵ (Own zs) ∷ ‵ (flft κ₂ q₂) ∷ ‵ B ∷ ‵ (flft κ₁ q₁) ∷ []) ∵
       suffices ! _ (ends-at 𝓤 H A f.ended stayed (f.clauses 𝓤 H A mem run) W bound u r (tt, (zs, tt)) (tt, (l, tt))) $ says ! (e₁, e₂) $
       nothing ! $ move ! (3 ∷ 0 ∷ []) $ join ! $ move ! (4 ∷ 0 ∷ []) $ join ! $ frame ! $ nothing ! $ move ! (2 ∷ 0 ∷ []) $ fjoin ! $ move ! (2 ∷ 0 ∷ []) $ fjoin ! $ done !
 
-  module _ (𝓣 : Tables 𝓤 H) (known-begin : Triple 𝓤 (𝓣 .C #rows·begin-list) (Begin 𝓤 H A mem run)) (known-read : Triple 𝓤 (𝓣 .C #rows·read-step) (Read 𝓤 H A mem run)) where
+  module _ (𝓣 : Tables 𝓤 H) (known-begin : Triple 𝓤 (𝓣 .C #rows·begin-list) (Begin 𝓤 H A mem run)) (known-read : Triple 𝓤 (𝓣 .C #rows·read-step) (Read 𝓤 H A mem run)) (known-answer : Triple 𝓤 (𝓣 .C #rows·answer-list) (Answer 𝓤 H A mem run)) where
     abbrev C : Calls 𝓤 H
     C = 𝓣 .C
 
@@ -254,11 +274,17 @@ module _ {M : Type 1} (𝓤 : URA M) (H : Heap 𝓤) (A : Atoms 𝓤) (W : Given
             assigns-last ! (bin ! (load ! (from ! (stop !)) (look ! 14 refl)) (lit ! tt) (record { fits = fits (next less) })) (from ! (stop !)) (store ! 14 refl (tt, record { fits = fits (next less) })) $
             forget ! 4 refl $ forget ! 6 refl $ forget ! 8 refl $ forget ! 12 refl $ again ! Nearer At i (next less) (add-one-dec n (i .0) (ltb→lt (i .0) n less)))))))))
             (λ over. jumps ! $ exec ! C Λ En rest (atRet En Post) $
-            assigns ! (of-opd ! (load ! (from ! (fld ! refl (stop !))) (look-in ! 20 (sub ! 0 refl (whole !))))) (from ! (stop !)) (init ! 26 refl (LL.lawful S.the-type S′.the-laws 𝓤 H A W .typed (β .refusal) _ refusal-is .0)) $
-            returns ! (look ! 26 refl) $ forget ! 8 refl $ forget ! 10 refl $ forget ! 14 refl $ forget ! 16 refl $ forget ! 18 refl $ forget ! 20 refl $ forget ! 22 refl $ forget ! 24 refl $ forget ! 26 refl $
-            move ! (26 ∷ 27 ∷ []) $ free1 ! $ move ! (24 ∷ 25 ∷ []) $ free1 ! $ move ! (22 ∷ 23 ∷ []) $ free1 ! $ move ! (20 ∷ 21 ∷ []) $ free1 ! $ move ! (18 ∷ 19 ∷ []) $ free1 ! $ move ! (16 ∷ 17 ∷ []) $ free1 ! $ move ! (14 ∷ 15 ∷ []) $ free1 ! $ move ! (12 ∷ 13 ∷ []) $ free1 ! $ move ! (10 ∷ 11 ∷ []) $ free1 ! $ move ! (8 ∷ 9 ∷ []) $ free1 ! $ move ! (6 ∷ 7 ∷ []) $ free1 ! $ move ! (4 ∷ 5 ∷ []) $ free1 ! $ free0 ! $
-            owned ! S.the-row (Is S.the-row) ((LL.makes S.the-type S′.the-plain) 𝓤 H A) (β .refusal) _ refusal-is $
-            by ! (exits (β .refusal) _ (zs i) (start-refusal bs m) (ap (λ (k : ℕ). filled bs ys k) (le-antisymm (i .1) (nltb→le (i .0) n over)) ∙ filled-all bs ys) (long i)))
+            -- `answer_list`
+            move ! (2 ∷ []) $ use1 W (‵ B ⊛ ‵ B) (shr-slice-copy 𝓤 H A W (named 0) κ₁ u8 .twice x₁ (s₁ ∷ [])) $ split ! $ move ! (4 ∷ 0 ∷ []) $
+            use2 W (raw (Answer 𝓤 H A mem run .pre (to-answer (β .refusal)))) (asks-answer (β .refusal) refusal-is) $
+            calls-at ! fm (Answer 𝓤 H A mem run) known-answer (to-answer (β .refusal)) (and-then ! (load ! (from ! (stop !)) (look ! 24 refl)) (and-then ! (load ! (from ! (fld ! refl (stop !))) (look-in ! 20 (sub ! 0 refl (whole !)))) (no-more !))) (λ u.
+            use1 W (later (some (λ (r : Refusal). ((‵ (flft κ₁ q₁) ⊛ ‵ ftrue) ⊛ ‵ (S.the-row .own r (u ∷ []))) ⊛ raw (ensured 𝓤 H A answer-list.ended (answer-list.clauses 𝓤 H A mem run) (κ₁, tt) (x₁, (β .refusal, tt)) tt r)))) (id⊢ 𝓤 _) $ await ! tt $ pick ! (λ r.
+            split ! $ move ! (1 ∷ []) $ use1 W (raw (fact 𝓤 (r ≡ earlier (β .refusal) (file-refusal bs)))) (said-answer (β .refusal) r) $ heard ! (r ≡ earlier (β .refusal) (file-refusal bs)) (λ e. split ! $ split ! $ move ! (1 ∷ []) $ drop ! $ move ! (1 ∷ 3 ∷ 4 ∷ 2 ∷ 0 ∷ []) $
+            peeks ! S.the-row (Is S.the-row) (shows 𝓤 H A S.the-row) r (u ∷ []) (λ is.
+            land ! (from ! (stop !)) (init ! 27 refl (LL.lawful S.the-type S′.the-laws 𝓤 H A W .typed r _ is .0)) $
+            returns ! (look ! 27 refl) $ forget ! 9 refl $ forget ! 11 refl $ forget ! 15 refl $ forget ! 17 refl $ forget ! 19 refl $ forget ! 21 refl $ forget ! 23 refl $ forget ! 25 refl $ forget ! 27 refl $
+            move ! (27 ∷ 28 ∷ []) $ free1 ! $ move ! (25 ∷ 26 ∷ []) $ free1 ! $ move ! (23 ∷ 24 ∷ []) $ free1 ! $ move ! (21 ∷ 22 ∷ []) $ free1 ! $ move ! (19 ∷ 20 ∷ []) $ free1 ! $ move ! (17 ∷ 18 ∷ []) $ free1 ! $ move ! (15 ∷ 16 ∷ []) $ free1 ! $ move ! (13 ∷ 14 ∷ []) $ free1 ! $ move ! (11 ∷ 12 ∷ []) $ free1 ! $ move ! (9 ∷ 10 ∷ []) $ free1 ! $ move ! (7 ∷ 8 ∷ []) $ free1 ! $ move ! (5 ∷ 6 ∷ []) $ free1 ! $ free0 ! $
+            by ! (exits r u (zs i) (e ∙ ap (λ (v : Refusal). earlier v (file-refusal bs)) (start-refusal bs m)) (ap (λ (k : ℕ). filled bs ys k) (le-antisymm (i .1) (nltb→le (i .0) n over)) ∙ filled-all bs ys) (long i)))))))
           where
             σ : Step
             σ = stepAt bs m (i .0)
@@ -342,25 +368,26 @@ module _ {M : Type 1} (𝓤 : URA M) (H : Heap 𝓤) (A : Atoms 𝓤) (W : Given
         keep ! (0 ∷ 1 ∷ 2 ∷ 3 ∷ 4 ∷ 5 ∷ 6 ∷ 7 ∷ 8 ∷ 9 ∷ 10 ∷ 11 ∷ 12 ∷ 13 ∷ 14 ∷ 15 ∷ 16 ∷ 17 ∷ 18 ∷ 19 ∷ 20 ∷ 21 ∷ 22 ∷ 23 ∷ 24 ∷ 25 ∷ 26 ∷ 27 ∷ []) $ body l₀ l₁ l₂ l₃ l₄ l₅ l₆ l₇ l₈ l₉ l₁₀ l₁₁))))))))))))
 
 module _ {M : Type 1} (𝓤 : URA M) (H : Heap 𝓤) (A : Atoms 𝓤) (W : Given 𝓤 H A) (mem : Memory → SProp 𝓤) (run : Routine → Fun 𝓤) where
-  fill-rows-walks : (𝓣 : Tables 𝓤 H) → Triple 𝓤 (𝓣 .C #rows·begin-list) (Begin 𝓤 H A mem run) → Triple 𝓤 (𝓣 .C #rows·read-step) (Read 𝓤 H A mem run)
+  list-walks : (𝓣 : Tables 𝓤 H) → Triple 𝓤 (𝓣 .C #rows·begin-list) (Begin 𝓤 H A mem run) → Triple 𝓤 (𝓣 .C #rows·read-step) (Read 𝓤 H A mem run) → Triple 𝓤 (𝓣 .C #rows·answer-list) (Answer 𝓤 H A mem run)
       → Walks 𝓤 H A f.ended stayed (WpFn 𝓤 H (𝓣 .C) (𝓣 .Λ) code.function) (f.clauses 𝓤 H A mem run)
-  fill-rows-walks 𝓣 known-begin known-read = walked 𝓤 H A f.ended stayed (f.clauses 𝓤 H A mem run) (WpFn 𝓤 H (𝓣 .C) (𝓣 .Λ) code.function)
+  list-walks 𝓣 known-begin known-read known-answer = walked 𝓤 H A f.ended stayed (f.clauses 𝓤 H A mem run) (WpFn 𝓤 H (𝓣 .C) (𝓣 .Λ) code.function)
       (λ κs. (slice-vals, (slice-vals, tt))) (λ κs. (shr-slice-tells (named 0) (κs .0) u8, (mut-slice-tells (named 1) (κs .1 .0) T.the-row, tt)))
       (λ κs qs bounds a g are. via 𝓤 _ (fst∗ 𝓤 _ (emp 𝓤))
-      (walk 𝓤 H A W mem run (κs .0) (κs .1 .0) (qs .0) (qs .1 .0) (a .0 .ptr .0) (a .0 .ptr .1) (a .0 .name) (a .0 .now) (a .1 .0 .ptr .0) (a .1 .0 .ptr .1) (a .1 .0 .name) (a .1 .0 .now) (are .0 .0 .1) (are .1 .0 .0 .1) 𝓣 known-begin known-read))
+      (walk 𝓤 H A W mem run (κs .0) (κs .1 .0) (qs .0) (qs .1 .0) (a .0 .ptr .0) (a .0 .ptr .1) (a .0 .name) (a .0 .now) (a .1 .0 .ptr .0) (a .1 .0 .ptr .1) (a .1 .0 .name) (a .1 .0 .now) (are .0 .0 .1) (are .1 .0 .0 .1) 𝓣 known-begin known-read known-answer))
 
-fill-rows-meets : {M : Type 1} (𝓤 : URA M) (H : Heap 𝓤) (A : Atoms 𝓤) (W : Given 𝓤 H A) (mem : Memory → SProp 𝓤) (run : Routine → Fun 𝓤) (𝓣 : Tables 𝓤 H)
-    → Triple 𝓤 (𝓣 .C #rows·begin-list) (Begin 𝓤 H A mem run) → Triple 𝓤 (𝓣 .C #rows·read-step) (Read 𝓤 H A mem run)
+list-meets : {M : Type 1} (𝓤 : URA M) (H : Heap 𝓤) (A : Atoms 𝓤) (W : Given 𝓤 H A) (mem : Memory → SProp 𝓤) (run : Routine → Fun 𝓤) (𝓣 : Tables 𝓤 H)
+    → Triple 𝓤 (𝓣 .C #rows·begin-list) (Begin 𝓤 H A mem run) → Triple 𝓤 (𝓣 .C #rows·read-step) (Read 𝓤 H A mem run) → Triple 𝓤 (𝓣 .C #rows·answer-list) (Answer 𝓤 H A mem run)
     → Meets 𝓤 H A f.signature (WpFn 𝓤 H (𝓣 .C) (𝓣 .Λ) code.function) (f.spec 𝓤 H A mem run)
-fill-rows-meets 𝓤 H A W mem run 𝓣 known-begin known-read =
+list-meets 𝓤 H A W mem run 𝓣 known-begin known-read known-answer =
     walk-meets 𝓤 H A f.ended stayed W (goes-none-slice 𝓤 H A W 2 (0 ∷ []) tt (plain (λ _. u8)) yes, (goes-slice 𝓤 H A W 2 1 tt (plain (λ _. T.the-row)), tt)) (f.clauses 𝓤 H A mem run)
-    (WpFn 𝓤 H (𝓣 .C) (𝓣 .Λ) code.function) (WpFn-mono 𝓤 H (W .laws) 𝓣 code.function) (fill-rows-walks 𝓤 H A W mem run 𝓣 known-begin known-read)
+    (WpFn 𝓤 H (𝓣 .C) (𝓣 .Λ) code.function) (WpFn-mono 𝓤 H (W .laws) 𝓣 code.function) (list-walks 𝓤 H A W mem run 𝓣 known-begin known-read known-answer)
 
-pub fill-rows-spec : {M : Type 1} → stated.statement M
+pub list-spec : {M : Type 1} → stated.statement M
 unfolding code.routine tablesOf
-fill-rows-spec 𝓤 H 𝓜 𝓖 𝓡 =
+list-spec 𝓤 H 𝓜 𝓖 𝓡 =
     entered 𝓤 H (tripleOf 𝓤 H (𝓖 .A) f.signature (f.spec 𝓤 H (𝓖 .A) (𝓜 .mem) (𝓡 .run)))
-    (tables 𝓤 H 𝓜 𝓡 code.env .C) (tables 𝓤 H 𝓜 𝓡 code.env .Λ) #rows·fill-rows code.function (code.unfolded 𝓤 H 𝓜 𝓡)
-    (fill-rows-meets 𝓤 H (𝓖 .A) (givenOf 𝓤 H 𝓜 𝓖) (𝓜 .mem) (𝓡 .run) (tablesOf 𝓤 H 𝓜 (tables 𝓤 H 𝓜 𝓡 code.env))
+    (tables 𝓤 H 𝓜 𝓡 code.env .C) (tables 𝓤 H 𝓜 𝓡 code.env .Λ) #rows·list code.function (code.unfolded 𝓤 H 𝓜 𝓡)
+    (list-meets 𝓤 H (𝓖 .A) (givenOf 𝓤 H 𝓜 𝓖) (𝓜 .mem) (𝓡 .run) (tablesOf 𝓤 H 𝓜 (tables 𝓤 H 𝓜 𝓡 code.env))
     (cited 𝓤 H (Begin 𝓤 H (𝓖 .A) (𝓜 .mem) (𝓡 .run)) 𝓜 𝓡 code.env #rows·begin-list begin-list-def.routine code.calls-rows·begin-list (begin-list-thm.met 𝓤 H 𝓜 𝓖 𝓡))
-    (cited 𝓤 H (Read 𝓤 H (𝓖 .A) (𝓜 .mem) (𝓡 .run)) 𝓜 𝓡 code.env #rows·read-step read-step-def.routine code.calls-rows·read-step (read-step-thm.met 𝓤 H 𝓜 𝓖 𝓡)))
+    (cited 𝓤 H (Read 𝓤 H (𝓖 .A) (𝓜 .mem) (𝓡 .run)) 𝓜 𝓡 code.env #rows·read-step read-step-def.routine code.calls-rows·read-step (read-step-thm.met 𝓤 H 𝓜 𝓖 𝓡))
+    (cited 𝓤 H (Answer 𝓤 H (𝓖 .A) (𝓜 .mem) (𝓡 .run)) 𝓜 𝓡 code.env #rows·answer-list answer-list-def.routine code.calls-rows·answer-list (answer-list-thm.met 𝓤 H 𝓜 𝓖 𝓡)))

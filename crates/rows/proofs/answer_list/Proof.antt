@@ -1,0 +1,19 @@
+use borrow.Author.Needs.{needs}
+use borrow.Author.Tests.{ne-eqb}
+use Rattle.page.specs.Answers.{earlier}
+use Rattle.rows.proofs.answer_list.Statement.{statement}
+use Rattle.rows.proofs.answer_list.Tie as tie
+
+returns : tie.Need-returns
+unfolding earlier
+returns c = rw (ne-eqb (c .before .before .before .args .r .number) 0 (c .if1 .taken))
+
+check-file-requires : tie.Need-check-file-requires
+check-file-requires c κs = search needs
+
+returns-2 : tie.Need-returns-2
+unfolding earlier
+returns-2 c = rw (c .before .if1 .left) (c .check-file .ensures)
+
+pub answer-list-spec : {M : Type 1} → statement M
+answer-list-spec = tie.close (tie.spec returns check-file-requires returns-2)

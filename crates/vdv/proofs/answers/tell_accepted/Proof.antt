@@ -1,0 +1,33 @@
+use Prim.Native.Nat.{ℕ, suc, _+_, _-_, _*_, _<_, _≤_}
+use mathlib.Core.Path.{_≡_, refl, ap, sym, _∙_}
+use mathlib.Core.Logic.{⊎-elim}
+use mathlib.Core.Bool.{Bool, true, false}
+use native.Mathlib.Omega.{arith}
+use borrow.Author.Tests.{lt-ltb, le-ltb, le-leb, lt-leb, eq-eqb, ne-eqb}
+use lib.ListN.{length, getD, take, drop}
+use Rattle.vdv.specs.Told.{told-value}
+use borrow.Author.Needs.{needs}
+use Rattle.vdv.proofs.answers.tell_accepted.Statement.{statement}
+use Rattle.vdv.proofs.answers.tell_accepted.Tie as tie
+use Rattle.vdv.proofs.answers.tell_accepted.Reads as reads
+use Rattle.vdv.proofs.answers.tell_accepted.Lts as lts
+use Rattle.vdv.proofs.answers.owner_kind.Reads as owner-kind-reads
+
+enum-known-x : tie.Need-enum-known-x
+enum-known-x c = search needs
+
+enum-known-x-2 : tie.Need-enum-known-x-2
+enum-known-x-2 c = search needs
+
+owner-kind-requires : tie.Need-owner-kind-requires
+owner-kind-requires c κs = search needs
+
+returns : tie.Need-returns
+returns c = ap told-value (sym (c .before .x .given .1))
+
+returns-2 : tie.Need-returns-2
+returns-2 c = rw (c .owner-kind .ensures) (ap told-value (sym (c .before .before .x2 .given .1)))
+
+pub tell-accepted-spec : {M : Type 1} → statement M
+tell-accepted-spec =
+    tie.close (tie.spec enum-known-x enum-known-x-2 owner-kind-requires returns returns-2)

@@ -1,0 +1,51 @@
+//! What stands of the proved library answers as the independent reader does.
+
+use face::{all_rows, tables, At, Library};
+use libraries::{Linked, Plain};
+use samples::Random;
+
+fn compare(file: &[u8], random: &mut Random) {
+    assert_eq!(Linked.check(file), Plain.check(file));
+    assert_eq!(Linked.header(file), Plain.header(file));
+    let rows = all_rows(&Plain, file).map_or(Vec::new(), |listing| listing.rows);
+    for section in 0..rows.len() + 2 {
+        assert_eq!(
+            Linked.section(file, section),
+            Plain.section(file, section),
+            "section {section}"
+        );
+    }
+    for (index, row) in rows.iter().enumerate() {
+        let width = tables::numbered(row.table).map_or(1, |table| table.columns.len());
+        for _ in 0..4 {
+            let at = At::new(
+                index + 1,
+                random.below(row.records + 2),
+                random.below(width + 2),
+            );
+            assert_eq!(Linked.value(file, at), Plain.value(file, at), "{at:?}");
+        }
+    }
+}
+
+#[test]
+fn drawn_and_damaged_files() {
+    for index in 0..1_500 {
+        let mut random = Random::of_file(11, index);
+        let sound = samples::sound(&mut random).bytes();
+        compare(&sound, &mut random);
+        for _ in 0..3 {
+            let damaged = samples::damaged(&mut random);
+            compare(&damaged, &mut random);
+        }
+    }
+}
+
+#[test]
+fn any_cut_of_a_file() {
+    let mut random = Random::of_file(12, 0);
+    let file = samples::sound(&mut random).bytes();
+    for length in 0..file.len().min(2_000) {
+        compare(&file[..length], &mut random);
+    }
+}

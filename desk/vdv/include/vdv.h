@@ -1,0 +1,107 @@
+/* The proved library for VDV 451 planning files, for C programs.
+ *
+ * A file is lent by a pointer and a count of bytes; the pointer is not null,
+ * also where the count is 0. What is lent to be written to overlaps nothing
+ * else that is lent. There are no other conditions, and no call keeps anything
+ * of what it is lent. Sections, records and fields count from 1.
+ *
+ * Each answer begins with document 01's number, 0 where the call was not
+ * refused, and the place: section, 0 for header and trailer, and line. The
+ * values that follow are 0 where the call was refused.
+ *
+ * The library is built for Linux on x86-64. */
+#ifndef VDV_H
+#define VDV_H
+
+#include <stdbool.h>
+#include <stddef.h>
+#include <stdint.h>
+
+#ifdef __cplusplus
+extern "C" {
+#endif
+
+typedef struct vdv_refusal {
+    uint32_t number;
+    size_t section;
+    size_t line;
+} vdv_refusal;
+
+/* One row a section; `table` is 0 if the `tbl` line fails, `place` the
+ * section's first byte, from 0. */
+typedef struct vdv_row {
+    uint32_t table;
+    size_t place;
+    size_t length;
+    size_t records;
+    uint32_t verdict;
+    size_t line;
+} vdv_row;
+
+/* Texts are told by their first place and the place after them, between the
+ * quotes; `dve` and `fft` say whether such a line stands, `latin` whether the
+ * character set is ISO8859-1. */
+typedef struct vdv_header_answer {
+    uint32_t number;
+    size_t section;
+    size_t line;
+    size_t source_from;
+    size_t source_to;
+    uint64_t year;
+    uint64_t month;
+    uint64_t day;
+    uint64_t hour;
+    uint64_t minute;
+    uint64_t second;
+    bool latin;
+    size_t ver_from;
+    size_t ver_to;
+    size_t ifv_from;
+    size_t ifv_to;
+    bool dve;
+    size_t dve_from;
+    size_t dve_to;
+    bool fft;
+    size_t fft_from;
+    size_t fft_to;
+} vdv_header_answer;
+
+typedef struct vdv_row_answer {
+    uint32_t number;
+    size_t section;
+    size_t line;
+    vdv_row row;
+} vdv_row_answer;
+
+enum vdv_kind { VDV_NUMBER = 0, VDV_OPERATOR = 1, VDV_SUGGESTION = 2 };
+
+/* `kind` is one of enum vdv_kind: a number has its amount, a text its bytes
+ * between the quotes, doubled quotes still doubled. */
+typedef struct vdv_value_answer {
+    uint32_t number;
+    size_t section;
+    size_t line;
+    uint32_t kind;
+    uint64_t amount;
+    size_t from;
+    size_t to;
+} vdv_value_answer;
+
+/* The file's answer: number 0 is sound. */
+vdv_refusal vdv_check(const uint8_t *file, size_t length);
+
+/* The header's values, or 1 or 2. */
+vdv_header_answer vdv_header(const uint8_t *file, size_t length);
+
+/* One section's row, or the first of 1, 2 and 24. */
+vdv_row_answer vdv_section(const uint8_t *file, size_t length, size_t section);
+
+/* One value: refused by the first of 1, 2, 24 for the section, the section's
+ * verdict, 24 for the record or field. */
+vdv_value_answer vdv_value(const uint8_t *file, size_t length, size_t section, size_t record, size_t field);
+
+#ifdef __cplusplus
+}
+#endif
+
+#endif

@@ -1,0 +1,40 @@
+/* Reads a file from standard input and says what the library answers of it. */
+#include <stddef.h>
+#include <stdio.h>
+
+#include "vdv.h"
+
+_Static_assert(sizeof(vdv_refusal) == 24 && offsetof(vdv_refusal, line) == 16, "refusal");
+_Static_assert(sizeof(vdv_row) == 48 && offsetof(vdv_row, verdict) == 32, "row");
+_Static_assert(sizeof(vdv_header_answer) == 176 && offsetof(vdv_header_answer, latin) == 88, "header");
+_Static_assert(offsetof(vdv_header_answer, dve) == 128 && offsetof(vdv_header_answer, fft) == 152, "header");
+_Static_assert(sizeof(vdv_row_answer) == 72 && offsetof(vdv_row_answer, row) == 24, "row answer");
+_Static_assert(sizeof(vdv_value_answer) == 56 && offsetof(vdv_value_answer, amount) == 32, "value");
+
+static uint8_t file[65536];
+
+static void say_value(size_t length, size_t field)
+{
+    vdv_value_answer value = vdv_value(file, length, 1, 1, field);
+    printf("value;%u;%u;%llu;", (unsigned)value.number, (unsigned)value.kind, (unsigned long long)value.amount);
+    fwrite(file + value.from, 1, value.to - value.from, stdout);
+    printf("\n");
+}
+
+int main(void)
+{
+    size_t length = fread(file, 1, sizeof file, stdin);
+    vdv_refusal answer = vdv_check(file, length);
+    printf("check;%u;%zu;%zu\n", (unsigned)answer.number, answer.section, answer.line);
+    vdv_header_answer header = vdv_header(file, length);
+    printf("header;%u;%llu;%llu;%llu;%d;%d;%d;%.*s\n", (unsigned)header.number, (unsigned long long)header.year,
+           (unsigned long long)header.second, (unsigned long long)header.day, header.latin, header.dve, header.fft,
+           (int)(header.fft_to - header.fft_from), (const char *)file + header.fft_from);
+    vdv_row_answer section = vdv_section(file, length, 1);
+    printf("section;%u;%u;%zu;%zu\n", (unsigned)section.number, (unsigned)section.row.table, section.row.place,
+           section.row.records);
+    say_value(length, 1);
+    say_value(length, 2);
+    say_value(length, 3);
+    return 0;
+}
