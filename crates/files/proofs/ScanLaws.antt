@@ -1,31 +1,58 @@
 -- A loop over whole lines: the lines passed, those left, and the first at fault. Assumes nothing.
 use mathlib.Core.Path.{_≡_, refl, ap, sym, _∙_}
-use mathlib.Core.Bool.{Bool, true, false}
+use mathlib.Core.Bool.{Bool, true, false, _||_}
 use mathlib.Core.List.{List, [], _∷_, _++_, append-nil}
-use Prim.Native.Nat.{ℕ, suc, _+_, _-_, _<_, _≤_}
+use Prim.Native.Nat.{ℕ, zero, suc, _+_, _-_, _<_, _≤_}
 use native.Mathlib.Numerals.{add-one}
 use native.Mathlib.Omega.{arith}
 use borrow.Author.Tests.{eq-eqb, ne-eqb}
 use lib.Dec.{eqb}
-use lib.ListN.{length, getD, take, drop}
-use lib.Seq.{length-take-le, append-snoc}
+use lib.ListN.{length, getD, take, drop, take-append-drop}
+use lib.Seq.{length-take-le, append-snoc, take-suc}
 use Rattle.page.specs.Bytes.{Bytes, same}
 use Rattle.page.specs.Lines.{lines, joined, content, command, rest, Rec}
 use Rattle.page.specs.Fields.{fields}
 use Rattle.page.specs.File.{any}
 use Rattle.page.proofs.ScanLaws.{part-length}
-use Rattle.page.proofs.LineLaws.{line-size, line-in, cut-at, lines-end, joined-lines, joined-length, run-lines}
+use Rattle.page.proofs.LineLaws.{line-size, line-in, cut-at, lines-end, joined-lines, joined-length, run-lines, ends, lines-append}
+use Rattle.page.proofs.PartLaws.{part-rest}
+use Rattle.page.proofs.KeyLaws.{any-append}
 use Rattle.keys.specs.Numbers.{seven, chosen}
-use Rattle.files.specs.Scan.{is-record, line-key, bears, again, first-line, some}
-
--- a place where a line begins, or the end
-pub record Starts (w : Bytes) (at : ℕ) : Type 0 where
-  pub within : at ≤ length w
-  pub split : lines w ≡ lines (take at w) ++ lines (drop at w)
+use Rattle.files.specs.Scan.{is-record, line-key, bears, again, Starts, first-line, some}
 
 pub starts-first : (w : Bytes) → Starts w 0
 unfolding lines
 starts-first w = record { within = omega arith; split = refl }
+
+-- after a line's end another begins
+pub starts-after : (w : Bytes) (at : ℕ) → (at ≡ 0 → ⊥) → at ≤ length w → getD w (at - 1) 0 ≡ 10 → Starts w at
+starts-after w zero n h e = absurd (n refl)
+starts-after w (suc k) n h e =
+    let o : k ≡ suc k - 1 = omega arith in
+    let b : getD w k 0 ≡ 10 = ap (λ (i : ℕ). getD w i 0) o ∙ e in
+    let t : take (suc k) w ≡ take k w ++ 10 ∷ [] = take-suc w k 0 (omega arith) ∙ ap (λ (x : ℕ). take k w ++ x ∷ []) b in
+    record { within = h; split = ap lines (sym (take-append-drop (suc k) w)) ∙ rw t (lines-append (ends (take k w)) (drop (suc k) w)) }
+
+or-true : (b : Bool) → (b || true) ≡ true
+or-true true = refl
+or-true false = refl
+
+or-false : (b : Bool) → (b || false) ≡ b
+or-false true = refl
+or-false false = refl
+
+-- a search from a place on, and then before it
+module _ (w : Bytes) (at : ℕ) (z : Starts w at) (p : Bytes → Bool) (x : Bool) (e : x ≡ any p (lines (take (length w - at) (drop at w)))) where
+  both : any p (lines w) ≡ (any p (lines (take at w)) || x)
+  both =
+      ap (any p) (z .split) ∙ any-append p (lines (take at w)) (lines (drop at w))
+      ∙ ap (λ (b : Bool). any p (lines (take at w)) || b) (ap (λ (l : Bytes). any p (lines l)) (sym (part-rest at w)) ∙ sym e)
+
+  pub ahead-hit : x ≡ true → true ≡ any p (lines w)
+  ahead-hit t = sym (both ∙ rw t (or-true (any p (lines (take at w)))))
+
+  pub ahead-none : x ≡ false → (y : Bool) → y ≡ any p (lines (take at w)) → y ≡ any p (lines w)
+  ahead-none t y f = f ∙ sym (both ∙ rw t (or-false (any p (lines (take at w)))))
 
 module _ (w : Bytes) (at e : ℕ) (h : at < length w) (q : e ≡ at + line-size (drop at w)) where
   abbrev l : Bytes

@@ -2,10 +2,11 @@
 use mathlib.Core.Path.{_≡_}
 use mathlib.Core.Bool.{Bool, false, _||_}
 use mathlib.Core.List.{List, [], _∷_, _++_}
-use Prim.Native.Nat.{ℕ, zero, suc}
+use Prim.Native.Nat.{ℕ, zero, suc, _≤_}
 use lib.Dec.{eqb}
+use lib.ListN.{length, take, drop}
 use Rattle.page.specs.Bytes.{Bytes, pick, same}
-use Rattle.page.specs.Lines.{content, command, rest, Rec}
+use Rattle.page.specs.Lines.{lines, content, command, rest, Rec}
 use Rattle.page.specs.Fields.{fields}
 use Rattle.page.specs.Answers.{refusal, sound}
 use Rattle.page.specs.File.{any}
@@ -35,6 +36,11 @@ above q k l = pick (is-record l) (less k (line-key q l)) false
 -- no record's key lies above the key k
 pub record Topped (q : ℕ) (k : List ℕ) (ls : List Bytes) : Type 0 where
   pub none : any (above q k) ls ≡ false
+
+-- a place where a line begins, or the end
+pub record Starts (w : Bytes) (at : ℕ) : Type 0 where
+  pub within : at ≤ length w
+  pub split : lines w ≡ lines (take at w) ++ lines (drop at w)
 
 -- the first line that is at fault, where n lines have been read; 0: none is
 unfoldable pub first-line : (List Bytes → Bytes → Bool) → List Bytes → ℕ → List Bytes → ℕ

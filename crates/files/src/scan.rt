@@ -5,7 +5,7 @@ ghost use Prim.Native.Nat.{_-_, _≤_};
 ghost use lib.ListN.{length, take, drop};
 ghost use Rattle.page.specs.Lines.{lines};
 ghost use Rattle.page.specs.File.{any};
-ghost use Rattle.files.specs.Scan.{bears, again, Topped};
+ghost use Rattle.files.specs.Scan.{bears, again, Topped, Starts};
 use keys::Key;
 use lines::Cursor;
 
@@ -20,8 +20,14 @@ fn bears_key(l: &[u8], choice: u64, key: Key) -> bool
     keys::same_key(keys::read_chosen(lines::rest_of(c), choice), key)
 }
 
-pub fn finds(w: &[u8], choice: u64, key: Key) -> bool
-    ensures { λ r. ⌜ r ≡ any (bears choice (key .k)) (lines (now (w .entry))) ⌝ }
+// Whether a search met its record, and where: the next search begins there.
+pub struct Find {
+    pub met: bool,
+    pub at: usize,
+}
+
+pub fn finds(w: &[u8], choice: u64, key: Key) -> Find
+    ensures { λ r. ⌜ (r .met ≡ any (bears choice (key .k)) (lines (now (w .entry)))) × (r .at ≤ length (now (w .entry))) ⌝ }
 {
     let mut c = Cursor { at: 0 };
     while c.at < w.len() {
@@ -30,10 +36,10 @@ pub fn finds(w: &[u8], choice: u64, key: Key) -> bool
         let e = l.span.to;
         c = l.next;
         if bears_key(&w[at..e], choice, key) {
-            return true;
+            return Find { met: true, at: at };
         }
     }
-    false
+    Find { met: false, at: 0 }
 }
 
 // "met before": among the lines before the one at a place.
@@ -41,7 +47,38 @@ pub fn was_met(w: &[u8], at: usize, choice: u64, key: Key) -> bool
     requires { ⌜ at ≤ length (now w) ⌝ }
     ensures { λ r. ⌜ r ≡ any (bears choice (key .k)) (lines (take at (now (w .entry)))) ⌝ }
 {
-    finds(&w[..at], choice, key)
+    finds(&w[..at], choice, key).met
+}
+
+// A place, if a line begins there; else the first line's.
+fn find_start(w: &[u8], at: usize) -> usize
+    ensures { λ r. ⌜ Starts (now (w .entry)) r ⌝ }
+{
+    if at == 0 {
+        return 0;
+    }
+    if w.len() < at {
+        return 0;
+    }
+    if w[at - 1] != 10 {
+        return 0;
+    }
+    at
+}
+
+// From the line at a place on to the last, then from the first: the next record wanted often stands where the last one did, or soon after.
+pub fn finds_from(w: &[u8], at: usize, choice: u64, key: Key) -> Find
+    ensures { λ r. ⌜ r .met ≡ any (bears choice (key .k)) (lines (now (w .entry))) ⌝ }
+{
+    let from = find_start(w, at);
+    let ahead = finds(&w[from..], choice, key);
+    if ahead.met {
+        return Find {
+            met: true,
+            at: from + ahead.at,
+        };
+    }
+    finds(&w[..from], choice, key)
 }
 
 // Whether a line's key was met before, and the largest key up to that line.

@@ -1,10 +1,10 @@
 -- `files::references::first_lost` meets its contract. Assumes nothing.
 use Rattle.files.proofs.LostLaws.{lost-here, lost-none, lost-at}
 use Rattle.files.proofs.RepeatLaws.{seat-bounds}
-use Rattle.files.proofs.ScanLaws.{Starts, starts-first, starts-next, line-more, line-hit, line-end}
+use Rattle.files.proofs.ScanLaws.{starts-first, starts-next, line-more, line-hit, line-end}
 use Rattle.files.specs.Faults.{loses-any, lost-line}
 use Rattle.files.specs.Seating.{seat-at}
-use Rattle.files.specs.Scan.{first-line}
+use Rattle.files.specs.Scan.{Starts, first-line}
 use Rattle.lines.proofs.CursorLaws.{handed}
 use Rattle.page.proofs.ScanLaws.{part-length}
 use Rattle.page.specs.Answers.{sound}
@@ -20,13 +20,13 @@ use Rattle.files.proofs.references.first_lost.Statement.{statement}
 use Rattle.files.proofs.references.first_lost.Tie as tie
 
 abbrev Inv-loop : tie.InvT-loop
-Inv-loop s seats count found₀ i from to t size at₀ n₀ found at n =
+Inv-loop s seats count found₀ i from to t size places₀ at₀ n₀ found places at n =
     (found ≡ sound) × (n ≤ at) × Starts (take (to - from) (drop from s)) at
     × (first-line (loses-any s seats t) (lines (take at (take (to - from) (drop from s)))) n (lines (drop at (take (to - from) (drop from s))))
     ≡ first-line (loses-any s seats t) [] 0 (lines (take (to - from) (drop from s))))
 
 abbrev μ-loop : tie.MeasureT-loop
-μ-loop s seats count found₀ i from to t size at₀ n₀ found at n =
+μ-loop s seats count found₀ i from to t size places₀ at₀ n₀ found places at n =
     size - at
 
 abbrev Inv-scan : tie.InvT-scan
@@ -111,39 +111,39 @@ loses-requires c κs =
     let t = handed w (c .before .before .before .before .loop .at) (c .before .line .result) h (c .before .line .ensures) in
     (c .before .before .before .before .before .before .before .before .before .pre, omega arith, omega arith)
 
-add-t27 : tie.Need-add-t27 Inv-loop μ-loop Inv-scan μ-scan
-add-t27 c = search needs
+add-t29 : tie.Need-add-t29 Inv-loop μ-loop Inv-scan μ-scan
+add-t29 c = search needs
 
 loop-less : tie.Need-loop-less Inv-loop μ-loop Inv-scan μ-scan
 loop-less c =
-    let a = c .before .before .before .before .before .before .before .before .before .before .before .args in
+    let a = c .before .before .before .before .before .before .before .before .before .before .before .before .args in
     let s = a .s .now in
-    let from = c .before .before .before .before .before .before .before .find-seat .result .from in
-    let to = c .before .before .before .before .before .before .before .find-seat .result .to in
-    let b = seat-bounds s (a .seats) (c .before .before .before .before .before .before .before .before .before .before .before .pre) (c .before .before .before .before .before .before .before .before .before .scan .i) (c .before .before .before .before .before .before .before .before .scan-test .taken) (c .before .before .before .before .before .before .before .find-seat .result) (c .before .before .before .before .before .before .before .find-seat .ensures) in
+    let from = c .before .before .before .before .before .before .before .before .find-seat .result .from in
+    let to = c .before .before .before .before .before .before .before .before .find-seat .result .to in
+    let b = seat-bounds s (a .seats) (c .before .before .before .before .before .before .before .before .before .before .before .before .pre) (c .before .before .before .before .before .before .before .before .before .before .scan .i) (c .before .before .before .before .before .before .before .before .before .scan-test .taken) (c .before .before .before .before .before .before .before .before .find-seat .result) (c .before .before .before .before .before .before .before .before .find-seat .ensures) in
     let w = take (to - from) (drop from s) in
     let n = part-length from to s (b .1) in
-    let h : c .before .before .before .before .before .before .loop .at < length w = omega (arith, c .before .before .before .before .before .loop-test .taken) in
-    let t = handed w (c .before .before .before .before .before .before .loop .at) (c .before .before .before .line .result) h (c .before .before .before .line .ensures) in
+    let h : c .before .before .before .before .before .before .before .loop .at < length w = omega (arith, c .before .before .before .before .before .before .loop-test .taken) in
+    let t = handed w (c .before .before .before .before .before .before .before .loop .at) (c .before .before .before .before .line .result) h (c .before .before .before .before .line .ensures) in
     omega arith
 
 loop-again : tie.Need-loop-again Inv-loop μ-loop Inv-scan μ-scan
 loop-again c =
-    let a = c .before .before .before .before .before .before .before .before .before .before .before .args in
+    let a = c .before .before .before .before .before .before .before .before .before .before .before .before .args in
     let s = a .s .now in
-    let from = c .before .before .before .before .before .before .before .find-seat .result .from in
-    let to = c .before .before .before .before .before .before .before .find-seat .result .to in
-    let b = seat-bounds s (a .seats) (c .before .before .before .before .before .before .before .before .before .before .before .pre) (c .before .before .before .before .before .before .before .before .before .scan .i) (c .before .before .before .before .before .before .before .before .scan-test .taken) (c .before .before .before .before .before .before .before .find-seat .result) (c .before .before .before .before .before .before .before .find-seat .ensures) in
+    let from = c .before .before .before .before .before .before .before .before .find-seat .result .from in
+    let to = c .before .before .before .before .before .before .before .before .find-seat .result .to in
+    let b = seat-bounds s (a .seats) (c .before .before .before .before .before .before .before .before .before .before .before .before .pre) (c .before .before .before .before .before .before .before .before .before .before .scan .i) (c .before .before .before .before .before .before .before .before .before .scan-test .taken) (c .before .before .before .before .before .before .before .before .find-seat .result) (c .before .before .before .before .before .before .before .before .find-seat .ensures) in
     let w = take (to - from) (drop from s) in
     let n = part-length from to s (b .1) in
-    let l = c .before .before .before .before .before .before .loop in
-    let h : l .at < length w = omega (arith, c .before .before .before .before .before .loop-test .taken) in
-    let t = handed w (l .at) (c .before .before .before .line .result) h (c .before .before .before .line .ensures) in
-    let e = c .before .before .before .line .result .span .to in (
+    let l = c .before .before .before .before .before .before .before .loop in
+    let h : l .at < length w = omega (arith, c .before .before .before .before .before .before .loop-test .taken) in
+    let t = handed w (l .at) (c .before .before .before .before .line .result) h (c .before .before .before .before .line .ensures) in
+    let e = c .before .before .before .before .line .result .span .to in (
       l .inv .0,
       omega arith,
       starts-next w (l .at) e h (t .size) (l .inv .2),
-      sym (line-more w (l .at) e h (t .size) (l .inv .2) (loses-any s (a .seats) (c .before .before .before .before .before .before .before .find-seat .result .table)) (l .n) (sym (c .before .loses .ensures) ∙ c .if1 .left)) ∙ l .inv .3,
+      sym (line-more w (l .at) e h (t .size) (l .inv .2) (loses-any s (a .seats) (c .before .before .before .before .before .before .before .before .find-seat .result .table)) (l .n) (sym (c .before .before .loses .ensures) ∙ c .if1 .left)) ∙ l .inv .3,
     )
 
 add-i : tie.Need-add-i Inv-loop μ-loop Inv-scan μ-scan
@@ -178,20 +178,20 @@ returns c =
 
 returns-2 : tie.Need-returns-2 Inv-loop μ-loop Inv-scan μ-scan
 returns-2 c =
-    let a = c .before .before .before .before .before .before .before .before .before .before .before .args in
+    let a = c .before .before .before .before .before .before .before .before .before .before .before .before .args in
     let s = a .s .now in
-    let from = c .before .before .before .before .before .before .before .find-seat .result .from in
-    let to = c .before .before .before .before .before .before .before .find-seat .result .to in
-    let b = seat-bounds s (a .seats) (c .before .before .before .before .before .before .before .before .before .before .before .pre) (c .before .before .before .before .before .before .before .before .before .scan .i) (c .before .before .before .before .before .before .before .before .scan-test .taken) (c .before .before .before .before .before .before .before .find-seat .result) (c .before .before .before .before .before .before .before .find-seat .ensures) in
+    let from = c .before .before .before .before .before .before .before .before .find-seat .result .from in
+    let to = c .before .before .before .before .before .before .before .before .find-seat .result .to in
+    let b = seat-bounds s (a .seats) (c .before .before .before .before .before .before .before .before .before .before .before .before .pre) (c .before .before .before .before .before .before .before .before .before .before .scan .i) (c .before .before .before .before .before .before .before .before .before .scan-test .taken) (c .before .before .before .before .before .before .before .before .find-seat .result) (c .before .before .before .before .before .before .before .before .find-seat .ensures) in
     let w = take (to - from) (drop from s) in
     let n = part-length from to s (b .1) in
-    let l = c .before .before .before .before .before .before .loop in
-    let h : l .at < length w = omega (arith, c .before .before .before .before .before .loop-test .taken) in
-    let t = handed w (l .at) (c .before .before .before .line .result) h (c .before .before .before .line .ensures) in
-    let e = c .before .before .before .line .result .span .to in
-    sym (lost-at s (a .seats) (c .before .before .before .before .before .before .before .before .before .before .before .pre) (c .before .before .before .before .before .before .before .before .before .scan .i) (l .n) (c .before .before .before .before .before .before .before .before .scan-test .taken) (c .before .before .before .before .before .before .before .before .before .scan .inv .2)
-    (lost-here s (a .seats) (c .before .before .before .before .before .before .before .before .before .before .before .pre) (c .before .before .before .before .before .before .before .before .before .scan .i) (c .before .before .before .before .before .before .before .find-seat .result) (l .n + 1) (c .before .before .before .before .before .before .before .find-seat .ensures)
-    (sym (l .inv .3) ∙ line-hit w (l .at) e h (t .size) (loses-any s (a .seats) (c .before .before .before .before .before .before .before .find-seat .result .table)) (l .n) (sym (c .before .loses .ensures) ∙ c .if1 .taken))))
+    let l = c .before .before .before .before .before .before .before .loop in
+    let h : l .at < length w = omega (arith, c .before .before .before .before .before .before .loop-test .taken) in
+    let t = handed w (l .at) (c .before .before .before .before .line .result) h (c .before .before .before .before .line .ensures) in
+    let e = c .before .before .before .before .line .result .span .to in
+    sym (lost-at s (a .seats) (c .before .before .before .before .before .before .before .before .before .before .before .before .pre) (c .before .before .before .before .before .before .before .before .before .before .scan .i) (l .n) (c .before .before .before .before .before .before .before .before .before .scan-test .taken) (c .before .before .before .before .before .before .before .before .before .before .scan .inv .2)
+    (lost-here s (a .seats) (c .before .before .before .before .before .before .before .before .before .before .before .before .pre) (c .before .before .before .before .before .before .before .before .before .before .scan .i) (c .before .before .before .before .before .before .before .before .find-seat .result) (l .n + 1) (c .before .before .before .before .before .before .before .before .find-seat .ensures)
+    (sym (l .inv .3) ∙ line-hit w (l .at) e h (t .size) (loses-any s (a .seats) (c .before .before .before .before .before .before .before .before .find-seat .result .table)) (l .n) (sym (c .before .before .loses .ensures) ∙ c .if1 .taken))))
 
 pub first-lost-spec : {M : Type 1} → statement M
 first-lost-spec =
@@ -214,7 +214,7 @@ first-lost-spec =
     part-loses-start
     part-loses-end
     loses-requires
-    add-t27
+    add-t29
     loop-less
     loop-again
     add-i

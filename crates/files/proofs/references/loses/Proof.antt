@@ -12,11 +12,11 @@ use Rattle.files.proofs.references.loses.Statement.{statement}
 use Rattle.files.proofs.references.loses.Tie as tie
 
 abbrev Inv-loop : tie.InvT-loop
-Inv-loop s w at e seats t f n r₀ r =
+Inv-loop s w at e seats t f n places₀ r₀ places r =
     (r ≤ n) × (some (misses s seats t (fields f)) r (n - r) ≡ some (misses s seats t (fields f)) 0 n)
 
 abbrev μ-loop : tie.MeasureT-loop
-μ-loop s w at e seats t f n r₀ r =
+μ-loop s w at e seats t f n places₀ r₀ places r =
     n - r
 
 sub-content-of : tie.Need-sub-content-of Inv-loop μ-loop
@@ -50,18 +50,24 @@ loop-holds c =
     let n : c .count-references .result - 0 ≡ c .count-references .result = omega arith in
     (omega arith, rw n)
 
+last-place-requires : tie.Need-last-place-requires Inv-loop μ-loop
+last-place-requires c κs = search needs
+
 reaches-requires : tie.Need-reaches-requires Inv-loop μ-loop
 reaches-requires c κs =
-    c .before .before .before .before .before .before .before .before .before .before .pre .0
+    c .before .before .before .before .before .before .before .before .before .before .before .pre .0
 
 returns-2 : tie.Need-returns-2 Inv-loop μ-loop
 returns-2 c =
-    let a = c .before .before .before .before .before .before .before .before .before .before .before .before .args in
-    let l = c .before .before .before .loop in
-    let n = c .before .before .before .before .count-references .result in
-    sym (loses-record (a .s .now) (a .seats) (c .before .before .before .before .before .before .before .before .before .before .before .before .pre .0) (a .t) _ _ _ (c .before .before .before .before .before .before .before .before .content-of .ensures) (c .before .before .before .before .before .before .before .command-of .ensures) (c .before .before .before .before .before .before .if1 .left) _ (c .before .before .before .before .before .rest-of .ensures) n (c .before .before .before .before .count-references .ensures)
+    let a = c .before .before .before .before .before .before .before .before .before .before .before .before .before .before .args in
+    let l = c .before .before .before .before .before .loop in
+    let n = c .before .before .before .before .before .before .count-references .result in
+    sym (loses-record (a .s .now) (a .seats) (c .before .before .before .before .before .before .before .before .before .before .before .before .before .before .pre .0) (a .t) _ _ _ (c .before .before .before .before .before .before .before .before .before .before .content-of .ensures) (c .before .before .before .before .before .before .before .before .before .command-of .ensures) (c .before .before .before .before .before .before .before .before .if1 .left) _ (c .before .before .before .before .before .before .before .rest-of .ensures) n (c .before .before .before .before .before .before .count-references .ensures)
     ∙ sym (l .inv .1)
-    ∙ some-hit _ (l .r) n (c .before .before .loop-test .taken) (misses-is (a .s .now) (a .seats) (c .before .before .before .before .before .before .before .before .before .before .before .before .pre .0) (a .t) _ (l .r) _ _ (c .before .reaches .ensures) (c .if2 .taken)))
+    ∙ some-hit _ (l .r) n (c .before .before .before .before .loop-test .taken) (misses-is (a .s .now) (a .seats) (c .before .before .before .before .before .before .before .before .before .before .before .before .before .before .pre .0) (a .t) _ (l .r) _ _ (c .before .before .reaches .ensures) (c .if2 .taken)))
+
+keep-place-requires : tie.Need-keep-place-requires Inv-loop μ-loop
+keep-place-requires c κs = search needs
 
 add-r : tie.Need-add-r Inv-loop μ-loop
 add-r c = search needs
@@ -71,10 +77,10 @@ loop-less c = search needs
 
 loop-again : tie.Need-loop-again Inv-loop μ-loop
 loop-again c =
-    let a = c .before .before .before .before .before .before .before .before .before .before .before .before .args in
-    let l = c .before .before .before .loop in
-    let n = c .before .before .before .before .count-references .result in
-    (omega arith, sym (some-more _ (l .r) n (c .before .before .loop-test .taken) (misses-is (a .s .now) (a .seats) (c .before .before .before .before .before .before .before .before .before .before .before .before .pre .0) (a .t) _ (l .r) _ _ (c .before .reaches .ensures) (c .if2 .left))) ∙ l .inv .1)
+    let a = c .before .before .before .before .before .before .before .before .before .before .before .before .before .before .before .args in
+    let l = c .before .before .before .before .before .before .loop in
+    let n = c .before .before .before .before .before .before .before .count-references .result in
+    (omega arith, sym (some-more _ (l .r) n (c .before .before .before .before .before .loop-test .taken) (misses-is (a .s .now) (a .seats) (c .before .before .before .before .before .before .before .before .before .before .before .before .before .before .before .pre .0) (a .t) _ (l .r) _ _ (c .before .before .before .reaches .ensures) (c .before .if2 .left))) ∙ l .inv .1)
 
 returns-3 : tie.Need-returns-3 Inv-loop μ-loop
 returns-3 c =
@@ -99,8 +105,10 @@ loses-spec =
     rest-of-requires
     count-references-requires
     loop-holds
+    last-place-requires
     reaches-requires
     returns-2
+    keep-place-requires
     add-r
     loop-less
     loop-again

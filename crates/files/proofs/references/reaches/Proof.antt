@@ -28,22 +28,22 @@ find-seat-requires c κs =
     let n = place-few (a .s .now) (a .seats) (c .before .before .before .before .before .pre) (c .before .before .find-target .result) (c .before .find-place .result) (c .before .find-place .ensures) (c .if1 .left) in
     omega (arith, c .before .before .before .before .before .pre .few)
 
-sub-finds : tie.Need-sub-finds
-sub-finds c =
+sub-finds-from : tie.Need-sub-finds-from
+sub-finds-from c =
     let a = c .before .before .before .before .before .before .args in
     let n = place-few (a .s .now) (a .seats) (c .before .before .before .before .before .before .pre) (c .before .before .before .find-target .result) (c .before .before .find-place .result) (c .before .before .find-place .ensures) (c .before .if1 .left) in
     let b = seat-bounds (a .s .now) (a .seats) (c .before .before .before .before .before .before .pre) (c .before .before .find-place .result - 1) n (c .find-seat .result) (c .find-seat .ensures) in
     search needs
 
-part-finds-start : tie.Need-part-finds-start
-part-finds-start c =
+part-finds-from-start : tie.Need-part-finds-from-start
+part-finds-from-start c =
     let a = c .before .before .before .before .before .before .args in
     let n = place-few (a .s .now) (a .seats) (c .before .before .before .before .before .before .pre) (c .before .before .before .find-target .result) (c .before .before .find-place .result) (c .before .before .find-place .ensures) (c .before .if1 .left) in
     let b = seat-bounds (a .s .now) (a .seats) (c .before .before .before .before .before .before .pre) (c .before .before .find-place .result - 1) n (c .find-seat .result) (c .find-seat .ensures) in
     search needs
 
-part-finds-end : tie.Need-part-finds-end
-part-finds-end c =
+part-finds-from-end : tie.Need-part-finds-from-end
+part-finds-from-end c =
     let a = c .before .before .before .before .before .before .args in
     let n = place-few (a .s .now) (a .seats) (c .before .before .before .before .before .before .pre) (c .before .before .before .find-target .result) (c .before .before .find-place .result) (c .before .before .find-place .ensures) (c .before .if1 .left) in
     let b = seat-bounds (a .s .now) (a .seats) (c .before .before .before .before .before .before .pre) (c .before .before .find-place .result - 1) n (c .find-seat .result) (c .find-seat .ensures) in
@@ -55,13 +55,13 @@ choose-key-requires c κs = search needs
 read-reference-requires : tie.Need-read-reference-requires
 read-reference-requires c κs = search needs
 
-finds-requires : tie.Need-finds-requires
-finds-requires c κs = search needs
+finds-from-requires : tie.Need-finds-from-requires
+finds-from-requires c κs = search needs
 
 returns-2 : tie.Need-returns-2
 returns-2 c =
     let a = c .before .before .before .before .before .before .before .before .before .before .args in
-    c .finds .ensures
+    c .finds-from .ensures
     ∙ sym (reaches-some (a .s .now) (a .seats) (c .before .before .before .before .before .before .before .before .before .before .pre) (a .t) (a .r) _ (c .before .before .before .before .before .before .before .find-target .result) (c .before .before .before .before .before .before .before .find-target .ensures) (c .before .before .before .before .before .before .find-place .result) (c .before .before .before .before .before .before .find-place .ensures) (c .before .before .before .before .before .if1 .left)
     (c .before .before .before .before .find-seat .result) (c .before .before .before .before .find-seat .ensures) (c .before .before .choose-key .result) (c .before .before .choose-key .ensures) (c .before .read-reference .result .k) (c .before .read-reference .ensures))
 
@@ -74,10 +74,10 @@ reaches-spec =
     returns
     sub-find-seat
     find-seat-requires
-    sub-finds
-    part-finds-start
-    part-finds-end
+    sub-finds-from
+    part-finds-from-start
+    part-finds-from-end
     choose-key-requires
     read-reference-requires
-    finds-requires
+    finds-from-requires
     returns-2)

@@ -1,10 +1,10 @@
 -- `files::repeats::first_repeat` meets its contract. Assumes nothing.
 use Rattle.files.proofs.RepeatLaws.{scan-bounds, repeat-is, repeats-none, repeats-at}
-use Rattle.files.proofs.ScanLaws.{Starts, starts-first, starts-next, passed-lines, line-more, line-hit, line-end}
+use Rattle.files.proofs.ScanLaws.{starts-first, starts-next, passed-lines, line-more, line-hit, line-end}
 use Rattle.files.proofs.TopLaws.{topped-none}
 use Rattle.files.specs.Faults.{repeat-line}
 use Rattle.files.specs.Seating.{seat-at}
-use Rattle.files.specs.Scan.{again, first-line, Topped}
+use Rattle.files.specs.Scan.{again, Topped, Starts, first-line}
 use Rattle.lines.proofs.CursorLaws.{handed}
 use Rattle.keys.specs.Numbers.{by-key, key-choice}
 use Rattle.page.proofs.ScanLaws.{part-length}

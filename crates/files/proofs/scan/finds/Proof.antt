@@ -50,7 +50,7 @@ returns c =
     let w = c .before .before .before .before .before .before .before .before .before .args .w .now in
     let l = c .before .before .before .before .before .before .before .loop in
     let t = handed w (l .c .at) (c .before .before .before .before .line .result) (c .before .before .before .before .before .if1 .taken) (c .before .before .before .before .line .ensures) in
-    sym (any-hit w (l .c .at) (c .before .before .before .before .line .result .span .to) (c .before .before .before .before .before .if1 .taken) (t .size) _ (sym (c .before .bears-key .ensures) ∙ c .if2 .taken)) ∙ l .inv .1
+    (sym (any-hit w (l .c .at) (c .before .before .before .before .line .result .span .to) (c .before .before .before .before .before .if1 .taken) (t .size) _ (sym (c .before .bears-key .ensures) ∙ c .if2 .taken)) ∙ l .inv .1, omega arith)
 
 loop-less : tie.Need-loop-less Inv-loop μ-loop
 loop-less c =
@@ -68,7 +68,7 @@ returns-2 : tie.Need-returns-2 Inv-loop μ-loop
 returns-2 c =
     let w = c .before .before .before .before .args .w .now in
     let l = c .before .before .loop in
-    sym (any-end w (l .c .at) _ (c .if1 .left)) ∙ l .inv .1
+    (sym (any-end w (l .c .at) _ (c .if1 .left)) ∙ l .inv .1, omega arith)
 
 pub finds-spec : {M : Type 1} → statement M
 finds-spec =

@@ -13,7 +13,7 @@ finds-requires : tie.Need-finds-requires
 finds-requires c κs = search needs
 
 returns : tie.Need-returns
-returns c = search needs
+returns c = c .finds .ensures .0
 
 pub was-met-spec : {M : Type 1} → statement M
 was-met-spec = tie.close (tie.spec slice-aggregate-finds finds-requires returns)
