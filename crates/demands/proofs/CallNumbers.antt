@@ -11,12 +11,12 @@ use Rattle.page.specs.Bytes.{Bytes, pick, all}
 use Rattle.page.specs.Tables.{column-at, width}
 use Rattle.page.specs.Cut.{sections, header-lines}
 use Rattle.page.specs.Header.{headOf}
-use Rattle.page.specs.Head.{header-values, latinOf}
+use Rattle.page.specs.Head.{latinOf}
 use Rattle.page.specs.Section.{outcome, refused}
 use Rattle.page.specs.Records.{number, table-of}
 use Rattle.page.specs.Answers.{refusal, sound, earlier, refuse-if}
 use Rattle.page.specs.File.{limit, too-long, found, row-of, rowOf, header-refusal, section-refusal, file-refusal}
-use Rattle.page.specs.Reading.{outside, section-at, row-at, headerOf, find-refusal, sectionOf, list-refusal, listOf, verdict-of, value-refusal, value-at, valueOf}
+use Rattle.page.specs.Reading.{outside, section-at, row-at, find-refusal, sectionOf, list-refusal, listOf, verdict-of, value-refusal, value-at, valueOf}
 use Rattle.page.specs.Handing.{text-refusal, own-text, textOut, cellsOf, table-refusal, cells-refusal, tableOf}
 use Rattle.page.specs.Writing.{put-refusal, putOf}
 use Rattle.page.specs.Trailer.{trailerOf}
@@ -24,7 +24,6 @@ use Rattle.page.specs.Refusals.{Refused}
 use Rattle.page.specs.declared.Refusal.{Refusal}
 use Rattle.page.specs.declared.Finding.{Finding}
 use Rattle.page.specs.declared.Checked.the-variants as C
-use Rattle.page.specs.declared.Headed.the-variants as H
 use Rattle.page.specs.declared.Listed.the-variants as L
 use Rattle.page.specs.declared.Got.the-variants as G
 use Rattle.page.specs.declared.Written.the-variants as W
@@ -37,12 +36,12 @@ use Rattle.demands.proofs.Refuses.{refuses-exactly, refused-ranged, sec
 use Rattle.demands.proofs.RoundKeys.{earlier-none}
 use Rattle.demands.proofs.Numbers.{exactly-section}
 use Rattle.demands.proofs.PromisesListing.{header-told, file-ranged}
-use Rattle.demands.proofs.CallAnswers.{some-number, written-exactly, got-exactly, listed-exactly, headed-exactly, checked-exactly}
+use Rattle.demands.proofs.CallAnswers.{some-number, written-exactly, got-exactly, listed-exactly, checked-exactly}
 use Rattle.demands.proofs.Turns.{earlier-exactly, turned, via, second, outside-d, within-not, not-within}
 
 -- what the header and the file never answer
 
-header-small : (s : Bytes) → header-refusal s .number ≤ 2
+pub header-small : (s : Bytes) → header-refusal s .number ≤ 2
 header-small s = by (header-told s)
   where
     by : (header-refusal s .number ≡ 0) ⊎ ((header-refusal s .number ≡ 1) ⊎ (header-refusal s .number ≡ 2)) → header-refusal s .number ≤ 2
@@ -113,7 +112,7 @@ abbrev pub Open : Bytes → Type 0
 Open s = header-refusal s .number ≡ 0
 
 -- what follows the header's answer
-after-header : (s : Bytes) (b : Refusal) (x : Refusal) → 2 < x .number → earlier (header-refusal s) b ≡ x ↔ (Open s × (b ≡ x))
+pub after-header : (s : Bytes) (b : Refusal) (x : Refusal) → 2 < x .number → earlier (header-refusal s) b ≡ x ↔ (Open s × (b ≡ x))
 after-header s b x l = (λ e. into (earlier-exactly (header-refusal s) b x z .0 e), λ h. earlier-exactly (header-refusal s) b x z .1 (inr h))
   where
     z : ¬ (x .number ≡ 0)
@@ -154,11 +153,11 @@ list-21 s room =
 
 -- a call that nothing refuses
 
-none-exactly : (a b : Refusal) → earlier a b .number ≡ 0 ↔ ((a .number ≡ 0) × (b .number ≡ 0))
+pub none-exactly : (a b : Refusal) → earlier a b .number ≡ 0 ↔ ((a .number ≡ 0) × (b .number ≡ 0))
 unfolding earlier
 none-exactly a b = (earlier-none a b, λ h. rw (h .0) (h .1))
 
-if-none : {A : Type 0} {b : Bool} (v : ℕ) → ¬ (v ≡ 0) → Decides A b → refuse-if b v .number ≡ 0 ↔ (¬ A)
+pub if-none : {A : Type 0} {b : Bool} (v : ℕ) → ¬ (v ≡ 0) → Decides A b → refuse-if b v .number ≡ 0 ↔ (¬ A)
 unfolding refuse-if
 if-none v z (holds a) = (λ e. absurd (z e), λ n. absurd (n a))
 if-none v z (fails n) = (λ e. n, λ m. refl)
@@ -169,7 +168,7 @@ find-open s i =
     via (none-exactly (header-refusal s) (refuse-if (outside i (length (sections s))) 24))
     (second (via (if-none 24 (some-number 24 (omega arith)) (outside-d i (length (sections s)))) (within-not i (length (sections s)), not-within i (length (sections s)))))
 
-verdict-open : (s : Bytes) (i : ℕ) → verdict-of i (row-at s i) .number ≡ 0 ↔ row-at s i .verdict ≡ 0
+pub verdict-open : (s : Bytes) (i : ℕ) → verdict-of i (row-at s i) .number ≡ 0 ↔ row-at s i .verdict ≡ 0
 unfolding verdict-of
 verdict-open s i = (by (eqb (row-at s i .verdict) 0) refl, λ e. rw e)
   where
@@ -178,7 +177,7 @@ verdict-open s i = (by (eqb (row-at s i .verdict) 0) refl, λ e. rw e)
     by false h e = e
 
 -- a section's own verdict, with its place: the section is refused so
-verdict-exactly : (s : Bytes) (i v j n : ℕ) → ¬ (v ≡ 0) → verdict-of i (row-at s i) ≡ refusal v j n ↔ ((j ≡ i) × ((k : ℕ) × Refused (latinOf s) (section-at s i .lines) k v n))
+pub verdict-exactly : (s : Bytes) (i v j n : ℕ) → ¬ (v ≡ 0) → verdict-of i (row-at s i) ≡ refusal v j n ↔ ((j ≡ i) × ((k : ℕ) × Refused (latinOf s) (section-at s i .lines) k v n))
 unfolding verdict-of row-at rowOf row-of
 verdict-exactly s i v j n z = (into (section-settled (latinOf s) (section-at s i .lines)), back)
   where
@@ -327,7 +326,7 @@ pub value-24 : (s : Bytes) (i r f : ℕ) → valueOf s i r f ≡ G.Refused (refu
 unfolding valueOf
 value-24 s i r f = via (got-exactly (value-refusal s i r f) (refusal 24 0 0) (some-number 24 (omega arith)) (value-at (section-at s i) r f)) (value-refused-24 s i r f)
 
-if-number : (b : Bool) (u v : ℕ) → ¬ (v ≡ 0) → ¬ (u ≡ v) → (x : Refusal) → refuse-if b u ≡ x → ¬ (x .number ≡ v)
+pub if-number : (b : Bool) (u v : ℕ) → ¬ (v ≡ 0) → ¬ (u ≡ v) → (x : Refusal) → refuse-if b u ≡ x → ¬ (x .number ≡ v)
 unfolding refuse-if
 if-number true u v z w x e h = w (ap (λ (q : Refusal). q .number) e ∙ h)
 if-number false u v z w x e h = z (sym (ap (λ (q : Refusal). q .number) e ∙ h))
@@ -389,7 +388,7 @@ text-11 s i r f room =
         (inr (value-given s i r f .1 (h .0), if-exactly 11 z (turned (is-d (column-at (table-of (section-at s i .lines)) (f - 1) .text))) .1 (h .1)))
 
 -- what is asked first decides, unless the answer is the later question's
-first-alone : (a : Refusal) (b : Bool) (u : ℕ) (x : Refusal) → ¬ (x .number ≡ 0) → ¬ (x ≡ refusal u 0 0) → earlier a (refuse-if b u) ≡ x ↔ a ≡ x
+pub first-alone : (a : Refusal) (b : Bool) (u : ℕ) (x : Refusal) → ¬ (x .number ≡ 0) → ¬ (x ≡ refusal u 0 0) → earlier a (refuse-if b u) ≡ x ↔ a ≡ x
 unfolding refuse-if
 first-alone a b u x z other = (λ e. into b (earlier-exactly a (refuse-if b u) x z .0 e), λ e. earlier-exactly a (refuse-if b u) x z .1 (inl e))
   where
@@ -409,7 +408,7 @@ text-else s i r f room x z other full =
 
 -- `table`
 
-table-first : (s : Bytes) (i room : ℕ) (x : Refusal) → ¬ (x .number ≡ 0) → ¬ (x ≡ refusal 21 0 0) → tableOf s i room ≡ W.Refused x ↔ table-refusal s i ≡ x
+pub table-first : (s : Bytes) (i room : ℕ) (x : Refusal) → ¬ (x .number ≡ 0) → ¬ (x ≡ refusal 21 0 0) → tableOf s i room ≡ W.Refused x ↔ table-refusal s i ≡ x
 unfolding tableOf cells-refusal
 table-first s i room x z full =
     via (written-exactly (cells-refusal s i room) x z (length (cellsOf (section-at s i))))
@@ -460,99 +459,3 @@ table-verdict s i room v j n lo hi =
             (find-refusal s i ≡ refusal v j n) ⊎ ((find-refusal s i .number ≡ 0) × (verdict-of i (row-at s i) ≡ refusal v j n))
         by (inl h) = inl h
         by (inr h) = inr (h .0, same .0 (h .1))
-
--- 1 and 2 are the header's for each of these calls
-
-module _ (s : Bytes) (x : Refusal) (some : 0 < x .number) (small : x .number ≤ 2) where
-  -- what never gives 1 or 2
-  abbrev Big : Refusal → Type 0
-  Big b = ¬ (b ≡ x)
-
-  numbered : ¬ (x .number ≡ 0)
-  numbered e = omega arith
-
-  big-if : (b : Bool) (u : ℕ) → 2 < u → Big (refuse-if b u)
-  unfolding refuse-if
-  big-if true u l e = let k : u ≡ x .number = ap (λ (q : Refusal). q .number) e in omega arith
-  big-if false u l e = let k : 0 ≡ x .number = ap (λ (q : Refusal). q .number) e in omega arith
-
-  big-earlier : (a b : Refusal) → Big a → Big b → Big (earlier a b)
-  big-earlier a b f g e = by (earlier-exactly a b x numbered .0 e)
-    where
-      by : (a ≡ x) ⊎ ((a .number ≡ 0) × (b ≡ x)) → ⊥
-      by (inl e) = f e
-      by (inr e) = g (e .1)
-
-  big-verdict : (i : ℕ) → Big (verdict-of i (row-at s i))
-  big-verdict i e =
-      let h = verdict-exactly s i (x .number) (x .section) (x .line) numbered .0 e in
-      let w = refused-ranged (latinOf s) (section-at s i .lines) (h .1 .0) (x .number) (x .line) (h .1 .1) in
-      omega (arith, w)
-
-  -- a first part that the header begins, and a further one that never gives 1 or 2
-  further-big : (a b : Refusal) → a ≡ x ↔ header-refusal s ≡ x → Big b → earlier a b ≡ x ↔ header-refusal s ≡ x
-  further-big a b f g = via (λ e. by (earlier-exactly a b x numbered .0 e), λ e. earlier-exactly a b x numbered .1 (inl e)) f
-    where
-      by : (a ≡ x) ⊎ ((a .number ≡ 0) × (b ≡ x)) → a ≡ x
-      by (inl e) = e
-      by (inr e) = absurd (g (e .1))
-
-  itself : header-refusal s ≡ x ↔ header-refusal s ≡ x
-  itself = (λ e. e, λ e. e)
-
-  find-header : (i : ℕ) → find-refusal s i ≡ x ↔ header-refusal s ≡ x
-  unfolding find-refusal
-  find-header i = further-big (header-refusal s) _ itself (big-if (outside i (length (sections s))) 24 (omega arith))
-
-  pub headerOf-header : headerOf s ≡ H.Refused x ↔ header-refusal s ≡ x
-  unfolding headerOf
-  headerOf-header = headed-exactly (header-refusal s) x numbered (header-values (header-lines s))
-
-  pub section-header : (i : ℕ) → sectionOf s i ≡ L.Refused x ↔ header-refusal s ≡ x
-  unfolding sectionOf
-  section-header i = via (listed-exactly (find-refusal s i) x numbered (row-at s i)) (find-header i)
-
-  pub value-header : (i r f : ℕ) → valueOf s i r f ≡ G.Refused x ↔ header-refusal s ≡ x
-  unfolding valueOf value-refusal
-  value-header i r f =
-      via (got-exactly (value-refusal s i r f) x numbered (value-at (section-at s i) r f))
-      (further-big (find-refusal s i) _ (find-header i)
-      (big-earlier (verdict-of i (row-at s i)) _ (big-verdict i) (big-if (outside r (row-at s i .records) || outside f (width (table-of (section-at s i .lines)))) 24 (omega arith))))
-
-  pub text-header : (i r f room : ℕ) → textOut s i r f room ≡ W.Refused x ↔ header-refusal s ≡ x
-  text-header i r f room =
-      via (text-else s i r f room x numbered (λ e. let k : x .number ≡ 11 = ap (λ (q : Refusal). q .number) e in omega arith)
-      (λ e. let k : x .number ≡ 21 = ap (λ (q : Refusal). q .number) e in omega arith)) (value-header i r f)
-
-  pub table-header : (i room : ℕ) → tableOf s i room ≡ W.Refused x ↔ header-refusal s ≡ x
-  unfolding table-refusal
-  table-header i room =
-      via (table-first s i room x numbered (λ e. let k : x .number ≡ 21 = ap (λ (q : Refusal). q .number) e in omega arith))
-      (further-big (find-refusal s i) _ (find-header i) (big-verdict i))
-
-  -- the file's too
-  pub file-header : file-refusal s ≡ x ↔ header-refusal s ≡ x
-  unfolding file-refusal
-  file-header =
-      (λ e. by (earlier-exactly (header-refusal s) _ x numbered .0 e) e, λ e. earlier-exactly (header-refusal s) _ x numbered .1 (inl e))
-    where
-      ranged : (file-refusal s .number ≡ 0) ⊎ ((3 ≤ file-refusal s .number) × (file-refusal s .number ≤ 20)) → file-refusal s ≡ x → ⊥
-      ranged (inl z) e = let k : file-refusal s .number ≡ x .number = ap (λ (q : Refusal). q .number) e in omega arith
-      ranged (inr z) e = let k : file-refusal s .number ≡ x .number = ap (λ (q : Refusal). q .number) e in omega (arith, z)
-
-      by : (header-refusal s ≡ x) ⊎ ((header-refusal s .number ≡ 0) × (earlier (found (trailerOf s)) (section-refusal s) ≡ x)) → file-refusal s ≡ x → header-refusal s ≡ x
-      by (inl h) e = h
-      by (inr h) e = absurd (ranged (file-ranged s (h .0)) e)
-
-  pub list-header : (room : ℕ) → listOf s room ≡ C.Refused x ↔ header-refusal s ≡ x
-  unfolding listOf list-refusal
-  list-header room =
-      via (checked-exactly (earlier (list-refusal s room) (file-refusal s)) x numbered)
-      (λ e. by (earlier-exactly (list-refusal s room) (file-refusal s) x numbered .0 e), λ e. earlier-exactly (list-refusal s room) (file-refusal s) x numbered .1 (inl (first .1 e)))
-    where
-      first : earlier (header-refusal s) (refuse-if (ltb room (length (sections s))) 21) ≡ x ↔ header-refusal s ≡ x
-      first = further-big (header-refusal s) _ itself (big-if (ltb room (length (sections s))) 21 (omega arith))
-
-      by : (list-refusal s room ≡ x) ⊎ ((list-refusal s room .number ≡ 0) × (file-refusal s ≡ x)) → header-refusal s ≡ x
-      by (inl e) = first .0 e
-      by (inr e) = file-header .0 (e .1)

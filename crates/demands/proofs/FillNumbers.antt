@@ -2,7 +2,7 @@
 -- Assumes nothing.
 use mathlib.Core.Path.{_≡_, refl, ap, sym, _∙_}
 use mathlib.Core.Bool.{Bool, true, false, not, _||_, false≢true}
-use mathlib.Core.List.{[], _∷_}
+use mathlib.Core.List.{List, [], _∷_}
 use mathlib.Core.Logic.{_⊎_, inl, inr, _↔_}
 use Prim.Native.Nat.{ℕ, _-_, _<_, _≤_}
 use native.Mathlib.Omega.{arith}
@@ -24,7 +24,7 @@ use Rattle.page.specs.Rules.{none-left, one-more}
 use Rattle.page.specs.declared.Refusal.{Refusal}
 use Rattle.page.specs.declared.Owner.{Owner}
 use Rattle.page.specs.declared.Written.the-variants as W
-use Rattle.demands.specs.Turns.{first-refusal, Turn, Outside, fill-questions}
+use Rattle.demands.specs.Turns.{Question, ask, first-refusal, Turn, Outside, fill-questions}
 use Rattle.demands.proofs.Decides.{Decides, fails, one-of, when, equal, below}
 use Rattle.demands.proofs.Tests.{is-d}
 use Rattle.demands.proofs.PromisesRoom.{TooLong}
@@ -67,6 +67,10 @@ MayFill s i f = column-at (table-of (section-at s i .lines)) (f - 1) .fillable �
 -- an empty text stands there
 abbrev pub IsEmpty : Bytes → ℕ → ℕ → ℕ → Type 0
 IsEmpty s i r f = (o : Owner) × (datum-at i r f (modelOf s) ≡ words o [])
+
+-- the field is there, may be filled and is empty, and what else
+abbrev pub Blank : Bytes → ℕ → ℕ → ℕ → Type 0 → Type 0
+Blank s i r f what = (¬ NoPlace s i r f) × (MayFill s i f × (IsEmpty s i r f × what))
 
 -- every byte of the text may stand in a `rec`
 abbrev pub IsAllowed : Bytes → Bytes → Type 0
@@ -120,37 +124,56 @@ module _ (s : Bytes) (i r f : ℕ) (t : Bytes) (room : ℕ) where
   room-d : Decides (TooLong (fill-form s i r f t) room) (ltb room (length (fill-form s i r f t)) || ltb limit (length (fill-form s i r f t)))
   room-d = one-of (below room (length (fill-form s i r f t))) (below limit (length (fill-form s i r f t)))
 
+  -- what is asked of the field, before the text
+  of-field : {v : ℕ} {B : Type 0} {qs : List Question} → eqb 24 v ≡ false → eqb 23 v ≡ false → eqb 22 v ≡ false → Turn v qs ↔ B →
+      Turn v
+      (ask (fill-place s i r f) 24 ∷ ask (not (column-at (table-of (section-at s i .lines)) (f - 1) .fillable)) 23
+      ∷ ask (not (empty-datum (datum-at i r f (modelOf s)))) 22 ∷ qs) ↔ Blank s i r f B
+  of-field a b c q = turn-next place-d a (turn-past (is-d (column-at (table-of (section-at s i .lines)) (f - 1) .fillable)) b (turn-past empty-d c q))
+
   -- 24: "no such section, record or field"
-  pub fill-24 : fillOf s i r f t room ≡ W.Refused (refusal 24 0 0) ↔ ((file-refusal s .number ≡ 0) × (NoPlace s i r f))
+  pub fill-24 : fillOf s i r f t room ≡ W.Refused (refusal 24 0 0) ↔ ((file-refusal s .number ≡ 0) × NoPlace s i r f)
   unfolding fill-questions any
   fill-24 = via (fill-turn 24 (inr (omega arith)) (some-number 24 (omega arith))) (second (turn-now place-d refl))
 
   -- 23: "field may not be filled"
   pub fill-23 : fillOf s i r f t room ≡ W.Refused (refusal 23 0 0) ↔ ((file-refusal s .number ≡ 0) × ((¬ NoPlace s i r f) × (¬ MayFill s i f)))
   unfolding fill-questions any
-  fill-23 = via (fill-turn 23 (inr (omega arith)) (some-number 23 (omega arith))) (second (turn-next place-d refl (turn-now (turned (is-d (column-at (table-of (section-at s i .lines)) (f - 1) .fillable))) refl)))
+  fill-23 =
+      via (fill-turn 23 (inr (omega arith)) (some-number 23 (omega arith)))
+      (second (turn-next place-d refl (turn-now (turned (is-d (column-at (table-of (section-at s i .lines)) (f - 1) .fillable))) refl)))
 
   -- 22: "field to fill is not empty"
-  pub fill-22 : fillOf s i r f t room ≡ W.Refused (refusal 22 0 0) ↔ ((file-refusal s .number ≡ 0) × ((¬ NoPlace s i r f) × ((MayFill s i f) × (¬ IsEmpty s i r f))))
+  pub fill-22 : fillOf s i r f t room ≡ W.Refused (refusal 22 0 0) ↔ ((file-refusal s .number ≡ 0) × ((¬ NoPlace s i r f) × (MayFill s i f × (¬ IsEmpty s i r f))))
   unfolding fill-questions any
-  fill-22 = via (fill-turn 22 (inr (omega arith)) (some-number 22 (omega arith))) (second (turn-next place-d refl (turn-past (is-d (column-at (table-of (section-at s i .lines)) (f - 1) .fillable)) refl (turn-now (turned empty-d) refl))))
+  fill-22 =
+      via (fill-turn 22 (inr (omega arith)) (some-number 22 (omega arith)))
+      (second (turn-next place-d refl (turn-past (is-d (column-at (table-of (section-at s i .lines)) (f - 1) .fillable)) refl (turn-now (turned empty-d) refl))))
 
   -- 11: "text empty"
-  pub fill-11 : fillOf s i r f t room ≡ W.Refused (refusal 11 0 0) ↔ ((file-refusal s .number ≡ 0) × ((¬ NoPlace s i r f) × ((MayFill s i f) × ((IsEmpty s i r f) × (t ≡ [])))))
+  pub fill-11 : fillOf s i r f t room ≡ W.Refused (refusal 11 0 0) ↔ ((file-refusal s .number ≡ 0) × Blank s i r f (t ≡ []))
   unfolding fill-questions any
-  fill-11 = via (fill-turn 11 (inl (omega arith, omega arith)) (some-number 11 (omega arith))) (second (turn-next place-d refl (turn-past (is-d (column-at (table-of (section-at s i .lines)) (f - 1) .fillable)) refl (turn-past empty-d refl (turn-now (nothing-d t) refl)))))
+  fill-11 = via (fill-turn 11 (inl (omega arith, omega arith)) (some-number 11 (omega arith))) (second (of-field refl refl refl (turn-now (nothing-d t) refl)))
 
   -- 4: "text byte not allowed in a `rec`"
-  pub fill-4 : fillOf s i r f t room ≡ W.Refused (refusal 4 0 0) ↔ ((file-refusal s .number ≡ 0) × ((¬ NoPlace s i r f) × ((MayFill s i f) × ((IsEmpty s i r f) × ((¬ (t ≡ [])) × (¬ IsAllowed s t))))))
+  pub fill-4 : fillOf s i r f t room ≡ W.Refused (refusal 4 0 0) ↔ ((file-refusal s .number ≡ 0) × Blank s i r f ((¬ (t ≡ [])) × (¬ IsAllowed s t)))
   unfolding fill-questions any
-  fill-4 = via (fill-turn 4 (inl (omega arith, omega arith)) (some-number 4 (omega arith))) (second (turn-next place-d refl (turn-past (is-d (column-at (table-of (section-at s i .lines)) (f - 1) .fillable)) refl (turn-past empty-d refl (turn-next (nothing-d t) refl (turn-now (turned (is-d (all (allowed (latinOf s)) t))) refl))))))
+  fill-4 =
+      via (fill-turn 4 (inl (omega arith, omega arith)) (some-number 4 (omega arith)))
+      (second (of-field refl refl refl (turn-next (nothing-d t) refl (turn-now (turned (is-d (all (allowed (latinOf s)) t))) refl))))
 
   -- 13: "over 40 bytes"
-  pub fill-13 : fillOf s i r f t room ≡ W.Refused (refusal 13 0 0) ↔ ((file-refusal s .number ≡ 0) × ((¬ NoPlace s i r f) × ((MayFill s i f) × ((IsEmpty s i r f) × ((¬ (t ≡ [])) × ((IsAllowed s t) × (40 < length t)))))))
+  pub fill-13 : fillOf s i r f t room ≡ W.Refused (refusal 13 0 0) ↔ ((file-refusal s .number ≡ 0) × Blank s i r f ((¬ (t ≡ [])) × (IsAllowed s t × (40 < length t))))
   unfolding fill-questions any
-  fill-13 = via (fill-turn 13 (inl (omega arith, omega arith)) (some-number 13 (omega arith))) (second (turn-next place-d refl (turn-past (is-d (column-at (table-of (section-at s i .lines)) (f - 1) .fillable)) refl (turn-past empty-d refl (turn-next (nothing-d t) refl (turn-past (is-d (all (allowed (latinOf s)) t)) refl (turn-now (below 40 (length t)) refl)))))))
+  fill-13 =
+      via (fill-turn 13 (inl (omega arith, omega arith)) (some-number 13 (omega arith)))
+      (second (of-field refl refl refl (turn-next (nothing-d t) refl (turn-past (is-d (all (allowed (latinOf s)) t)) refl (turn-now (below 40 (length t)) refl)))))
 
   -- 21: "the form is longer than the lent output or than 16,777,216 bytes"
-  pub fill-21 : fillOf s i r f t room ≡ W.Refused (refusal 21 0 0) ↔ ((file-refusal s .number ≡ 0) × ((¬ NoPlace s i r f) × ((MayFill s i f) × ((IsEmpty s i r f) × ((¬ (t ≡ [])) × ((IsAllowed s t) × ((¬ (40 < length t)) × (TooLong (fill-form s i r f t) room))))))))
+  pub fill-21 : fillOf s i r f t room ≡ W.Refused (refusal 21 0 0) ↔
+      ((file-refusal s .number ≡ 0) × Blank s i r f ((¬ (t ≡ [])) × (IsAllowed s t × ((¬ (40 < length t)) × TooLong (fill-form s i r f t) room))))
   unfolding fill-questions any
-  fill-21 = via (fill-turn 21 (inr (omega arith)) (some-number 21 (omega arith))) (second (turn-next place-d refl (turn-past (is-d (column-at (table-of (section-at s i .lines)) (f - 1) .fillable)) refl (turn-past empty-d refl (turn-next (nothing-d t) refl (turn-past (is-d (all (allowed (latinOf s)) t)) refl (turn-next (below 40 (length t)) refl (turn-now room-d refl))))))))
+  fill-21 =
+      via (fill-turn 21 (inr (omega arith)) (some-number 21 (omega arith)))
+      (second (of-field refl refl refl
+      (turn-next (nothing-d t) refl (turn-past (is-d (all (allowed (latinOf s)) t)) refl (turn-next (below 40 (length t)) refl (turn-now room-d refl))))))

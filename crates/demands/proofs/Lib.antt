@@ -67,3 +67,4 @@ pub mod WrittenMarks
 pub mod Handed
 pub mod HandedCells
 pub mod Lexical
+pub mod CallVerdicts

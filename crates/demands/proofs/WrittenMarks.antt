@@ -15,15 +15,15 @@ use Rattle.page.specs.Fields.{digit, textOf}
 use Rattle.page.specs.Tables.{columns, table-at, table-count}
 use Rattle.page.specs.Head.{Head}
 use Rattle.page.specs.Marks.{owner-of}
-use Rattle.page.specs.Records.{number, words, Record}
-use Rattle.page.specs.Model.{Content, Model, modelOf, datum-at, fill-model}
+use Rattle.page.specs.Records.{Datum, number, words, Record}
+use Rattle.page.specs.Model.{Content, Model, modelOf, datum-at, fill-model, strip-datum, strip-content, strip-model}
 use Rattle.page.specs.File.{file-refusal}
 use Rattle.page.specs.Form.{decimal, quoted, datum-text, mark-line, formOf}
-use Rattle.page.specs.Writing.{write-form, fill-refusal, fill-form}
+use Rattle.page.specs.Writing.{write-form, strip-form, fill-refusal, fill-form}
 use Rattle.page.specs.Rules.{Every, none-left, one-more}
 use Rattle.page.specs.declared.Owner.the-variants as O
 use Rattle.demands.specs.Round.{PrintedIf, SoundHead, SoundRecord, SoundContent, SoundModel}
-use Rattle.demands.specs.WrittenMarks.{rec-line, record-at, Directly, MarkAndRecord, Behind}
+use Rattle.demands.specs.WrittenMarks.{rec-line, record-at, Directly, Suggests, MarkAndRecord, Behind}
 use Rattle.demands.proofs.WrittenNumbers.{decimal-all}
 use Rattle.demands.proofs.WrittenTexts.{text-quoted}
 use Rattle.demands.proofs.WrittenLines.{commands, Seen}
@@ -34,6 +34,9 @@ use Rattle.demands.proofs.RoundSections.{record-lines, body-lines, afte
 use Rattle.demands.proofs.RoundHeader.{text-line, lines-if, head-lines, mod-seen, src-seen, chs-seen, text-seen}
 use Rattle.demands.proofs.RoundCut.{tables-lines, eof-line, form-lines, eof-seen, lines-form}
 use Rattle.demands.proofs.Round.{accepted-model}
+use Rattle.demands.proofs.Splits.{map-mem}
+use Rattle.demands.proofs.Strip.{strip-none, strip-number}
+use Rattle.demands.proofs.StripBack.{strip-sound}
 use Rattle.demands.proofs.FillBack.{filled-sound, fill-field, fill-put}
 
 -- whose a text is, by the mark that waits
@@ -270,3 +273,24 @@ module _ (s : Bytes) (i r f : ℕ) (t : Bytes) (ok : fill-refusal s i r f t .num
       Behind (MarkAndRecord (fill-model i r f t (modelOf s))) x after
   unfolding fill-form
   fill-only-marks before after x e k = only-marks (fill-model i r f t (modelOf s)) (filled-sound s i r f t ok) before after x e k
+
+-- a stripped file has no `com` line at all
+
+getD-map : (f : Datum → Datum) (vs : Record) (k : ℕ) → f (number 0) ≡ number 0 → getD (map f vs) k (number 0) ≡ f (getD vs k (number 0))
+getD-map f [] k e = sym e
+getD-map f (v ∷ vs) zero e = refl
+getD-map f (v ∷ vs) (suc k) e = getD-map f vs k e
+
+stripped-none : (m : Model) (f : ℕ) (vs : Record) → Suggests (strip-model m) f vs → ⊥
+unfolding strip-model strip-content
+stripped-none m f vs g =
+    let c = map-mem strip-content (m .tables) (g .here) in
+    let r : List·Memᴰ vs (map (map strip-datum) (c .0 .records)) = rw (← c .2) at (g .there) in
+    let v = map-mem (map strip-datum) (c .0 .records) r in
+    strip-none (getD (v .0) (f - 1) (number 0)) (g .text) (sym (getD-map strip-datum (v .0) (f - 1) (strip-number 0)) ∙ (ap (λ (w : Record). getD w (f - 1) (number 0)) (v .2) ∙ g .suggested))
+
+pub strip-no-marks : (s : Bytes) → file-refusal s .number ≡ 0 → (before after : List Bytes) (x : Bytes) → lines (strip-form s) ≡ before ++ (x ∷ after) → ¬ (command (content x) ≡ Com)
+unfolding strip-form
+strip-no-marks s ok before after x e k =
+    let b = only-marks (strip-model (modelOf s)) (strip-sound (modelOf s) (accepted-model s ok)) before after x e k in
+    stripped-none (modelOf s) (b .holds .field) (b .holds .values) (b .holds .suggests)

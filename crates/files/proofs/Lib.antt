@@ -1,4 +1,5 @@
 pub mod ScanLaws
+pub mod TopLaws
 pub mod WalkLaws
 pub mod SeatLaws
 pub mod FiledLaws

@@ -54,7 +54,7 @@ module _ (w : Bytes) (at e : ℕ) (h : at < length w) (q : e ≡ at + line-size 
         let b : length (l ++ []) ≡ e - at = rw (append-nil l) (part-length at e w (i .1)) in
         omega (arith, joined-length (lines (take at w)) (l ∷ []))
 
-    passed-lines : lines (take e w) ≡ passed
+    pub passed-lines : lines (take e w) ≡ passed
     unfolding joined
     passed-lines = rw passed-length at (run-lines w [] passed (lines (drop e w)) whole)
 
@@ -109,7 +109,7 @@ any-some f d p (x ∷ xs) i h =
 
 -- a line's content c, its command k, what follows its `;`, and what that has in the fields of a choice
 module _ (q : ℕ) (l c : Bytes) (k : ℕ) (a : c ≡ content l) (b : k ≡ command c) where
-  recorded : (x : Bool) → eqb k Rec ≡ x → is-record l ≡ x
+  pub recorded : (x : Bool) → eqb k Rec ≡ x → is-record l ≡ x
   unfolding is-record
   recorded x e = rw (sym a, sym b) e
 
@@ -122,7 +122,7 @@ module _ (q : ℕ) (l c : Bytes) (k : ℕ) (a : c ≡ content l) (b : k ≡ comm
   again-other before n = rw (recorded false (ne-eqb k Rec n))
 
   module _ (e : k ≡ 11) (w : Bytes) (r : w ≡ rest c) (x : List ℕ) (y : x ≡ seven (chosen q (fields w))) where
-    keyed : line-key q l ≡ x
+    pub keyed : line-key q l ≡ x
     unfolding line-key
     keyed = sym (y ∙ ap (λ (v : Bytes). seven (chosen q (fields v))) (r ∙ ap rest a))
 

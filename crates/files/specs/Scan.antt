@@ -1,4 +1,5 @@
 -- A section's lines from the left: records by their keys as numbers, and the first line at fault.
+use mathlib.Core.Path.{_≡_}
 use mathlib.Core.Bool.{Bool, false, _||_}
 use mathlib.Core.List.{List, [], _∷_, _++_}
 use Prim.Native.Nat.{ℕ, zero, suc}
@@ -10,6 +11,7 @@ use Rattle.page.specs.Answers.{refusal, sound}
 use Rattle.page.specs.File.{any}
 use Rattle.page.specs.declared.Refusal.{Refusal}
 use Rattle.keys.specs.Numbers.{seven, chosen}
+use Rattle.keys.specs.Orders.{less}
 
 unfoldable pub is-record : Bytes → Bool
 is-record l = eqb (command (content l)) Rec
@@ -25,6 +27,14 @@ bears q k l = pick (is-record l) (same (line-key q l) k) false
 -- a line is a record whose key stands in the lines before it
 unfoldable pub again : ℕ → List Bytes → Bytes → Bool
 again q before l = pick (is-record l) (any (bears q (line-key q l)) before) false
+
+-- a line is a record whose key lies above the key k
+unfoldable pub above : ℕ → List ℕ → Bytes → Bool
+above q k l = pick (is-record l) (less k (line-key q l)) false
+
+-- no record's key lies above the key k
+pub record Topped (q : ℕ) (k : List ℕ) (ls : List Bytes) : Type 0 where
+  pub none : any (above q k) ls ≡ false
 
 -- the first line that is at fault, where n lines have been read; 0: none is
 unfoldable pub first-line : (List Bytes → Bytes → Bool) → List Bytes → ℕ → List Bytes → ℕ

@@ -9,6 +9,7 @@ use crate::scan::repeats_key;
 use crate::seating::Seat;
 use crate::seating::Seats;
 use crate::seating::find_seat;
+use keys::Key;
 use lines::Cursor;
 use page::Refusal;
 
@@ -44,6 +45,7 @@ pub fn first_repeat(s: &[u8], seats: Seats, second: bool) -> Refusal
         let choice = keys::choose_key(seat.table, second);
         let to = find_end(seat, choice);
         let size = to - from;
+        let mut top = Key { k: [0; 7] };
         let mut at: usize = 0;
         let mut n: usize = 0;
         while at < size {
@@ -52,7 +54,9 @@ pub fn first_repeat(s: &[u8], seats: Seats, second: bool) -> Refusal
             let e = l.span.to;
             at = e;
             n += 1;
-            if repeats_key(&s[from..to], here, e, choice) {
+            let met = repeats_key(&s[from..to], here, e, choice, top);
+            top = met.top;
+            if met.again {
                 found = Refusal {
                     number: number,
                     section: i + 1,

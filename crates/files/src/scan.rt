@@ -1,10 +1,11 @@
 // The records of a section by their keys: `w` is a section's bytes, or whole lines of it.
 ghost use mathlib.Core.Path.{_≡_};
+ghost use mathlib.Core.List.{[], _∷_, _++_};
 ghost use Prim.Native.Nat.{_-_, _≤_};
 ghost use lib.ListN.{length, take, drop};
 ghost use Rattle.page.specs.Lines.{lines};
 ghost use Rattle.page.specs.File.{any};
-ghost use Rattle.files.specs.Scan.{bears, again};
+ghost use Rattle.files.specs.Scan.{bears, again, Topped};
 use keys::Key;
 use lines::Cursor;
 
@@ -43,14 +44,34 @@ pub fn was_met(w: &[u8], at: usize, choice: u64, key: Key) -> bool
     finds(&w[..at], choice, key)
 }
 
-// Is the line from a place to e a record whose key was met before?
-pub fn repeats_key(w: &[u8], at: usize, e: usize, choice: u64) -> bool
-    requires { ⌜ (at ≤ e) × (e ≤ length (now w)) ⌝ }
-    ensures { λ r. ⌜ r ≡ again choice (lines (take at (now (w .entry)))) (take (e - at) (drop at (now (w .entry)))) ⌝ }
+// Whether a line's key was met before, and the largest key up to that line.
+pub struct Met {
+    pub again: bool,
+    pub top: Key,
+}
+
+// Is the line from a place to e a record whose key was met before? A key above the largest one before it is new without a search.
+pub fn repeats_key(w: &[u8], at: usize, e: usize, choice: u64, top: Key) -> Met
+    requires { ⌜ (at ≤ e) × (e ≤ length (now w)) × Topped choice (top .k) (lines (take at (now w))) ⌝ }
+    ensures { λ r. ⌜ (r .again ≡ again choice (lines (take at (now (w .entry)))) (take (e - at) (drop at (now (w .entry))))) × Topped choice (r .top .k) (lines (take at (now (w .entry))) ++ take (e - at) (drop at (now (w .entry))) ∷ []) ⌝ }
 {
     let c = lines::content_of(&w[at..e]);
     if lines::command_of(c) != lines::REC {
-        return false;
+        return Met {
+            again: false,
+            top: top,
+        };
     }
-    was_met(w, at, choice, keys::read_chosen(lines::rest_of(c), choice))
+    let key = keys::read_chosen(lines::rest_of(c), choice);
+    if keys::less_key(top, key) {
+        return Met {
+            again: false,
+            top: key,
+        };
+    }
+    let met = was_met(w, at, choice, key);
+    Met {
+        again: met,
+        top: top,
+    }
 }

@@ -1,9 +1,10 @@
 -- `files::repeats::first_repeat` meets its contract. Assumes nothing.
 use Rattle.files.proofs.RepeatLaws.{scan-bounds, repeat-is, repeats-none, repeats-at}
-use Rattle.files.proofs.ScanLaws.{Starts, starts-first, starts-next, line-more, line-hit, line-end}
+use Rattle.files.proofs.ScanLaws.{Starts, starts-first, starts-next, passed-lines, line-more, line-hit, line-end}
+use Rattle.files.proofs.TopLaws.{topped-none}
 use Rattle.files.specs.Faults.{repeat-line}
 use Rattle.files.specs.Seating.{seat-at}
-use Rattle.files.specs.Scan.{again, first-line}
+use Rattle.files.specs.Scan.{again, first-line, Topped}
 use Rattle.lines.proofs.CursorLaws.{handed}
 use Rattle.keys.specs.Numbers.{by-key, key-choice}
 use Rattle.page.proofs.ScanLaws.{part-length}
@@ -20,13 +21,14 @@ use Rattle.files.proofs.repeats.first_repeat.Statement.{statement}
 use Rattle.files.proofs.repeats.first_repeat.Tie as tie
 
 abbrev Inv-loop : tie.InvT-loop
-Inv-loop s seats second count number found₀ i from choice to size at₀ n₀ found at n =
+Inv-loop s seats second count number found₀ i from choice to size top₀ at₀ n₀ found top at n =
     (found ≡ sound) × (n ≤ at) × Starts (take (to - from) (drop from s)) at
     × (first-line (again choice) (lines (take at (take (to - from) (drop from s)))) n (lines (drop at (take (to - from) (drop from s))))
     ≡ first-line (again choice) [] 0 (lines (take (to - from) (drop from s))))
+    × Topped choice (top .k) (lines (take at (take (to - from) (drop from s))))
 
 abbrev μ-loop : tie.MeasureT-loop
-μ-loop s seats second count number found₀ i from choice to size at₀ n₀ found at n =
+μ-loop s seats second count number found₀ i from choice to size top₀ at₀ n₀ found top at n =
     size - at
 
 abbrev Inv-scan : tie.InvT-scan
@@ -64,7 +66,7 @@ loop-holds : tie.Need-loop-holds Inv-loop μ-loop Inv-scan μ-scan
 unfolding lines
 loop-holds c =
     let a = c .before .before .before .before .before .before .before .args in
-    (c .before .before .before .before .scan .inv .1, omega arith, starts-first _, refl)
+    (c .before .before .before .before .scan .inv .1, omega arith, starts-first _, refl, topped-none _ _)
 
 sub-line : tie.Need-sub-line Inv-loop μ-loop Inv-scan μ-scan
 sub-line c =
@@ -119,41 +121,42 @@ repeats-key-requires c κs =
     let n = part-length from to s (b .1) in
     let h : c .before .before .before .before .loop .at < length w = omega (arith, c .before .before .before .loop-test .taken) in
     let t = handed w (c .before .before .before .before .loop .at) (c .before .line .result) h (c .before .line .ensures) in
-    (omega arith, omega arith)
+    (omega arith, omega arith, c .before .before .before .before .loop .inv .4)
 
-add-t29 : tie.Need-add-t29 Inv-loop μ-loop Inv-scan μ-scan
-add-t29 c = search needs
+add-t31 : tie.Need-add-t31 Inv-loop μ-loop Inv-scan μ-scan
+add-t31 c = search needs
 
 loop-less : tie.Need-loop-less Inv-loop μ-loop Inv-scan μ-scan
 loop-less c =
-    let a = c .before .before .before .before .before .before .before .before .before .before .before .before .before .before .args in
+    let a = c .before .before .before .before .before .before .before .before .before .before .before .before .before .before .before .args in
     let s = a .s .now in
-    let from = c .before .before .before .before .before .before .before .before .before .find-seat .result .from in
-    let to = c .before .before .before .before .before .before .before .find-end .result in
-    let b = scan-bounds s (a .seats) (c .before .before .before .before .before .before .before .before .before .before .before .before .before .before .pre) (c .before .before .before .before .before .before .before .before .before .before .before .scan .i) (c .before .before .before .before .before .before .before .before .before .before .scan-test .taken) (c .before .before .before .before .before .before .before .before .before .find-seat .result) (c .before .before .before .before .before .before .before .before .before .find-seat .ensures) (c .before .before .before .before .before .before .before .before .choose-key .result) to (c .before .before .before .before .before .before .before .find-end .ensures) in
+    let from = c .before .before .before .before .before .before .before .before .before .before .find-seat .result .from in
+    let to = c .before .before .before .before .before .before .before .before .find-end .result in
+    let b = scan-bounds s (a .seats) (c .before .before .before .before .before .before .before .before .before .before .before .before .before .before .before .pre) (c .before .before .before .before .before .before .before .before .before .before .before .before .scan .i) (c .before .before .before .before .before .before .before .before .before .before .before .scan-test .taken) (c .before .before .before .before .before .before .before .before .before .before .find-seat .result) (c .before .before .before .before .before .before .before .before .before .before .find-seat .ensures) (c .before .before .before .before .before .before .before .before .before .choose-key .result) to (c .before .before .before .before .before .before .before .before .find-end .ensures) in
     let w = take (to - from) (drop from s) in
     let n = part-length from to s (b .1) in
-    let h : c .before .before .before .before .before .before .loop .at < length w = omega (arith, c .before .before .before .before .before .loop-test .taken) in
-    let t = handed w (c .before .before .before .before .before .before .loop .at) (c .before .before .before .line .result) h (c .before .before .before .line .ensures) in
+    let h : c .before .before .before .before .before .before .before .loop .at < length w = omega (arith, c .before .before .before .before .before .before .loop-test .taken) in
+    let t = handed w (c .before .before .before .before .before .before .before .loop .at) (c .before .before .before .before .line .result) h (c .before .before .before .before .line .ensures) in
     omega arith
 
 loop-again : tie.Need-loop-again Inv-loop μ-loop Inv-scan μ-scan
 loop-again c =
-    let a = c .before .before .before .before .before .before .before .before .before .before .before .before .before .before .args in
+    let a = c .before .before .before .before .before .before .before .before .before .before .before .before .before .before .before .args in
     let s = a .s .now in
-    let from = c .before .before .before .before .before .before .before .before .before .find-seat .result .from in
-    let to = c .before .before .before .before .before .before .before .find-end .result in
-    let b = scan-bounds s (a .seats) (c .before .before .before .before .before .before .before .before .before .before .before .before .before .before .pre) (c .before .before .before .before .before .before .before .before .before .before .before .scan .i) (c .before .before .before .before .before .before .before .before .before .before .scan-test .taken) (c .before .before .before .before .before .before .before .before .before .find-seat .result) (c .before .before .before .before .before .before .before .before .before .find-seat .ensures) (c .before .before .before .before .before .before .before .before .choose-key .result) to (c .before .before .before .before .before .before .before .find-end .ensures) in
+    let from = c .before .before .before .before .before .before .before .before .before .before .find-seat .result .from in
+    let to = c .before .before .before .before .before .before .before .before .find-end .result in
+    let b = scan-bounds s (a .seats) (c .before .before .before .before .before .before .before .before .before .before .before .before .before .before .before .pre) (c .before .before .before .before .before .before .before .before .before .before .before .before .scan .i) (c .before .before .before .before .before .before .before .before .before .before .before .scan-test .taken) (c .before .before .before .before .before .before .before .before .before .before .find-seat .result) (c .before .before .before .before .before .before .before .before .before .before .find-seat .ensures) (c .before .before .before .before .before .before .before .before .before .choose-key .result) to (c .before .before .before .before .before .before .before .before .find-end .ensures) in
     let w = take (to - from) (drop from s) in
     let n = part-length from to s (b .1) in
-    let l = c .before .before .before .before .before .before .loop in
-    let h : l .at < length w = omega (arith, c .before .before .before .before .before .loop-test .taken) in
-    let t = handed w (l .at) (c .before .before .before .line .result) h (c .before .before .before .line .ensures) in
-    let e = c .before .before .before .line .result .span .to in (
+    let l = c .before .before .before .before .before .before .before .loop in
+    let h : l .at < length w = omega (arith, c .before .before .before .before .before .before .loop-test .taken) in
+    let t = handed w (l .at) (c .before .before .before .before .line .result) h (c .before .before .before .before .line .ensures) in
+    let e = c .before .before .before .before .line .result .span .to in (
       l .inv .0,
       omega arith,
       starts-next w (l .at) e h (t .size) (l .inv .2),
-      sym (line-more w (l .at) e h (t .size) (l .inv .2) (again (c .before .before .before .before .before .before .before .before .choose-key .result)) (l .n) (sym (c .before .repeats-key .ensures) ∙ c .if1 .left)) ∙ l .inv .3,
+      sym (line-more w (l .at) e h (t .size) (l .inv .2) (again (c .before .before .before .before .before .before .before .before .before .choose-key .result)) (l .n) (sym (c .before .before .repeats-key .ensures .0) ∙ c .if1 .left)) ∙ l .inv .3,
+      rw (passed-lines w (l .at) e h (t .size) (l .inv .2)) (c .before .before .repeats-key .ensures .1),
     )
 
 add-i : tie.Need-add-i Inv-loop μ-loop Inv-scan μ-scan
@@ -189,22 +192,22 @@ returns c =
 
 returns-2 : tie.Need-returns-2 Inv-loop μ-loop Inv-scan μ-scan
 returns-2 c =
-    let a = c .before .before .before .before .before .before .before .before .before .before .before .before .before .before .args in
+    let a = c .before .before .before .before .before .before .before .before .before .before .before .before .before .before .before .args in
     let s = a .s .now in
-    let from = c .before .before .before .before .before .before .before .before .before .find-seat .result .from in
-    let to = c .before .before .before .before .before .before .before .find-end .result in
-    let q = c .before .before .before .before .before .before .before .before .choose-key .result in
-    let b = scan-bounds s (a .seats) (c .before .before .before .before .before .before .before .before .before .before .before .before .before .before .pre) (c .before .before .before .before .before .before .before .before .before .before .before .scan .i) (c .before .before .before .before .before .before .before .before .before .before .scan-test .taken) (c .before .before .before .before .before .before .before .before .before .find-seat .result) (c .before .before .before .before .before .before .before .before .before .find-seat .ensures) q to (c .before .before .before .before .before .before .before .find-end .ensures) in
+    let from = c .before .before .before .before .before .before .before .before .before .before .find-seat .result .from in
+    let to = c .before .before .before .before .before .before .before .before .find-end .result in
+    let q = c .before .before .before .before .before .before .before .before .before .choose-key .result in
+    let b = scan-bounds s (a .seats) (c .before .before .before .before .before .before .before .before .before .before .before .before .before .before .before .pre) (c .before .before .before .before .before .before .before .before .before .before .before .before .scan .i) (c .before .before .before .before .before .before .before .before .before .before .before .scan-test .taken) (c .before .before .before .before .before .before .before .before .before .before .find-seat .result) (c .before .before .before .before .before .before .before .before .before .before .find-seat .ensures) q to (c .before .before .before .before .before .before .before .before .find-end .ensures) in
     let w = take (to - from) (drop from s) in
     let n = part-length from to s (b .1) in
-    let l = c .before .before .before .before .before .before .loop in
-    let h : l .at < length w = omega (arith, c .before .before .before .before .before .loop-test .taken) in
-    let t = handed w (l .at) (c .before .before .before .line .result) h (c .before .before .before .line .ensures) in
-    let e = c .before .before .before .line .result .span .to in
-    rw (c .before .before .before .before .before .before .before .before .before .before .before .before .repeat-number .ensures)
-    (sym (repeats-at s (a .seats) (c .before .before .before .before .before .before .before .before .before .before .before .before .before .before .pre) (a .second) (c .before .before .before .before .before .before .before .before .before .before .before .scan .i) (l .n) (c .before .before .before .before .before .before .before .before .before .before .scan-test .taken) (c .before .before .before .before .before .before .before .before .before .before .before .scan .inv .2)
-    (repeat-is s (a .seats) (c .before .before .before .before .before .before .before .before .before .before .before .before .before .before .pre) (c .before .before .before .before .before .before .before .before .before .before .before .scan .i) (c .before .before .before .before .before .before .before .before .before .before .scan-test .taken) (c .before .before .before .before .before .before .before .before .before .find-seat .result) (c .before .before .before .before .before .before .before .before .before .find-seat .ensures) (a .second) q to (l .n + 1) (c .before .before .before .before .before .before .before .before .choose-key .ensures) (c .before .before .before .before .before .before .before .find-end .ensures)
-    (sym (l .inv .3) ∙ line-hit w (l .at) e h (t .size) (again q) (l .n) (sym (c .before .repeats-key .ensures) ∙ c .if1 .taken)))))
+    let l = c .before .before .before .before .before .before .before .loop in
+    let h : l .at < length w = omega (arith, c .before .before .before .before .before .before .loop-test .taken) in
+    let t = handed w (l .at) (c .before .before .before .before .line .result) h (c .before .before .before .before .line .ensures) in
+    let e = c .before .before .before .before .line .result .span .to in
+    rw (c .before .before .before .before .before .before .before .before .before .before .before .before .before .repeat-number .ensures)
+    (sym (repeats-at s (a .seats) (c .before .before .before .before .before .before .before .before .before .before .before .before .before .before .before .pre) (a .second) (c .before .before .before .before .before .before .before .before .before .before .before .before .scan .i) (l .n) (c .before .before .before .before .before .before .before .before .before .before .before .scan-test .taken) (c .before .before .before .before .before .before .before .before .before .before .before .before .scan .inv .2)
+    (repeat-is s (a .seats) (c .before .before .before .before .before .before .before .before .before .before .before .before .before .before .before .pre) (c .before .before .before .before .before .before .before .before .before .before .before .before .scan .i) (c .before .before .before .before .before .before .before .before .before .before .before .scan-test .taken) (c .before .before .before .before .before .before .before .before .before .before .find-seat .result) (c .before .before .before .before .before .before .before .before .before .before .find-seat .ensures) (a .second) q to (l .n + 1) (c .before .before .before .before .before .before .before .before .before .choose-key .ensures) (c .before .before .before .before .before .before .before .before .find-end .ensures)
+    (sym (l .inv .3) ∙ line-hit w (l .at) e h (t .size) (again q) (l .n) (sym (c .before .before .repeats-key .ensures .0) ∙ c .if1 .taken)))))
 
 pub first-repeat-spec : {M : Type 1} → statement M
 first-repeat-spec =
@@ -230,7 +233,7 @@ first-repeat-spec =
     part-repeats-key-start
     part-repeats-key-end
     repeats-key-requires
-    add-t29
+    add-t31
     loop-less
     loop-again
     add-i

@@ -1,5 +1,6 @@
 -- `files::scan::repeats_key` meets its contract. Assumes nothing.
 use Rattle.files.proofs.ScanLaws.{again-other, again-record}
+use Rattle.files.proofs.TopLaws.{topped-other, topped-kept, topped-raised, again-not-above}
 use Prim.Native.Nat.{_-_}
 use mathlib.Core.Path.{sym, _∙_}
 use borrow.Author.Needs.{needs}
@@ -23,7 +24,7 @@ command-of-requires c κs = search needs
 
 returns : tie.Need-returns
 returns c =
-    sym (again-other _ _ _ _ (c .before .before .content-of .ensures) (c .before .command-of .ensures) _ (c .if1 .taken))
+    (sym (again-other _ _ _ _ (c .before .before .content-of .ensures) (c .before .command-of .ensures) _ (c .if1 .taken)), topped-other _ _ _ _ (c .before .before .content-of .ensures) (c .before .command-of .ensures) _ _ (c .before .before .before .before .before .pre .2) (c .if1 .taken))
 
 rest-of-requires : tie.Need-rest-of-requires
 rest-of-requires c κs = search needs
@@ -31,12 +32,20 @@ rest-of-requires c κs = search needs
 read-chosen-requires : tie.Need-read-chosen-requires
 read-chosen-requires c κs = search needs
 
-was-met-requires : tie.Need-was-met-requires
-was-met-requires c κs = search needs
+less-key-requires : tie.Need-less-key-requires
+less-key-requires c κs = search needs
 
 returns-2 : tie.Need-returns-2
 returns-2 c =
-    c .was-met .ensures ∙ sym (again-record _ _ _ _ (c .before .before .before .before .before .content-of .ensures) (c .before .before .before .before .command-of .ensures) (c .before .before .before .if1 .left) _ (c .before .before .rest-of .ensures) _ (c .before .read-chosen .ensures) _)
+    let m = sym (c .before .less-key .ensures) ∙ c .if2 .taken in
+    (sym (again-not-above _ _ _ _ (c .before .before .before .before .before .before .content-of .ensures) (c .before .before .before .before .before .command-of .ensures) _ _ (c .before .before .before .before .before .before .before .before .before .pre .2) (c .before .before .before .before .if1 .left) _ (c .before .before .before .rest-of .ensures) _ (c .before .before .read-chosen .ensures) m), topped-raised _ _ _ _ (c .before .before .before .before .before .before .content-of .ensures) (c .before .before .before .before .before .command-of .ensures) _ _ (c .before .before .before .before .before .before .before .before .before .pre .2) (c .before .before .before .before .if1 .left) _ (c .before .before .before .rest-of .ensures) _ (c .before .before .read-chosen .ensures) m)
+
+was-met-requires : tie.Need-was-met-requires
+was-met-requires c κs = search needs
+
+returns-3 : tie.Need-returns-3
+returns-3 c =
+    (c .was-met .ensures ∙ sym (again-record _ _ _ _ (c .before .before .before .before .before .before .before .content-of .ensures) (c .before .before .before .before .before .before .command-of .ensures) (c .before .before .before .before .before .if1 .left) _ (c .before .before .before .before .rest-of .ensures) _ (c .before .before .before .read-chosen .ensures) _), topped-kept _ _ _ _ (c .before .before .before .before .before .before .before .content-of .ensures) (c .before .before .before .before .before .before .command-of .ensures) _ _ (c .before .before .before .before .before .before .before .before .before .before .pre .2) (c .before .before .before .before .before .if1 .left) _ (c .before .before .before .before .rest-of .ensures) _ (c .before .before .before .read-chosen .ensures) (sym (c .before .before .less-key .ensures) ∙ c .before .if2 .left))
 
 pub repeats-key-spec : {M : Type 1} → statement M
 repeats-key-spec =
@@ -50,5 +59,7 @@ repeats-key-spec =
     returns
     rest-of-requires
     read-chosen-requires
+    less-key-requires
+    returns-2
     was-met-requires
-    returns-2)
+    returns-3)
