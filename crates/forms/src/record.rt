@@ -111,7 +111,15 @@ fn put_field(
 }
 
 // "One space after each separating `;`": w is what stands after the record's first `;`.
-fn put_fields(out: &mut [u8], at: usize, w: &[u8], t: usize, m: u64, change: Change, text: &[u8]) -> usize
+fn put_fields(
+    out: &mut [u8],
+    at: usize,
+    w: &[u8],
+    t: usize,
+    m: u64,
+    change: Change,
+    text: &[u8],
+) -> usize
     requires { ⌜ (at + length (fields-form (change .strip) (change .field) (now text) m 1 (standing t) (fields (now w))) + 512 < 2 ^ 62)
         × (length (now text) ≤ 40)
         × (rec-verdict t m (fields (now w)) ≡ 0) ⌝ }
@@ -134,7 +142,15 @@ fn put_fields(out: &mut [u8], at: usize, w: &[u8], t: usize, m: u64, change: Cha
 }
 
 // A record that passed its rules, with the field of the mark that waits for it (0: none).
-pub fn put_record(out: &mut [u8], at: usize, w: &[u8], t: usize, m: u64, change: Change, text: &[u8]) -> usize
+pub fn put_record(
+    out: &mut [u8],
+    at: usize,
+    w: &[u8],
+    t: usize,
+    m: u64,
+    change: Change,
+    text: &[u8],
+) -> usize
     requires { ⌜ (at
         + length (record-form (changed-values (change .strip) (change .field) (now text) (valuesOf m 1 (standing t) (fields (now w)))))
         + 512 < 2 ^ 62)

@@ -38,7 +38,14 @@ fn wait_on(c: &[u8], m: u64) -> u64
 }
 
 // "records keep their order": s is the bytes of a section of table t whose records all passed their rules.
-fn put_records(out: &mut [u8], at: usize, s: &[u8], t: usize, change: Change, text: &[u8]) -> Progress
+fn put_records(
+    out: &mut [u8],
+    at: usize,
+    s: &[u8],
+    t: usize,
+    change: Change,
+    text: &[u8],
+) -> Progress
     requires { ⌜ (at
         + length (records-form (changed-records (change .strip) (change .rec) (change .field) (now text) (rows-of t 0 (lines (now s)))))
         + 512 < 2 ^ 62)
@@ -60,7 +67,15 @@ fn put_records(out: &mut [u8], at: usize, s: &[u8], t: usize, change: Change, te
         c = l.next;
         let x = lines::content_of(&s[a..e]);
         if lines::command_of(x) == lines::REC {
-            o = put_record(out, o, lines::rest_of(x), t, m, change_record(change, n), text);
+            o = put_record(
+                out,
+                o,
+                lines::rest_of(x),
+                t,
+                m,
+                change_record(change, n),
+                text,
+            );
             m = 0;
             n += 1;
         } else {
