@@ -1,0 +1,41 @@
+-- A section's lines from the left: records by their keys as numbers, and the first line at fault.
+use mathlib.Core.Bool.{Bool, false, _||_}
+use mathlib.Core.List.{List, [], _∷_, _++_}
+use Prim.Native.Nat.{ℕ, zero, suc}
+use lib.Dec.{eqb}
+use Rattle.page.specs.Bytes.{Bytes, pick, same}
+use Rattle.page.specs.Lines.{content, command, rest, Rec}
+use Rattle.page.specs.Fields.{fields}
+use Rattle.page.specs.Answers.{refusal, sound}
+use Rattle.page.specs.File.{any}
+use Rattle.page.specs.declared.Refusal.{Refusal}
+use Rattle.keys.specs.Numbers.{seven, chosen}
+
+unfoldable pub is-record : Bytes → Bool
+is-record l = eqb (command (content l)) Rec
+
+-- what a line has in the fields of a choice
+unfoldable pub line-key : ℕ → Bytes → List ℕ
+line-key q l = seven (chosen q (fields (rest (content l))))
+
+-- a line is a record that has the key k
+unfoldable pub bears : ℕ → List ℕ → Bytes → Bool
+bears q k l = pick (is-record l) (same (line-key q l) k) false
+
+-- a line is a record whose key stands in the lines before it
+unfoldable pub again : ℕ → List Bytes → Bytes → Bool
+again q before l = pick (is-record l) (any (bears q (line-key q l)) before) false
+
+-- the first line that is at fault, where n lines have been read; 0: none is
+unfoldable pub first-line : (List Bytes → Bytes → Bool) → List Bytes → ℕ → List Bytes → ℕ
+first-line fault before n [] = 0
+first-line fault before n (l ∷ ls) = pick (fault before l) (suc n) (first-line fault (before ++ l ∷ []) (suc n) ls)
+
+-- refused with number v at line n of section i; not at all, if n is 0
+unfoldable pub refused-at : ℕ → ℕ → ℕ → Refusal
+refused-at v i n = pick (eqb n 0) sound (refusal v i n)
+
+-- one of n numbers, from i on, passes a test
+unfoldable pub some : (ℕ → Bool) → ℕ → ℕ → Bool
+some p i zero = false
+some p i (suc n) = p i || some p (suc i) n

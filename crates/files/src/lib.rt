@@ -1,0 +1,18 @@
+// The file's answer.
+mod answer;
+mod references;
+mod repeats;
+mod scan;
+mod seating;
+mod unsound;
+
+pub use answer::check;
+pub use answer::check_file;
+pub use references::first_lost;
+pub use repeats::first_repeat;
+pub use scan::finds;
+pub use scan::was_met;
+pub use seating::Seat;
+pub use seating::Seats;
+pub use seating::seat_tables;
+pub use unsound::first_unsound;

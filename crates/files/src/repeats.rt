@@ -1,0 +1,67 @@
+// 18, 19: "primary key, second key met before".
+ghost use mathlib.Core.Path.{_≡_};
+ghost use mathlib.Core.List.{[]};
+ghost use Rattle.page.specs.File.{repeats, first-record, filedOf};
+ghost use Rattle.keys.specs.Numbers.{by-key};
+ghost use Rattle.files.specs.Seating.{Ready};
+ghost use Rattle.files.specs.Faults.{repeat-number, scan-end};
+use crate::scan::repeats_key;
+use crate::seating::Seat;
+use crate::seating::Seats;
+use crate::seating::find_seat;
+use lines::Cursor;
+use page::Refusal;
+
+fn repeat_number(second: bool) -> u32
+    ensures { λ r. ⌜ r ≡ repeat-number second ⌝ }
+{
+    if second { 19 } else { 18 }
+}
+
+// A table without the key has nothing to repeat.
+fn find_end(seat: Seat, choice: u64) -> usize
+    ensures { λ r. ⌜ r ≡ scan-end seat choice ⌝ }
+{
+    if choice == 0 { seat.from } else { seat.to }
+}
+
+// "each at the first record in file order that breaks it"
+pub fn first_repeat(s: &[u8], seats: Seats, second: bool) -> Refusal
+    requires { ⌜ Ready (now s) seats ⌝ }
+    ensures { λ r. ⌜ r ≡ first-record (repeat-number second) (repeats (by-key second)) [] (filedOf (now (s .entry))) ⌝ }
+{
+    let count = seats.count;
+    let number = repeat_number(second);
+    let mut found = Refusal {
+        number: 0,
+        section: 0,
+        line: 0,
+    };
+    let mut i: usize = 0;
+    'scan: while i < count {
+        let seat = find_seat(seats, i);
+        let from = seat.from;
+        let choice = keys::choose_key(seat.table, second);
+        let to = find_end(seat, choice);
+        let size = to - from;
+        let mut at: usize = 0;
+        let mut n: usize = 0;
+        while at < size {
+            let here = at;
+            let l = Cursor { at: here }.line(&s[from..to]);
+            let e = l.span.to;
+            at = e;
+            n += 1;
+            if repeats_key(&s[from..to], here, e, choice) {
+                found = Refusal {
+                    number: number,
+                    section: i + 1,
+                    line: n,
+                };
+                break 'scan;
+            }
+        }
+        i += 1;
+    }
+    found
+}
