@@ -86,3 +86,21 @@ pub fn fill_checked(
     };
     hand_form(out, refusal, s, change, text)
 }
+
+pub fn write(s: &[u8], out: &mut [u8]) -> Written
+    ensures { λ r.
+        ⌜ (r ≡ writeOf (now (s .entry)) (length (now (out .entry))))
+        × (now (out .exit) ≡ write-after (now (s .entry)) (now (out .entry))) ⌝ }
+{
+    let refusal = files::check_file(s);
+    write_checked(s, refusal, out)
+}
+
+pub fn strip(s: &[u8], out: &mut [u8]) -> Written
+    ensures { λ r.
+        ⌜ (r ≡ stripOf (now (s .entry)) (length (now (out .entry))))
+        × (now (out .exit) ≡ strip-after (now (s .entry)) (now (out .entry))) ⌝ }
+{
+    let refusal = files::check_file(s);
+    strip_checked(s, refusal, out)
+}

@@ -6,6 +6,8 @@ mod record;
 mod section;
 
 pub use answer::fill_checked;
+pub use answer::strip;
 pub use answer::strip_checked;
+pub use answer::write;
 pub use answer::write_checked;
 pub use change::Change;
