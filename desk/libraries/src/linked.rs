@@ -17,6 +17,10 @@ impl Linked {
         vdv::section(file, section)
     }
 
+    pub fn list(&self, file: &[u8], rows: &mut [Row]) -> Refusal {
+        vdv::list(file, rows).unwrap_or_else(|refusal| refusal)
+    }
+
     pub fn value(&self, file: &[u8], at: At) -> Result<Value, Refusal> {
         vdv::value(file, at)
     }

@@ -1,8 +1,18 @@
 //! What stands of the proved library answers as the independent reader does.
 
-use face::{all_rows, tables, At, Library};
+use face::{all_rows, tables, At, Library, Row};
 use libraries::{Linked, Plain};
 use samples::Random;
+
+/// What stands in a lent row before the call.
+const SPARE: Row = Row {
+    table: 1,
+    place: 2,
+    length: 3,
+    records: 4,
+    verdict: 5,
+    line: 6,
+};
 
 fn compare(file: &[u8], random: &mut Random) {
     assert_eq!(Linked.check(file), Plain.check(file));
@@ -14,6 +24,16 @@ fn compare(file: &[u8], random: &mut Random) {
             Plain.section(file, section),
             "section {section}"
         );
+    }
+    for room in rows.len().saturating_sub(1)..rows.len() + 2 {
+        let mut lent = vec![SPARE; room];
+        let mut others = lent.clone();
+        assert_eq!(
+            Linked.list(file, &mut lent),
+            Plain.list(file, &mut others),
+            "{room} rows"
+        );
+        assert_eq!(lent, others, "{room} rows");
     }
     for (index, row) in rows.iter().enumerate() {
         let width = tables::numbered(row.table).map_or(1, |table| table.columns.len());

@@ -96,6 +96,10 @@ vdv_header_answer vdv_header(const uint8_t *file, size_t length);
 /* One section's row, or the first of 1, 2 and 24. */
 vdv_row_answer vdv_section(const uint8_t *file, size_t length, size_t section);
 
+/* "Listing is refused by 1, 2 and 21 only and then writes no row; other verdicts
+ * go into the rows and the file's answer." Spare rows keep their values. */
+vdv_refusal vdv_list(const uint8_t *file, size_t length, vdv_row *rows, size_t room);
+
 /* One value: refused by the first of 1, 2, 24 for the section, the section's
  * verdict, 24 for the record or field. */
 vdv_value_answer vdv_value(const uint8_t *file, size_t length, size_t section, size_t record, size_t field);

@@ -50,6 +50,7 @@ extern "C" {
     pub fn vdv_check(file: *const u8, length: usize) -> Refusal;
     pub fn vdv_header(file: *const u8, length: usize) -> HeaderAnswer;
     pub fn vdv_section(file: *const u8, length: usize, section: usize) -> RowAnswer;
+    pub fn vdv_list(file: *const u8, length: usize, rows: *mut Row, room: usize) -> Refusal;
     pub fn vdv_value(
         file: *const u8,
         length: usize,

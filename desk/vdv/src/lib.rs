@@ -56,6 +56,31 @@ pub fn section(file: &[u8], section: usize) -> Result<Row, Refusal> {
     unless_refused(answer.row, answer.refusal)
 }
 
+/// Lent rows, one a section: the file's answer where they are written. Listing
+/// is refused by 1, 2 and 21 only and then writes no row; spare rows keep
+/// their values.
+///
+/// ```
+/// let file = b"mod; DD.MM.YYYY; HH:MM:SS; free\n\
+///     src; \"\"; \"01.02.2024\"; \"06:00:00\"\n\
+///     chs; \"ASCII\"\nver; \"1\"\nifv; \"1.0\"\n\
+///     tbl; NOWHERE\n";
+/// let mut rows = [vdv::Row::default(); 1];
+/// let answer = vdv::list(file, &mut rows).unwrap();
+/// assert_eq!(rows[0].verdict, vdv::number::UNKNOWN_TABLE);
+/// assert_eq!(answer.number, vdv::number::TRAILER);
+/// assert_eq!(vdv::list(file, &mut []).unwrap_err().number, vdv::number::NO_ROOM);
+/// ```
+pub fn list(file: &[u8], rows: &mut [Row]) -> Result<Refusal, Refusal> {
+    // SAFETY: as in `check`; `rows` is borrowed alone.
+    let answer =
+        unsafe { boundary::vdv_list(file.as_ptr(), file.len(), rows.as_mut_ptr(), rows.len()) };
+    match answer.number {
+        number::FILE_TOO_LONG | number::HEADER | number::NO_ROOM => Err(answer),
+        _ => Ok(answer),
+    }
+}
+
 /// One value: refused by the first of 1, 2, 24 for the section, the section's
 /// verdict, 24 for the record or field.
 ///

@@ -49,13 +49,13 @@ fn c_is_told_the_same() {
     assert_eq!(
         said(&program, FILE),
         format!(
-            "check;0;0;0\nheader;0;2024;59;1;1;0;1;plain\nsection;0;485;{place};1\n\
+            "check;0;0;0\nheader;0;2024;59;1;1;0;1;plain\nsection;0;485;{place};1\nlist;0;485;1;9\n\
              value;0;0;7;\nvalue;0;2;0;Winter\nvalue;24;0;0;\n"
         )
     );
     assert_eq!(
         said(&program, b""),
-        "check;2;0;0\nheader;2;0;0;0;0;0;0;\nsection;2;0;0;0\n\
+        "check;2;0;0\nheader;2;0;0;0;0;0;0;\nsection;2;0;0;0\nlist;2;0;0;9\n\
          value;2;0;0;\nvalue;2;0;0;\nvalue;2;0;0;\n"
     );
 }

@@ -33,6 +33,10 @@ int main(void)
     vdv_row_answer section = vdv_section(file, length, 1);
     printf("section;%u;%u;%zu;%zu\n", (unsigned)section.number, (unsigned)section.row.table, section.row.place,
            section.row.records);
+    vdv_row rows[2] = {{0}};
+    rows[1].length = 9;
+    answer = vdv_list(file, length, rows, 2);
+    printf("list;%u;%u;%zu;%zu\n", (unsigned)answer.number, (unsigned)rows[0].table, rows[0].records, rows[1].length);
     say_value(length, 1);
     say_value(length, 2);
     say_value(length, 3);

@@ -1,0 +1,10 @@
+pub mod PartLaws
+pub mod FieldLaws
+pub mod SectionLaws
+pub mod SoundLaws
+pub mod RoomLaws
+pub mod HeadLaws
+pub mod ModelLaws
+pub mod HeaderLaws
+pub mod FormLaws
+pub mod FillLaws

@@ -1,0 +1,28 @@
+use Rattle.forms.proofs.FillLaws.{fill-ready, fill-done}
+use Prim.Native.Nat.{ℕ, suc, _+_, _-_, _*_, _<_, _≤_}
+use mathlib.Core.Path.{_≡_, refl, ap, sym, _∙_}
+use mathlib.Core.Logic.{⊎-elim}
+use mathlib.Core.Bool.{Bool, true, false}
+use native.Mathlib.Omega.{arith}
+use borrow.Author.Tests.{lt-ltb, le-ltb, le-leb, lt-leb, eq-eqb, ne-eqb}
+use lib.ListN.{length, getD, take, drop}
+use borrow.Author.Needs.{needs}
+use Rattle.forms.proofs.answer.fill_checked.Statement.{statement}
+use Rattle.forms.proofs.answer.fill_checked.Tie as tie
+use Rattle.forms.proofs.answer.fill_checked.Reads as reads
+use Rattle.forms.proofs.answer.fill_checked.Lts as lts
+use Rattle.forms.proofs.answer.hand_form.Reads as hand-form-reads
+
+hand-form-requires : tie.Need-hand-form-requires
+hand-form-requires c κs =
+    fill-ready _ _ _ _ _ _ (c .before .before .before .before .pre)
+
+same-length : tie.Need-same-length
+same-length c = search needs
+
+returns : tie.Need-returns
+returns c =
+    fill-done _ _ _ _ _ _ (c .before .before .before .before .before .before .before .pre) _ _ _ (c .before .before .hand-form .ensures)
+
+pub fill-checked-spec : {M : Type 1} → statement M
+fill-checked-spec = tie.close (tie.spec hand-form-requires same-length returns)

@@ -1,0 +1,33 @@
+use Rattle.page.specs.declared.Refusal.{Refusal}
+use Rattle.forms.proofs.FormLaws.{write-done}
+use Prim.Native.Nat.{ℕ, suc, _+_, _-_, _*_, _<_, _≤_}
+use mathlib.Core.Path.{_≡_, refl, ap, sym, _∙_}
+use mathlib.Core.Logic.{⊎-elim}
+use mathlib.Core.Bool.{Bool, true, false}
+use native.Mathlib.Omega.{arith}
+use borrow.Author.Tests.{lt-ltb, le-ltb, le-leb, lt-leb, eq-eqb, ne-eqb}
+use lib.ListN.{length, getD, take, drop}
+use borrow.Author.Needs.{needs}
+use Rattle.forms.proofs.answer.write_checked.Statement.{statement}
+use Rattle.forms.proofs.answer.write_checked.Tie as tie
+use Rattle.forms.proofs.answer.write_checked.Reads as reads
+use Rattle.forms.proofs.answer.write_checked.Lts as lts
+use Rattle.forms.proofs.answer.hand_form.Reads as hand-form-reads
+
+slice-aggregate-hand-form : tie.Need-slice-aggregate-hand-form
+slice-aggregate-hand-form c = search needs
+
+hand-form-requires : tie.Need-hand-form-requires
+hand-form-requires c κs =
+    λ e. (sym (ap (λ (r : Refusal). r .number) (c .before .before .before .before .pre)) ∙ e, omega arith)
+
+same-length : tie.Need-same-length
+same-length c = search needs
+
+returns : tie.Need-returns
+returns c =
+    write-done _ _ _ _ _ _ (c .before .before .before .before .before .before .before .pre) (c .before .before .hand-form .ensures)
+
+pub write-checked-spec : {M : Type 1} → statement M
+write-checked-spec =
+    tie.close (tie.spec slice-aggregate-hand-form hand-form-requires same-length returns)

@@ -1,0 +1,79 @@
+use Rattle.page.specs.Bytes.{bytes}
+use Rattle.output.proofs.LineLaws.{head-raw-length}
+use Rattle.output.proofs.PutLaws.{puts, put-as}
+use Rattle.forms.proofs.SoundLaws.{accepted-passing}
+use Rattle.forms.proofs.RoomLaws.{accepted-short, accepted-room}
+use Rattle.forms.proofs.FormLaws.{form-is}
+use Prim.Native.Nat.{ℕ, suc, _+_, _-_, _*_, _<_, _≤_}
+use mathlib.Core.Path.{_≡_, refl, ap, sym, _∙_}
+use mathlib.Core.Logic.{⊎-elim}
+use mathlib.Core.Bool.{Bool, true, false}
+use native.Mathlib.Omega.{arith}
+use borrow.Author.Tests.{lt-ltb, le-ltb, le-leb, lt-leb, eq-eqb, ne-eqb}
+use lib.ListN.{length, getD, take, drop}
+use borrow.Author.Needs.{needs}
+use Rattle.forms.proofs.file.put_form.Statement.{statement}
+use Rattle.forms.proofs.file.put_form.Tie as tie
+use Rattle.forms.proofs.file.put_form.Reads as reads
+use Rattle.forms.proofs.file.put_form.Lts as lts
+use Rattle.forms.proofs.file.put_sections.Reads as put-sections-reads
+use Rattle.headers.proofs.read_values.Reads as read-values-reads
+use Rattle.output.proofs.put_head.Reads as put-head-reads
+use Rattle.output.proofs.put_count_line.Reads as put-count-line-reads
+
+read-values-requires : tie.Need-read-values-requires
+read-values-requires c κs =
+    accepted-short (c .before .before .before .args .s .now) (c .before .before .before .pre .0)
+
+put-head-requires : tie.Need-put-head-requires
+put-head-requires c κs =
+    omega (arith, accepted-short (c .before .before .before .before .before .args .s .now) (c .before .before .before .before .before .pre .0))
+
+put-sections-requires : tie.Need-put-sections-requires
+put-sections-requires c κs =
+    let a = c .before .before .before .before .before .before .before .before .before .args in
+    let s = a .s .now in
+    let q = c .before .before .before .before .before .before .before .before .before .pre in
+    let x = a .change in
+    let l = accepted-short s (q .0) in
+    let m = accepted-room s (q .0) (x .strip) (x .section) (x .rec) (x .field) (a .text .now) (q .1) in
+    let k = head-raw-length s (c .before .before .before .before .before .read-values .result) in
+    (omega (arith, c .before .before .before .put-head .ensures .next), q .1, accepted-passing s (q .0))
+
+slice-aggregate-put-count-line : tie.Need-slice-aggregate-put-count-line
+slice-aggregate-put-count-line c = search needs
+
+put-count-line-requires : tie.Need-put-count-line-requires
+put-count-line-requires c κs =
+    let a = c .before .before .before .before .before .before .before .before .before .before .before .before .before .before .args in
+    let s = a .s .now in
+    let q = c .before .before .before .before .before .before .before .before .before .before .before .before .before .before .pre in
+    let x = a .change in
+    let l = accepted-short s (q .0) in
+    let m = accepted-room s (q .0) (x .strip) (x .section) (x .rec) (x .field) (a .text .now) (q .1) in
+    let k = head-raw-length s (c .before .before .before .before .before .before .before .before .before .before .read-values .result) in
+    omega (arith, c .before .before .before .before .before .before .before .before .put-head .ensures .next, c .before .before .before .before .put-sections .ensures .0 .next)
+
+same-length : tie.Need-same-length
+same-length c = search needs
+
+returns : tie.Need-returns
+unfolding bytes
+returns c =
+    let a = c .before .before .before .before .before .before .before .before .before .before .before .before .before .before .before .before .before .args in
+    let s = a .s .now in
+    let q = c .before .before .before .before .before .before .before .before .before .before .before .before .before .before .before .before .before .pre in
+    let x = a .change in
+    put-as (form-is s (q .0) x (a .text .now) _ _ (c .before .before .before .before .before .before .before .before .before .before .before .before .before .read-values .ensures) (c .before .before .before .before .before .before .before .put-sections .ensures .1)) (puts (c .before .before .before .before .before .before .before .before .before .before .before .put-head .ensures) (puts (c .before .before .before .before .before .before .before .put-sections .ensures .0) (c .before .before .put-count-line .ensures)))
+
+pub put-form-spec : {M : Type 1} → statement M
+put-form-spec =
+    tie.close
+    (tie.spec
+    read-values-requires
+    put-head-requires
+    put-sections-requires
+    slice-aggregate-put-count-line
+    put-count-line-requires
+    same-length
+    returns)

@@ -1,0 +1,44 @@
+use Rattle.page.specs.declared.Column.{Column}
+use Rattle.forms.proofs.FieldLaws.{marked-filled, marked-stripped, marked-other, marked-waiting}
+use Prim.Native.Nat.{ℕ, suc, _+_, _-_, _*_, _<_, _≤_}
+use mathlib.Core.Path.{_≡_, refl, ap, sym, _∙_}
+use mathlib.Core.Logic.{⊎-elim}
+use mathlib.Core.Bool.{Bool, true, false}
+use native.Mathlib.Omega.{arith}
+use borrow.Author.Tests.{lt-ltb, le-ltb, le-leb, lt-leb, eq-eqb, ne-eqb}
+use lib.ListN.{length, getD, take, drop}
+use borrow.Author.Needs.{needs}
+use Rattle.forms.proofs.record.is_marked.Statement.{statement}
+use Rattle.forms.proofs.record.is_marked.Tie as tie
+use Rattle.forms.proofs.record.is_marked.Reads as reads
+use Rattle.forms.proofs.record.is_marked.Lts as lts
+use Rattle.page.proofs.tables.find_column.Reads as find-column-reads
+
+add-if1 : tie.Need-add-if1
+add-if1 c = search needs
+
+returns : tie.Need-returns
+returns c =
+    marked-filled _ _ _ _ _ (c .if1 .taken)
+
+returns-2 : tie.Need-returns-2
+returns-2 c =
+    marked-stripped _ _ _ _ _ (c .before .if1 .left) (c .if2 .taken)
+
+add-if3 : tie.Need-add-if3
+add-if3 c = search needs
+
+returns-3 : tie.Need-returns-3
+returns-3 c =
+    marked-other _ _ _ _ _ (c .before .before .if1 .left) (c .before .if2 .left) (c .if3 .taken)
+
+find-column-requires : tie.Need-find-column-requires
+find-column-requires c κs = search needs
+
+returns-4 : tie.Need-returns-4
+returns-4 c =
+    ap (λ (x : Column). x .text) (c .find-column .ensures) ∙ marked-waiting _ _ _ _ _ (c .before .before .before .if1 .left) (c .before .before .if2 .left) (c .before .if3 .left)
+
+pub is-marked-spec : {M : Type 1} → statement M
+is-marked-spec =
+    tie.close (tie.spec add-if1 returns returns-2 add-if3 returns-3 find-column-requires returns-4)

@@ -1,0 +1,33 @@
+-- The marks and the fields of one changed record, column by column; i counts them from 1.
+use mathlib.Core.Bool.{Bool, true, false, not, _&&_, _||_}
+use mathlib.Core.List.{List, [], _∷_, _++_}
+use Prim.Native.Nat.{ℕ, suc}
+use lib.Dec.{eqb}
+use Rattle.page.specs.Bytes.{Bytes, bytes, pick}
+use Rattle.page.specs.Tables.{Named}
+use Rattle.page.specs.Marks.{owner-of}
+use Rattle.page.specs.Records.{Datum, datumOf}
+use Rattle.page.specs.Form.{datum-text, mark-line}
+use Rattle.page.specs.declared.Column.{Column}
+use Rattle.forms.specs.Changed.{changed-datum}
+
+-- is field i marked in what is written, where a mark of field m waits and field f is filled?
+unfoldable pub marked-by : Bool → ℕ → ℕ → ℕ → Column → Bool
+marked-by strip f m i c = eqb f i || (not strip && (eqb m i && c .text))
+
+unfoldable pub mark-by : Bool → ℕ → ℕ → ℕ → Column → Bytes
+mark-by strip f m i c = pick (marked-by strip f m i c) (mark-line i) []
+
+unfoldable pub marks-form : Bool → ℕ → ℕ → ℕ → List Named → Bytes
+marks-form strip f m i [] = []
+marks-form strip f m i (c ∷ cs) = mark-by strip f m i (c .column) ++ marks-form strip f m (suc i) cs
+
+-- the value of field i, whose bytes are w
+unfoldable pub datum-by : Bool → ℕ → Bytes → ℕ → ℕ → Column → Bytes → Datum
+datum-by strip f t m i c w = changed-datum (eqb f i) strip t (datumOf (owner-of m i) c w)
+
+unfoldable pub fields-form : Bool → ℕ → Bytes → ℕ → ℕ → List Named → List Bytes → Bytes
+fields-form strip f t m i [] ws = []
+fields-form strip f t m i (c ∷ cs) [] = []
+fields-form strip f t m i (c ∷ cs) (w ∷ ws) =
+    (bytes "; " ++ datum-text (datum-by strip f t m i (c .column) w)) ++ fields-form strip f t m (suc i) cs ws

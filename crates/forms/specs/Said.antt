@@ -1,0 +1,43 @@
+-- What a section's lines say, with no question whether they are sound.
+use mathlib.Core.Path.{_≡_}
+use mathlib.Core.Bool.{Bool, true, false, _&&_}
+use mathlib.Core.List.{List, [], _∷_}
+use Prim.Native.Nat.{ℕ}
+use lib.Dec.{eqb}
+use Rattle.page.specs.Bytes.{Bytes, pick}
+use Rattle.page.specs.Lines.{content, command, rest, Rec}
+use Rattle.page.specs.Fields.{fields}
+use Rattle.page.specs.Cut.{Section, sections}
+use Rattle.page.specs.Section.{rec-verdict}
+use Rattle.page.specs.Records.{Record, waits, record-in, table-of}
+use Rattle.page.specs.Model.{Content}
+use Rattle.page.specs.Rules.{Every}
+
+-- the records of these lines, where a mark of field m waits
+unfoldable pub rows-of : ℕ → ℕ → List Bytes → List Record
+rows-of t m [] = []
+rows-of t m (l ∷ ls) =
+    pick (eqb (command (content l)) Rec) (record-in t m (content l) ∷ rows-of t 0 ls) (rows-of t (waits m (content l)) ls)
+
+-- does each of them pass its rules?
+unfoldable pub passes : ℕ → ℕ → List Bytes → Bool
+passes t m [] = true
+passes t m (l ∷ ls) =
+    pick (eqb (command (content l)) Rec) (eqb (rec-verdict t m (fields (rest (content l)))) 0 && passes t 0 ls)
+    (passes t (waits m (content l)) ls)
+
+unfoldable pub said : List Bytes → Content
+said ls = record { table = table-of ls; records = rows-of (table-of ls) 0 ls }
+
+unfoldable pub said-in : Section → Content
+said-in x = said (x .lines)
+
+unfoldable pub passes-in : Section → Bool
+passes-in x = passes (table-of (x .lines)) 0 (x .lines)
+
+-- the records of every section pass
+abbrev pub PassingIn : List Section → Type 0
+PassingIn xs = Every (λ (x : Section). passes-in x ≡ true) xs
+
+abbrev pub Passing : Bytes → Type 0
+Passing s = PassingIn (sections s)

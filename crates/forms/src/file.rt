@@ -1,0 +1,53 @@
+// The written file.
+ghost use mathlib.Core.Path.{_≡_};
+ghost use mathlib.Core.List.{map};
+ghost use Prim.Native.Nat.{_+_, _<_, _≤_, _^_};
+ghost use lib.ListN.{length};
+ghost use Rattle.page.specs.Cut.{sections};
+ghost use Rattle.page.specs.File.{file-refusal};
+ghost use Rattle.page.specs.Model.{modelOf};
+ghost use Rattle.page.specs.Form.{tables-form, formOf};
+ghost use Rattle.output.specs.Put.{Put};
+ghost use Rattle.forms.specs.Said.{said-in, Passing};
+ghost use Rattle.forms.specs.Changed.{changed-tables, changed-model};
+use crate::change::Change;
+use crate::change::change_section;
+use crate::section::Progress;
+use crate::section::put_section;
+use output::put_count_line;
+use output::put_head;
+
+// "sections keep their order": the records of every section passed their rules.
+fn put_sections(out: &mut [u8], at: usize, s: &[u8], change: Change, text: &[u8]) -> Progress
+    requires { ⌜ (at
+        + length (tables-form (changed-tables (change .strip) (change .section) (change .rec) (change .field) (now text) (map said-in (sections (now s)))))
+        + 2560 < 2 ^ 62)
+        × (length (now text) ≤ 40)
+        × Passing (now s) ⌝ }
+    ensures { λ r.
+        ⌜ Put (now (out .entry)) at
+        (tables-form (changed-tables (change .strip) (change .section) (change .rec) (change .field) (now (text .entry)) (map said-in (sections (now (s .entry)))))) (now (out .exit)) (r .at)
+        × (r .count ≡ length (sections (now (s .entry)))) ⌝ }
+{
+    let mut a = sections::find_section(s, 0);
+    let mut n: usize = 0;
+    let mut o = at;
+    while a < s.len() {
+        let e = sections::section_end(s, a);
+        o = put_section(out, o, &s[a..e], change_section(change, n), text);
+        a = sections::find_section(s, e);
+        n += 1;
+    }
+    Progress { at: o, count: n }
+}
+
+// The written form of an accepted file, changed.
+pub fn put_form(out: &mut [u8], s: &[u8], change: Change, text: &[u8]) -> usize
+    requires { ⌜ (file-refusal (now s) .number ≡ 0) × (length (now text) ≤ 40) ⌝ }
+    ensures { λ r. ⌜ Put (now (out .entry)) 0 (formOf (changed-model change (now (text .entry)) (modelOf (now (s .entry))))) (now (out .exit)) r ⌝ }
+{
+    let header = headers::read_values(s);
+    let a = put_head(out, 0, s, header);
+    let p = put_sections(out, a, s, change, text);
+    put_count_line(out, p.at, b"eof", p.count as u64)
+}

@@ -1,0 +1,13 @@
+// The written form of a file: written, filled and stripped by one writer into lent output.
+mod answer;
+mod change;
+mod file;
+mod record;
+mod section;
+
+pub use answer::fill_checked;
+pub use answer::strip;
+pub use answer::strip_checked;
+pub use answer::write;
+pub use answer::write_checked;
+pub use change::Change;

@@ -1,0 +1,40 @@
+use Rattle.output.proofs.WriteLaws.{refused}
+use Rattle.page.specs.Answers.{refusal}
+use mathlib.Core.List.{[]}
+use mathlib.Core.Path.{_≡_}
+use Prim.Native.Nat.{ℕ}
+use Prim.Native.Nat.{ℕ, suc, _+_, _-_, _*_, _<_, _≤_}
+use mathlib.Core.Path.{_≡_, refl, ap, sym, _∙_}
+use mathlib.Core.Logic.{⊎-elim}
+use mathlib.Core.Bool.{Bool, true, false}
+use native.Mathlib.Omega.{arith}
+use borrow.Author.Tests.{lt-ltb, le-ltb, le-leb, lt-leb, eq-eqb, ne-eqb}
+use lib.ListN.{length, getD, take, drop}
+use borrow.Author.Needs.{needs}
+use Rattle.handing.proofs.texts.hand_value.Statement.{statement}
+use Rattle.handing.proofs.texts.hand_value.Tie as tie
+use Rattle.handing.proofs.texts.hand_value.Reads as reads
+use Rattle.handing.proofs.texts.hand_value.Lts as lts
+use Rattle.handing.proofs.texts.hand_words.Reads as hand-words-reads
+
+enum-told : tie.Need-enum-told
+enum-told c = search needs
+
+enum-known-v : tie.Need-enum-known-v
+enum-known-v c = search needs
+
+hand-words-requires : tie.Need-hand-words-requires
+hand-words-requires c κs = rw (c .before .before .v .given .1) at (c .before .before .before .before .before .before .pre)
+
+returns : tie.Need-returns
+returns c = rw (c .enum-told .given .1) (refused (refusal 11 0 0) [] (c .before .before .before .before .args .out .now) (λ (e : _≡_ {A = ℕ} 11 0). omega arith))
+
+same-length : tie.Need-same-length
+same-length c = search needs
+
+returns-2 : tie.Need-returns-2
+returns-2 c = rw (c .before .before .before .before .before .v .given .1) (c .before .before .hand-words .ensures)
+
+pub hand-value-spec : {M : Type 1} → statement M
+hand-value-spec =
+    tie.close (tie.spec enum-told enum-known-v hand-words-requires returns same-length returns-2)

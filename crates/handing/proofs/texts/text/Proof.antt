@@ -1,0 +1,65 @@
+use Rattle.handing.proofs.TextLaws.{got-is, got-refused, value-spans, value-wrote, text-refused}
+use Rattle.page.specs.Reading.{section-at, value-refusal, value-at, valueOf}
+use mathlib.Core.Path.{sym, _∙_}
+use Prim.Native.Nat.{ℕ, suc, _+_, _-_, _*_, _<_, _≤_}
+use mathlib.Core.Path.{_≡_, refl, ap, sym, _∙_}
+use mathlib.Core.Logic.{⊎-elim}
+use mathlib.Core.Bool.{Bool, true, false}
+use native.Mathlib.Omega.{arith}
+use borrow.Author.Tests.{lt-ltb, le-ltb, le-leb, lt-leb, eq-eqb, ne-eqb}
+use lib.ListN.{length, getD, take, drop}
+use borrow.Author.Needs.{needs}
+use Rattle.handing.proofs.texts.text.Statement.{statement}
+use Rattle.handing.proofs.texts.text.Tie as tie
+use Rattle.handing.proofs.texts.text.Reads as reads
+use Rattle.handing.proofs.texts.text.Lts as lts
+use Rattle.handing.proofs.texts.hand_value.Reads as hand-value-reads
+use Rattle.sections.proofs.value.Reads as value-reads
+
+value-requires : tie.Need-value-requires
+value-requires c κs = search needs
+
+enum-known-v : tie.Need-enum-known-v
+enum-known-v c = search needs
+
+hand-value-requires : tie.Need-hand-value-requires
+unfolding valueOf
+hand-value-requires c κs =
+    let a = c .before .before .before .before .before .before .before .args in
+    let s = a .file .now in
+    let g = got-is (value-refusal s (a .i) (a .r) (a .f)) (value-at (section-at s (a .i)) (a .r) (a .f)) _ (sym (c .before .before .v .given .1) ∙ c .before .before .before .before .value .ensures) in
+    value-spans s (a .i) (a .r) (a .f) (g .0) _ (g .1)
+
+enum-known-x : tie.Need-enum-known-x
+enum-known-x c = search needs
+
+same-length : tie.Need-same-length
+same-length c = search needs
+
+returns : tie.Need-returns
+unfolding valueOf
+returns c =
+    let a = c .before .before .before .before .before .before .before .before .before .before .args in
+    let s = a .file .now in
+    let g = got-is (value-refusal s (a .i) (a .r) (a .f)) (value-at (section-at s (a .i)) (a .r) (a .f)) _ (sym (c .before .before .before .before .before .v .given .1) ∙ c .before .before .before .before .before .before .before .value .ensures) in
+    value-wrote s (a .i) (a .r) (a .f) (g .0) _ (g .1) _ _ _ (c .before .before .hand-value .ensures)
+
+returns-2 : tie.Need-returns-2
+unfolding valueOf
+returns-2 c =
+    let a = c .before .before .before .before .before .before .args in
+    let s = a .file .now in
+    let g = got-refused (value-refusal s (a .i) (a .r) (a .f)) _ (value-at (section-at s (a .i)) (a .r) (a .f)) (sym (c .before .x .given .1) ∙ c .before .before .before .value .ensures) in
+    text-refused s (a .i) (a .r) (a .f) _ (g .0) (g .1) (a .out .now)
+
+pub text-spec : {M : Type 1} → statement M
+text-spec =
+    tie.close
+    (tie.spec
+    value-requires
+    enum-known-v
+    hand-value-requires
+    enum-known-x
+    same-length
+    returns
+    returns-2)
