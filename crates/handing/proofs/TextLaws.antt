@@ -161,7 +161,7 @@ module _ (s : Bytes) (x : Standing) (f : ℕ) (u : Bytes) (l : Lain s x) (short 
   words-own =
       let a = sized in
       let g : part (record { from = sp .from + 1; to = sp .to - 1 }) (take (length w) (drop (x .at) s))
-          ≡ take (x .at + (sp .to - 1) - (x .at + (sp .from + 1))) (drop (x .at + (sp .from + 1)) s) =
+      ≡ take (x .at + (sp .to - 1) - (x .at + (sp .from + 1))) (drop (x .at + (sp .from + 1)) s) =
       part-moved (record { from = sp .from + 1; to = sp .to - 1 }) (x .at) (length w) s (omega arith) (omega arith) in
       ap (undoubled false) (sym g ∙ ap (λ (y : Bytes). part (record { from = sp .from + 1; to = sp .to - 1 }) y) (l .is) ∙ inner)
       ∙ own-is (getD (fields w) (f - 1) []) u e
