@@ -3,7 +3,12 @@ ghost use mathlib.Core.Path.{_≡_};
 ghost use lib.ListN.{length};
 ghost use Rattle.page.specs.Answers.{earlier};
 ghost use Rattle.page.specs.File.{file-refusal};
+ghost use Rattle.page.specs.Handing.{textOut, text-after};
 ghost use Rattle.page.specs.Reading.{list-refusal, rows-after};
+ghost use Rattle.page.specs.Writing.{writeOf, write-after, stripOf, strip-after};
+ghost use Rattle.vdv.specs.Told.{told-written};
+use crate::answers::LengthAnswer;
+use crate::answers::tell_length;
 use page::Refusal;
 use page::Row;
 
@@ -15,4 +20,40 @@ pub extern "C" fn vdv_list(file: &[u8], rows: &mut [Row]) -> Refusal
         × (now (rows .exit) ≡ rows-after (now (file .entry)) (now (rows .entry))) ⌝ }
 {
     rows::list(file, rows)
+}
+
+// A text's own bytes, doubled quotes undone.
+#[no_mangle]
+pub extern "C" fn vdv_text(
+    file: &[u8],
+    section: usize,
+    record: usize,
+    field: usize,
+    out: &mut [u8],
+) -> LengthAnswer
+    ensures { λ r.
+        ⌜ (r ≡ told-written (textOut (now (file .entry)) section «record» field (length (now (out .entry)))))
+        × (now (out .exit) ≡ text-after (now (file .entry)) section «record» field (now (out .entry))) ⌝ }
+{
+    tell_length(handing::text(file, section, record, field, out))
+}
+
+// "Only a file with verdict 0 is written; else its verdict is given."
+#[no_mangle]
+pub extern "C" fn vdv_write(file: &[u8], out: &mut [u8]) -> LengthAnswer
+    ensures { λ r.
+        ⌜ (r ≡ told-written (writeOf (now (file .entry)) (length (now (out .entry)))))
+        × (now (out .exit) ≡ write-after (now (file .entry)) (now (out .entry))) ⌝ }
+{
+    tell_length(forms::write(file, out))
+}
+
+// "Stripping gives the written form with marked texts empty and no marks."
+#[no_mangle]
+pub extern "C" fn vdv_strip(file: &[u8], out: &mut [u8]) -> LengthAnswer
+    ensures { λ r.
+        ⌜ (r ≡ told-written (stripOf (now (file .entry)) (length (now (out .entry)))))
+        × (now (out .exit) ≡ strip-after (now (file .entry)) (now (out .entry))) ⌝ }
+{
+    tell_length(forms::strip(file, out))
 }

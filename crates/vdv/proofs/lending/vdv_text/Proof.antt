@@ -1,0 +1,24 @@
+use mathlib.Core.Path.{ap, _∙_}
+use Rattle.vdv.specs.Told.{told-written}
+use borrow.Author.Needs.{needs}
+use Rattle.vdv.proofs.lending.vdv_text.Statement.{statement}
+use Rattle.vdv.proofs.lending.vdv_text.Tie as tie
+use Rattle.vdv.proofs.lending.vdv_text.Reads as reads
+use Rattle.vdv.proofs.lending.vdv_text.Lts as lts
+use Rattle.handing.proofs.text.Reads as text-reads
+use Rattle.vdv.proofs.answers.tell_length.Reads as tell-length-reads
+
+text-requires : tie.Need-text-requires
+text-requires c κs = search needs
+
+tell-length-requires : tie.Need-tell-length-requires
+tell-length-requires c κs = search needs
+
+same-length : tie.Need-same-length
+same-length c = search needs
+
+returns : tie.Need-returns
+returns c = (c .tell-length .ensures ∙ ap told-written (c .before .before .before .text .ensures .0), c .before .before .before .text .ensures .1)
+
+pub vdv-text-spec : {M : Type 1} → statement M
+vdv-text-spec = tie.close (tie.spec text-requires tell-length-requires same-length returns)
