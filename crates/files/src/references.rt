@@ -50,7 +50,8 @@ fn keep_place(p: Places, r: usize, at: usize) -> Places {
     Places { at: all }
 }
 
-// Does reference r of a record of table t find its record? `w` is what stands after the first `;` of the record's line.
+// Does reference r of a record of table t find its record? `w` is what stands after the first `;` of the record's line, `last` where this
+// reference found its last record.
 fn reaches(s: &[u8], w: &[u8], seats: Seats, t: usize, r: usize, last: usize) -> Find
     requires { ⌜ Ready (now s) seats ⌝ }
     ensures { λ x. ⌜ x .met ≡ reaches (now (s .entry)) seats t (fields (now (w .entry))) r ⌝ }
