@@ -24,4 +24,15 @@ impl Linked {
     pub fn value(&self, file: &[u8], at: At) -> Result<Value, Refusal> {
         vdv::value(file, at)
     }
+    pub fn text(&self, file: &[u8], at: At, out: &mut [u8]) -> Result<usize, Refusal> {
+        vdv::text(file, at, out)
+    }
+
+    pub fn write(&self, file: &[u8], out: &mut [u8]) -> Result<usize, Refusal> {
+        vdv::write(file, out)
+    }
+
+    pub fn strip(&self, file: &[u8], out: &mut [u8]) -> Result<usize, Refusal> {
+        vdv::strip(file, out)
+    }
 }

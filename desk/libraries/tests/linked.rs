@@ -1,6 +1,6 @@
 //! What stands of the proved library answers as the independent reader does.
 
-use face::{all_rows, tables, At, Library, Row};
+use face::{all_rows, tables, At, Library, Refusal, Row};
 use libraries::{Linked, Plain};
 use samples::Random;
 
@@ -35,6 +35,24 @@ fn compare(file: &[u8], random: &mut Random) {
         );
         assert_eq!(lent, others, "{room} rows");
     }
+    let form = Plain.write(file, &mut vec![0; 2 * file.len() + 4_096]);
+    for room in [
+        0,
+        form.unwrap_or(9).saturating_sub(1),
+        form.unwrap_or(9),
+        2 * file.len() + 4_096,
+    ] {
+        same_lent(
+            room,
+            |out| Linked.write(file, out),
+            |out| Plain.write(file, out),
+        );
+        same_lent(
+            room,
+            |out| Linked.strip(file, out),
+            |out| Plain.strip(file, out),
+        );
+    }
     for (index, row) in rows.iter().enumerate() {
         let width = tables::numbered(row.table).map_or(1, |table| table.columns.len());
         for _ in 0..4 {
@@ -44,8 +62,27 @@ fn compare(file: &[u8], random: &mut Random) {
                 random.below(width + 2),
             );
             assert_eq!(Linked.value(file, at), Plain.value(file, at), "{at:?}");
+            for room in [3, 40] {
+                same_lent(
+                    room,
+                    |out| Linked.text(file, at, out),
+                    |out| Plain.text(file, at, out),
+                );
+            }
         }
     }
+}
+
+/// The same answer, and the same left in lent room.
+fn same_lent(
+    room: usize,
+    one: impl Fn(&mut [u8]) -> Result<usize, Refusal>,
+    other: impl Fn(&mut [u8]) -> Result<usize, Refusal>,
+) {
+    let mut lent = vec![7; room];
+    let mut others = lent.clone();
+    assert_eq!(one(&mut lent), other(&mut others), "{room} bytes");
+    assert!(lent == others, "{room} bytes");
 }
 
 #[test]

@@ -87,6 +87,14 @@ typedef struct vdv_value_answer {
     size_t to;
 } vdv_value_answer;
 
+/* How much was written. */
+typedef struct vdv_length_answer {
+    uint32_t number;
+    size_t section;
+    size_t line;
+    size_t length;
+} vdv_length_answer;
+
 /* The file's answer: number 0 is sound. */
 vdv_refusal vdv_check(const uint8_t *file, size_t length);
 
@@ -103,6 +111,18 @@ vdv_refusal vdv_list(const uint8_t *file, size_t length, vdv_row *rows, size_t r
 /* One value: refused by the first of 1, 2, 24 for the section, the section's
  * verdict, 24 for the record or field. */
 vdv_value_answer vdv_value(const uint8_t *file, size_t length, size_t section, size_t record, size_t field);
+
+/* A text's own bytes, doubled quotes undone: refused as its value is, then 11
+ * for a number, then 21. A refused call leaves what is lent as it was; so it is
+ * for every call below. */
+vdv_length_answer vdv_text(const uint8_t *file, size_t length, size_t section, size_t record, size_t field,
+                           uint8_t *out, size_t room);
+
+/* The written form: the file's verdict, then 21. */
+vdv_length_answer vdv_write(const uint8_t *file, size_t length, uint8_t *out, size_t room);
+
+/* The written form without suggestions. */
+vdv_length_answer vdv_strip(const uint8_t *file, size_t length, uint8_t *out, size_t room);
 
 #ifdef __cplusplus
 }

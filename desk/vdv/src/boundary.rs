@@ -46,6 +46,13 @@ pub struct ValueAnswer {
     pub to: usize,
 }
 
+#[repr(C)]
+#[derive(Clone, Copy)]
+pub struct LengthAnswer {
+    pub refusal: Refusal,
+    pub length: usize,
+}
+
 extern "C" {
     pub fn vdv_check(file: *const u8, length: usize) -> Refusal;
     pub fn vdv_header(file: *const u8, length: usize) -> HeaderAnswer;
@@ -58,6 +65,17 @@ extern "C" {
         record: usize,
         field: usize,
     ) -> ValueAnswer;
+    pub fn vdv_text(
+        file: *const u8,
+        length: usize,
+        section: usize,
+        record: usize,
+        field: usize,
+        out: *mut u8,
+        room: usize,
+    ) -> LengthAnswer;
+    pub fn vdv_write(file: *const u8, length: usize, out: *mut u8, room: usize) -> LengthAnswer;
+    pub fn vdv_strip(file: *const u8, length: usize, out: *mut u8, room: usize) -> LengthAnswer;
 }
 
 #[cfg(test)]
@@ -78,6 +96,7 @@ mod tests {
         assert_eq!(offset_of!(HeaderAnswer, fft), 152);
         assert_eq!(size_of::<RowAnswer>(), 72);
         assert_eq!(offset_of!(RowAnswer, row), 24);
+        assert_eq!(size_of::<LengthAnswer>(), 32);
         assert_eq!(size_of::<ValueAnswer>(), 56);
         assert_eq!(offset_of!(ValueAnswer, amount), 32);
     }

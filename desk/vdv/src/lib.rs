@@ -95,6 +95,47 @@ pub fn value(file: &[u8], at: At) -> Result<Value, Refusal> {
     unless_refused(value_of(&answer), answer.refusal)
 }
 
+/// A text's own bytes into lent room, doubled quotes undone: refused as its
+/// value is, then 11 for a number, then 21. A refused call leaves lent room as
+/// it was; so it is for every call below.
+pub fn text(file: &[u8], at: At, out: &mut [u8]) -> Result<usize, Refusal> {
+    // SAFETY: as in `check`; `out` is borrowed alone.
+    let answer = unsafe {
+        boundary::vdv_text(
+            file.as_ptr(),
+            file.len(),
+            at.section,
+            at.record,
+            at.field,
+            out.as_mut_ptr(),
+            out.len(),
+        )
+    };
+    unless_refused(answer.length, answer.refusal)
+}
+
+/// The written form into lent room: the file's verdict, then 21.
+///
+/// ```
+/// let mut out = [0; 64];
+/// assert_eq!(vdv::write(b"", &mut out).unwrap_err().number, vdv::number::HEADER);
+/// assert_eq!(out, [0; 64]);
+/// ```
+pub fn write(file: &[u8], out: &mut [u8]) -> Result<usize, Refusal> {
+    // SAFETY: as in `text`.
+    let answer =
+        unsafe { boundary::vdv_write(file.as_ptr(), file.len(), out.as_mut_ptr(), out.len()) };
+    unless_refused(answer.length, answer.refusal)
+}
+
+/// The written form without suggestions.
+pub fn strip(file: &[u8], out: &mut [u8]) -> Result<usize, Refusal> {
+    // SAFETY: as in `text`.
+    let answer =
+        unsafe { boundary::vdv_strip(file.as_ptr(), file.len(), out.as_mut_ptr(), out.len()) };
+    unless_refused(answer.length, answer.refusal)
+}
+
 fn unless_refused<T>(answer: T, refusal: Refusal) -> Result<T, Refusal> {
     match refusal.number {
         number::SOUND => Ok(answer),
