@@ -8,3 +8,4 @@ pub mod ModelLaws
 pub mod HeaderLaws
 pub mod FormLaws
 pub mod FillLaws
+pub mod FillingLaws

@@ -1,3 +1,4 @@
 pub mod Said
 pub mod Changed
 pub mod Parts
+pub mod Filling

@@ -10,6 +10,7 @@ ghost use Rattle.output.specs.Put.{Wrote};
 ghost use Rattle.forms.specs.Changed.{changed-model};
 use crate::change::Change;
 use crate::file::put_form;
+use crate::filling::refuse_fill;
 use output::refuse_room;
 use page::Refusal;
 use page::Written;
@@ -63,8 +64,7 @@ pub fn strip_checked(s: &[u8], refusal: Refusal, out: &mut [u8]) -> Written
     hand_form(out, refusal, s, change, &s[..0])
 }
 
-// "Filling names section, record and field (from 1) and a text; the result is the written form with that text and its mark."
-pub fn fill_checked(
+fn fill_checked(
     s: &[u8],
     refusal: Refusal,
     section: usize,
@@ -103,4 +103,21 @@ pub fn strip(s: &[u8], out: &mut [u8]) -> Written
 {
     let refusal = files::check_file(s);
     strip_checked(s, refusal, out)
+}
+
+// "Filling names section, record and field (from 1) and a text; the result is the written form with that text and its mark."
+pub fn fill(
+    s: &[u8],
+    section: usize,
+    record: usize,
+    field: usize,
+    text: &[u8],
+    out: &mut [u8],
+) -> Written
+    ensures { λ r.
+        ⌜ (r ≡ fillOf (now (s .entry)) section «record» field (now (text .entry)) (length (now (out .entry))))
+        × (now (out .exit) ≡ fill-after (now (s .entry)) section «record» field (now (text .entry)) (now (out .entry))) ⌝ }
+{
+    let refusal = refuse_fill(s, section, record, field, text);
+    fill_checked(s, refusal, section, record, field, text, out)
 }

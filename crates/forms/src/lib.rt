@@ -2,10 +2,11 @@
 mod answer;
 mod change;
 mod file;
+mod filling;
 mod record;
 mod section;
 
-pub use answer::fill_checked;
+pub use answer::fill;
 pub use answer::strip;
 pub use answer::strip_checked;
 pub use answer::write;
