@@ -5,7 +5,7 @@ ghost use Rattle.page.specs.Answers.{earlier};
 ghost use Rattle.page.specs.File.{file-refusal};
 ghost use Rattle.page.specs.Handing.{textOut, text-after};
 ghost use Rattle.page.specs.Reading.{list-refusal, rows-after};
-ghost use Rattle.page.specs.Writing.{writeOf, write-after, stripOf, strip-after};
+ghost use Rattle.page.specs.Writing.{writeOf, write-after, stripOf, strip-after, fillOf, fill-after};
 ghost use Rattle.vdv.specs.Told.{told-written};
 use crate::answers::LengthAnswer;
 use crate::answers::tell_length;
@@ -56,4 +56,21 @@ pub extern "C" fn vdv_strip(file: &[u8], out: &mut [u8]) -> LengthAnswer
         × (now (out .exit) ≡ strip-after (now (file .entry)) (now (out .entry))) ⌝ }
 {
     tell_length(forms::strip(file, out))
+}
+
+// "Filling names section, record and field (from 1) and a text; the result is the written form with that text and its mark."
+#[no_mangle]
+pub extern "C" fn vdv_fill(
+    file: &[u8],
+    section: usize,
+    record: usize,
+    field: usize,
+    text: &[u8],
+    out: &mut [u8],
+) -> LengthAnswer
+    ensures { λ r.
+        ⌜ (r ≡ told-written (fillOf (now (file .entry)) section «record» field (now (text .entry)) (length (now (out .entry)))))
+        × (now (out .exit) ≡ fill-after (now (file .entry)) section «record» field (now (text .entry)) (now (out .entry))) ⌝ }
+{
+    tell_length(forms::fill(file, section, record, field, text, out))
 }

@@ -7,6 +7,7 @@ pub use answers::HeaderAnswer;
 pub use answers::LengthAnswer;
 pub use answers::RowAnswer;
 pub use answers::ValueAnswer;
+pub use lending::vdv_fill;
 pub use lending::vdv_list;
 pub use lending::vdv_strip;
 pub use lending::vdv_text;
