@@ -1,3 +1,5 @@
+pub mod AnswerLaws
+pub mod CellLaws
 pub mod PassLaws
 pub mod StandLaws
 pub mod TextLaws

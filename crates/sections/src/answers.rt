@@ -36,7 +36,7 @@ pub fn section(file: &[u8], i: usize) -> Listed
 }
 
 // The table that a section's first line names.
-fn table_at(s: &[u8], at: usize) -> usize
+pub fn table_at(s: &[u8], at: usize) -> usize
     requires { ⌜ at < length (now s) ⌝ }
     ensures { λ r. ⌜ r ≡ table-of (section-from (now (s .entry)) at .lines) ⌝ }
 {

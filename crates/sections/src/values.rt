@@ -26,14 +26,14 @@ pub struct Place {
     pub mark: u64,
 }
 
-fn is_record(l: &[u8]) -> bool
+pub fn is_record(l: &[u8]) -> bool
     ensures { λ r. ⌜ r ≡ eqb (command (content (now (l .entry)))) Rec ⌝ }
 {
     lines::command_of(lines::content_of(l)) == lines::REC
 }
 
 // The mark that waits after a line: "It speaks of the next `rec`."
-fn wait_on(l: &[u8], m: u64) -> u64
+pub fn wait_on(l: &[u8], m: u64) -> u64
     ensures { λ r. ⌜ r ≡ waits m (content (now (l .entry))) ⌝ }
 {
     let c = lines::content_of(l);
@@ -48,7 +48,7 @@ fn wait_on(l: &[u8], m: u64) -> u64
 }
 
 // The fields of the `rec` line from `at` to `e`.
-fn place_fields(s: &[u8], at: usize, e: usize, m: u64) -> Place
+pub fn place_fields(s: &[u8], at: usize, e: usize, m: u64) -> Place
     requires { ⌜ (at < length (now s))
         × (e ≡ at + line-size (drop at (now s)))
         × (command (content (take (e - at) (drop at (now s)))) ≡ Rec) ⌝ }
@@ -94,7 +94,7 @@ pub fn find_record(s: &[u8], from: usize, r: usize) -> Place
 }
 
 // "Each text handed out says whose it is."
-fn owner_of(m: u64, f: usize) -> Owner
+pub fn owner_of(m: u64, f: usize) -> Owner
     ensures { λ r. ⌜ r ≡ owner-of m f ⌝ }
 {
     if m == f as u64 {
@@ -103,7 +103,7 @@ fn owner_of(m: u64, f: usize) -> Owner
     Owner::Operator
 }
 
-fn one_less(n: usize) -> usize
+pub fn one_less(n: usize) -> usize
     ensures { λ r. ⌜ r ≡ n - 1 ⌝ }
 {
     if n == 0 {
