@@ -1,6 +1,9 @@
+pub mod BitLaws
 pub mod ScanLaws
 pub mod TopLaws
 pub mod WalkLaws
+pub mod NumberLaws
+pub mod RoundLaws
 pub mod SeatLaws
 pub mod FiledLaws
 pub mod RepeatLaws

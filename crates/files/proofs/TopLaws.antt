@@ -14,8 +14,8 @@ use Rattle.page.proofs.TestLaws.{same-true}
 use Rattle.keys.specs.Numbers.{seven, chosen}
 use Rattle.keys.specs.Orders.{less}
 use Rattle.keys.proofs.OrderLaws.{less-self, less-new, less-top}
-use Rattle.files.specs.Scan.{is-record, line-key, bears, again, above, Topped}
-use Rattle.files.proofs.ScanLaws.{recorded, keyed, again-record}
+use Rattle.files.specs.Scan.{is-record, line-key, bears, again, above, rises, raised, Topped}
+use Rattle.files.proofs.ScanLaws.{recorded, keyed}
 
 neither : (a b : Bool) → (a || b) ≡ false → (a ≡ false) × (b ≡ false)
 neither true b e = absurd (false≢true (sym e))
@@ -51,22 +51,33 @@ topped-line : (q : ℕ) (k : List ℕ) (ls : List Bytes) (l : Bytes) → any (ab
 unfolding any
 topped-line q k ls l a b = record { none = any-append (above q k) ls (l ∷ []) ∙ rw (a, b) }
 
+-- a line that rises
+module _ (q : ℕ) (top : List ℕ) (ls : List Bytes) (l : Bytes) (z : Topped q top ls) (e : rises q top l ≡ true) where
+  pub rise-new : again q ls l ≡ false
+  unfolding rises again
+  rise-new = by (is-record l) e
+    where
+      by : (b : Bool) → pick b (less top (line-key q l)) true ≡ true → pick b (any (bears q (line-key q l)) ls) false ≡ false
+      by true m = all-new q top (line-key q l) m ls (z .none) .0
+      by false m = refl
+
+  pub rise-topped : Topped q (raised q top l) (ls ++ l ∷ [])
+  unfolding rises raised above
+  rise-topped = by (is-record l) refl e
+    where
+      by : (b : Bool) → is-record l ≡ b → pick b (less top (line-key q l)) true ≡ true → Topped q (pick b (line-key q l) top) (ls ++ l ∷ [])
+      by true r m = topped-line q (line-key q l) ls l (all-new q top (line-key q l) m ls (z .none) .1) (rw r (less-self (line-key q l)))
+      by false r m = topped-line q top ls l (z .none) (rw r)
+
 -- a line's content c, its command k, what follows its `;`, and what that has in the fields of a choice
-module _ (q : ℕ) (l c : Bytes) (k : ℕ) (a : c ≡ content l) (b : k ≡ command c) (top : List ℕ) (ls : List Bytes) (z : Topped q top ls) where
-  pub topped-other : (k ≡ 11 → ⊥) → Topped q top (ls ++ l ∷ [])
-  unfolding above
-  topped-other n = topped-line q top ls l (z .none) (rw (recorded q l c k a b false (ne-eqb k Rec n)))
+module _ (q : ℕ) (l c : Bytes) (k : ℕ) (a : c ≡ content l) (b : k ≡ command c) (top : List ℕ) where
+  pub rises-other : (k ≡ 11 → ⊥) → (true ≡ rises q top l) × (top ≡ raised q top l)
+  unfolding rises raised
+  rises-other n = let r = recorded q l c k a b false (ne-eqb k Rec n) in (rw r, rw r)
 
-  module _ (e : k ≡ 11) (w : Bytes) (r : w ≡ rest c) (x : List ℕ) (y : x ≡ seven (chosen q (fields w))) where
-    above-is : (t : List ℕ) → above q t l ≡ less t x
-    unfolding above
-    above-is t = rw (recorded q l c k a b true (eq-eqb k Rec e), keyed q l c k a b e w r x y)
-
-    pub topped-kept : less top x ≡ false → Topped q top (ls ++ l ∷ [])
-    topped-kept m = topped-line q top ls l (z .none) (above-is top ∙ m)
-
-    pub topped-raised : less top x ≡ true → Topped q x (ls ++ l ∷ [])
-    topped-raised m = topped-line q x ls l (all-new q top x m ls (z .none) .1) (above-is x ∙ less-self x)
-
-    pub again-not-above : less top x ≡ true → again q ls l ≡ false
-    again-not-above m = again-record q l c k a b e w r x y ls ∙ all-new q top x m ls (z .none) .0
+  pub rises-record : k ≡ 11 → (w : Bytes) → w ≡ rest c → (x : List ℕ) → x ≡ seven (chosen q (fields w)) → (less top x ≡ rises q top l) × (x ≡ raised q top l)
+  unfolding rises raised
+  rises-record e w r x y =
+      let i = recorded q l c k a b true (eq-eqb k Rec e) in
+      let j = keyed q l c k a b e w r x y in
+      (rw (i, j), rw (i, j))

@@ -75,7 +75,7 @@ sound-at s e k h =
 
 -- the section at a place, among all
 
-drop-head : {A : Type 0} (d : A) (xs : List A) (n : ℕ) (y : A) (ys : List A) → y ∷ ys ≡ drop n xs → (n < length xs) × (getD xs n d ≡ y) × (ys ≡ drop (n + 1) xs)
+pub drop-head : {A : Type 0} (d : A) (xs : List A) (n : ℕ) (y : A) (ys : List A) → y ∷ ys ≡ drop n xs → (n < length xs) × (getD xs n d ≡ y) × (ys ≡ drop (n + 1) xs)
 drop-head d [] n y ys e = absurd (go n e)
   where
     go : (n : ℕ) → y ∷ ys ≡ drop n [] → ⊥

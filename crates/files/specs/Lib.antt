@@ -1,3 +1,5 @@
 pub mod Scan
+pub mod Bits
+pub mod Rounds
 pub mod Seating
 pub mod Faults

@@ -1,6 +1,6 @@
 -- A section's lines from the left: records by their keys as numbers, and the first line at fault.
 use mathlib.Core.Path.{_≡_}
-use mathlib.Core.Bool.{Bool, false, _||_}
+use mathlib.Core.Bool.{Bool, true, false, _||_}
 use mathlib.Core.List.{List, [], _∷_, _++_}
 use Prim.Native.Nat.{ℕ, zero, suc, _≤_}
 use lib.Dec.{eqb}
@@ -32,6 +32,14 @@ again q before l = pick (is-record l) (any (bears q (line-key q l)) before) fals
 -- a line is a record whose key lies above the key k
 unfoldable pub above : ℕ → List ℕ → Bytes → Bool
 above q k l = pick (is-record l) (less k (line-key q l)) false
+
+-- a line is no record, or its key lies above the key k
+unfoldable pub rises : ℕ → List ℕ → Bytes → Bool
+rises q k l = pick (is-record l) (less k (line-key q l)) true
+
+-- the largest key up to a line that rises
+unfoldable pub raised : ℕ → List ℕ → Bytes → List ℕ
+raised q k l = pick (is-record l) (line-key q l) k
 
 -- no record's key lies above the key k
 pub record Topped (q : ℕ) (k : List ℕ) (ls : List Bytes) : Type 0 where

@@ -1,7 +1,9 @@
 // The file's answer.
 mod answer;
+mod bits;
 mod references;
 mod repeats;
+mod rounds;
 mod scan;
 mod seating;
 mod unsound;

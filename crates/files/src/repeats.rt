@@ -5,7 +5,8 @@ ghost use Rattle.page.specs.File.{repeats, first-record, filedOf};
 ghost use Rattle.keys.specs.Numbers.{by-key};
 ghost use Rattle.files.specs.Seating.{Ready};
 ghost use Rattle.files.specs.Faults.{repeat-number, scan-end};
-use crate::scan::repeats_key;
+use crate::rounds::find_repeat;
+use crate::scan::find_rise;
 use crate::seating::Seat;
 use crate::seating::Seats;
 use crate::seating::find_seat;
@@ -47,22 +48,25 @@ pub fn first_repeat(s: &[u8], seats: Seats, second: bool) -> Refusal
         let size = to - from;
         let mut top = Key { k: [0; 7] };
         let mut at: usize = 0;
-        let mut n: usize = 0;
         while at < size {
             let here = at;
             let l = Cursor { at: here }.line(&s[from..to]);
             let e = l.span.to;
             at = e;
-            n += 1;
-            let met = repeats_key(&s[from..to], here, e, choice, top);
-            top = met.top;
-            if met.again {
-                found = Refusal {
-                    number: number,
-                    section: i + 1,
-                    line: n,
-                };
-                break 'scan;
+            let rise = find_rise(&s[from..to], here, e, choice, top);
+            top = rise.top;
+            if !rise.rises {
+                let n = find_repeat(&s[from..to], choice);
+                if n != 0 {
+                    found = Refusal {
+                        number: number,
+                        section: i + 1,
+                        line: n,
+                    };
+                    break 'scan;
+                }
+                i += 1;
+                continue 'scan;
             }
         }
         i += 1;

@@ -1,11 +1,10 @@
 // The records of a section by their keys: `w` is a section's bytes, or whole lines of it.
 ghost use mathlib.Core.Path.{_≡_};
-ghost use mathlib.Core.List.{[], _∷_, _++_};
 ghost use Prim.Native.Nat.{_-_, _≤_};
 ghost use lib.ListN.{length, take, drop};
 ghost use Rattle.page.specs.Lines.{lines};
 ghost use Rattle.page.specs.File.{any};
-ghost use Rattle.files.specs.Scan.{bears, again, Topped, Starts};
+ghost use Rattle.files.specs.Scan.{is-record, bears, again, rises, raised, Starts};
 use keys::Key;
 use lines::Cursor;
 
@@ -81,34 +80,49 @@ pub fn finds_from(w: &[u8], at: usize, choice: u64, key: Key) -> Find
     finds(&w[..from], choice, key)
 }
 
-// Whether a line's key was met before, and the largest key up to that line.
-pub struct Met {
-    pub again: bool,
-    pub top: Key,
+// Is a line a record?
+pub fn is_record(l: &[u8]) -> bool
+    ensures { λ r. ⌜ r ≡ is-record (now (l .entry)) ⌝ }
+{
+    let c = lines::content_of(l);
+    lines::command_of(c) == lines::REC
 }
 
-// Is the line from a place to e a record whose key was met before? A key above the largest one before it is new without a search.
-pub fn repeats_key(w: &[u8], at: usize, e: usize, choice: u64, top: Key) -> Met
-    requires { ⌜ (at ≤ e) × (e ≤ length (now w)) × Topped choice (top .k) (lines (take at (now w))) ⌝ }
-    ensures { λ r. ⌜ (r .again ≡ again choice (lines (take at (now (w .entry)))) (take (e - at) (drop at (now (w .entry))))) × Topped choice (r .top .k) (lines (take at (now (w .entry))) ++ take (e - at) (drop at (now (w .entry))) ∷ []) ⌝ }
+// Is the line from a place to e a record whose key was met before?
+pub fn is_again(w: &[u8], at: usize, e: usize, choice: u64) -> bool
+    requires { ⌜ (at ≤ e) × (e ≤ length (now w)) ⌝ }
+    ensures { λ r. ⌜ r ≡ again choice (lines (take at (now (w .entry)))) (take (e - at) (drop at (now (w .entry)))) ⌝ }
 {
     let c = lines::content_of(&w[at..e]);
     if lines::command_of(c) != lines::REC {
-        return Met {
-            again: false,
+        return false;
+    }
+    let key = keys::read_chosen(lines::rest_of(c), choice);
+    was_met(w, at, choice, key)
+}
+
+// Whether a line's key lies above the largest one before it, and the largest one then. A line that is no record does not fall.
+pub struct Rise {
+    pub rises: bool,
+    pub top: Key,
+}
+
+// A key above the largest one before it is new without a search.
+pub fn find_rise(w: &[u8], at: usize, e: usize, choice: u64, top: Key) -> Rise
+    requires { ⌜ (at ≤ e) × (e ≤ length (now w)) ⌝ }
+    ensures { λ r. ⌜ (r .rises ≡ rises choice (top .k) (take (e - at) (drop at (now (w .entry))))) × (r .top .k ≡ raised choice (top .k) (take (e - at) (drop at (now (w .entry))))) ⌝ }
+{
+    let c = lines::content_of(&w[at..e]);
+    if lines::command_of(c) != lines::REC {
+        return Rise {
+            rises: true,
             top: top,
         };
     }
     let key = keys::read_chosen(lines::rest_of(c), choice);
-    if keys::less_key(top, key) {
-        return Met {
-            again: false,
-            top: key,
-        };
-    }
-    let met = was_met(w, at, choice, key);
-    Met {
-        again: met,
-        top: top,
+    let rises = keys::less_key(top, key);
+    Rise {
+        rises: rises,
+        top: key,
     }
 }

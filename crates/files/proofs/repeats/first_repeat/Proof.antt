@@ -1,19 +1,20 @@
 -- `files::repeats::first_repeat` meets its contract. Assumes nothing.
 use Rattle.files.proofs.RepeatLaws.{scan-bounds, repeat-is, repeats-none, repeats-at}
-use Rattle.files.proofs.ScanLaws.{starts-first, starts-next, passed-lines, line-more, line-hit, line-end}
-use Rattle.files.proofs.TopLaws.{topped-none}
+use Rattle.files.proofs.ScanLaws.{passed-lines}
+use Rattle.files.proofs.NumberLaws.{Fresh, fresh-first, fresh-next, fresh-end}
+use Rattle.files.proofs.TopLaws.{topped-none, rise-new, rise-topped}
 use Rattle.files.specs.Faults.{repeat-line}
 use Rattle.files.specs.Seating.{seat-at}
-use Rattle.files.specs.Scan.{again, Topped, Starts, first-line}
+use Rattle.files.specs.Scan.{Topped}
 use Rattle.lines.proofs.CursorLaws.{handed}
 use Rattle.keys.specs.Numbers.{by-key, key-choice}
 use Rattle.page.proofs.ScanLaws.{part-length}
 use Rattle.page.specs.Answers.{sound}
 use Rattle.page.specs.Lines.{lines}
 use borrow.Author.Count.{below-more}
-use mathlib.Core.List.{[]}
 use borrow.Author.Needs.{needs}
 use Prim.Native.Nat.{ℕ, _+_, _-_, _<_, _≤_}
+use mathlib.Core.Bool.{Bool, true, false, not}
 use mathlib.Core.Path.{_≡_, refl, sym, _∙_}
 use native.Mathlib.Omega.{arith}
 use lib.ListN.{length, take, drop}
@@ -21,14 +22,12 @@ use Rattle.files.proofs.repeats.first_repeat.Statement.{statement}
 use Rattle.files.proofs.repeats.first_repeat.Tie as tie
 
 abbrev Inv-loop : tie.InvT-loop
-Inv-loop s seats second count number found₀ i from choice to size top₀ at₀ n₀ found top at n =
-    (found ≡ sound) × (n ≤ at) × Starts (take (to - from) (drop from s)) at
-    × (first-line (again choice) (lines (take at (take (to - from) (drop from s)))) n (lines (drop at (take (to - from) (drop from s))))
-    ≡ first-line (again choice) [] 0 (lines (take (to - from) (drop from s))))
+Inv-loop s seats second count number found₀ i₀ from choice to size top₀ at₀ found i top at =
+    (found ≡ sound) × (i ≡ i₀) × Fresh choice (take (to - from) (drop from s)) at
     × Topped choice (top .k) (lines (take at (take (to - from) (drop from s))))
 
 abbrev μ-loop : tie.MeasureT-loop
-μ-loop s seats second count number found₀ i from choice to size top₀ at₀ n₀ found top at n =
+μ-loop s seats second count number found₀ i₀ from choice to size top₀ at₀ found i top at =
     size - at
 
 abbrev Inv-scan : tie.InvT-scan
@@ -39,16 +38,18 @@ abbrev μ-scan : tie.MeasureT-scan
 μ-scan s seats second count number found₀ i₀ found i =
     count - i
 
+is-true : (b : Bool) → not b ≡ false → b ≡ true
+is-true true e = refl
+is-true false e = sym e
+
 repeat-number-requires : tie.Need-repeat-number-requires Inv-loop μ-loop Inv-scan μ-scan
 repeat-number-requires c κs = search needs
 
 scan-holds : tie.Need-scan-holds Inv-loop μ-loop Inv-scan μ-scan
-scan-holds c =
-    (omega arith, refl, λ m h. absurd (omega arith))
+scan-holds c = (omega arith, refl, λ m h. absurd (omega arith))
 
 find-seat-requires : tie.Need-find-seat-requires Inv-loop μ-loop Inv-scan μ-scan
-find-seat-requires c κs =
-    omega (arith, c .before .before .before .before .pre .few)
+find-seat-requires c κs = omega (arith, c .before .before .before .before .pre .few)
 
 choose-key-requires : tie.Need-choose-key-requires Inv-loop μ-loop Inv-scan μ-scan
 choose-key-requires c κs = search needs
@@ -59,114 +60,203 @@ find-end-requires c κs = search needs
 sub-size : tie.Need-sub-size Inv-loop μ-loop Inv-scan μ-scan
 sub-size c =
     let a = c .before .before .before .before .before .before .before .args in
-    let b = scan-bounds (a .s .now) (a .seats) (c .before .before .before .before .before .before .before .pre) (c .before .before .before .before .scan .i) (c .before .before .before .scan-test .taken) (c .before .before .find-seat .result) (c .before .before .find-seat .ensures) (c .before .choose-key .result) (c .find-end .result) (c .find-end .ensures) in
+    let s = a .s .now in
+    let from = c .before .before .find-seat .result .from in
+    let to = c .find-end .result in
+    let q = c .before .choose-key .result in
+    let b = scan-bounds s (a .seats) (c .before .before .before .before .before .before .before .pre) (c .before .before .before .before .scan .i) (c .before .before .before .scan-test .taken) (c .before .before .find-seat .result) (c .before .before .find-seat .ensures) q to (c .find-end .ensures) in
     search needs
 
 loop-holds : tie.Need-loop-holds Inv-loop μ-loop Inv-scan μ-scan
 unfolding lines
-loop-holds c =
-    let a = c .before .before .before .before .before .before .before .args in
-    (c .before .before .before .before .scan .inv .1, omega arith, starts-first _, refl, topped-none _ _)
+loop-holds c = (c .before .before .before .before .scan .inv .1, refl, fresh-first _ _, topped-none _ _)
 
 sub-line : tie.Need-sub-line Inv-loop μ-loop Inv-scan μ-scan
 sub-line c =
     let a = c .before .before .before .before .before .before .before .before .before .args in
-    let b = scan-bounds (a .s .now) (a .seats) (c .before .before .before .before .before .before .before .before .before .pre) (c .before .before .before .before .before .before .scan .i) (c .before .before .before .before .before .scan-test .taken) (c .before .before .before .before .find-seat .result) (c .before .before .before .before .find-seat .ensures) (c .before .before .before .choose-key .result) (c .before .before .find-end .result) (c .before .before .find-end .ensures) in
+    let s = a .s .now in
+    let from = c .before .before .before .before .find-seat .result .from in
+    let to = c .before .before .find-end .result in
+    let q = c .before .before .before .choose-key .result in
+    let b = scan-bounds s (a .seats) (c .before .before .before .before .before .before .before .before .before .pre) (c .before .before .before .before .before .before .scan .i) (c .before .before .before .before .before .scan-test .taken) (c .before .before .before .before .find-seat .result) (c .before .before .before .before .find-seat .ensures) q to (c .before .before .find-end .ensures) in
     search needs
 
 part-line-start : tie.Need-part-line-start Inv-loop μ-loop Inv-scan μ-scan
 part-line-start c =
     let a = c .before .before .before .before .before .before .before .before .before .args in
-    let b = scan-bounds (a .s .now) (a .seats) (c .before .before .before .before .before .before .before .before .before .pre) (c .before .before .before .before .before .before .scan .i) (c .before .before .before .before .before .scan-test .taken) (c .before .before .before .before .find-seat .result) (c .before .before .before .before .find-seat .ensures) (c .before .before .before .choose-key .result) (c .before .before .find-end .result) (c .before .before .find-end .ensures) in
+    let s = a .s .now in
+    let from = c .before .before .before .before .find-seat .result .from in
+    let to = c .before .before .find-end .result in
+    let q = c .before .before .before .choose-key .result in
+    let b = scan-bounds s (a .seats) (c .before .before .before .before .before .before .before .before .before .pre) (c .before .before .before .before .before .before .scan .i) (c .before .before .before .before .before .scan-test .taken) (c .before .before .before .before .find-seat .result) (c .before .before .before .before .find-seat .ensures) q to (c .before .before .find-end .ensures) in
     search needs
 
 part-line-end : tie.Need-part-line-end Inv-loop μ-loop Inv-scan μ-scan
 part-line-end c =
     let a = c .before .before .before .before .before .before .before .before .before .args in
-    let b = scan-bounds (a .s .now) (a .seats) (c .before .before .before .before .before .before .before .before .before .pre) (c .before .before .before .before .before .before .scan .i) (c .before .before .before .before .before .scan-test .taken) (c .before .before .before .before .find-seat .result) (c .before .before .before .before .find-seat .ensures) (c .before .before .before .choose-key .result) (c .before .before .find-end .result) (c .before .before .find-end .ensures) in
+    let s = a .s .now in
+    let from = c .before .before .before .before .find-seat .result .from in
+    let to = c .before .before .find-end .result in
+    let q = c .before .before .before .choose-key .result in
+    let b = scan-bounds s (a .seats) (c .before .before .before .before .before .before .before .before .before .pre) (c .before .before .before .before .before .before .scan .i) (c .before .before .before .before .before .scan-test .taken) (c .before .before .before .before .find-seat .result) (c .before .before .before .before .find-seat .ensures) q to (c .before .before .find-end .ensures) in
     search needs
 
 line-requires : tie.Need-line-requires Inv-loop μ-loop Inv-scan μ-scan
 line-requires c κs = search needs
 
-add-n : tie.Need-add-n Inv-loop μ-loop Inv-scan μ-scan
-add-n c = search needs
-
-sub-repeats-key : tie.Need-sub-repeats-key Inv-loop μ-loop Inv-scan μ-scan
-sub-repeats-key c =
+sub-find-rise : tie.Need-sub-find-rise Inv-loop μ-loop Inv-scan μ-scan
+sub-find-rise c =
     let a = c .before .before .before .before .before .before .before .before .before .before .before .args in
-    let b = scan-bounds (a .s .now) (a .seats) (c .before .before .before .before .before .before .before .before .before .before .before .pre) (c .before .before .before .before .before .before .before .before .scan .i) (c .before .before .before .before .before .before .before .scan-test .taken) (c .before .before .before .before .before .before .find-seat .result) (c .before .before .before .before .before .before .find-seat .ensures) (c .before .before .before .before .before .choose-key .result) (c .before .before .before .before .find-end .result) (c .before .before .before .before .find-end .ensures) in
+    let s = a .s .now in
+    let from = c .before .before .before .before .before .before .find-seat .result .from in
+    let to = c .before .before .before .before .find-end .result in
+    let q = c .before .before .before .before .before .choose-key .result in
+    let b = scan-bounds s (a .seats) (c .before .before .before .before .before .before .before .before .before .before .before .pre) (c .before .before .before .before .before .before .before .before .scan .i) (c .before .before .before .before .before .before .before .scan-test .taken) (c .before .before .before .before .before .before .find-seat .result) (c .before .before .before .before .before .before .find-seat .ensures) q to (c .before .before .before .before .find-end .ensures) in
     search needs
 
-part-repeats-key-start : tie.Need-part-repeats-key-start Inv-loop μ-loop Inv-scan μ-scan
-part-repeats-key-start c =
+part-find-rise-start : tie.Need-part-find-rise-start Inv-loop μ-loop Inv-scan μ-scan
+part-find-rise-start c =
     let a = c .before .before .before .before .before .before .before .before .before .before .before .args in
-    let b = scan-bounds (a .s .now) (a .seats) (c .before .before .before .before .before .before .before .before .before .before .before .pre) (c .before .before .before .before .before .before .before .before .scan .i) (c .before .before .before .before .before .before .before .scan-test .taken) (c .before .before .before .before .before .before .find-seat .result) (c .before .before .before .before .before .before .find-seat .ensures) (c .before .before .before .before .before .choose-key .result) (c .before .before .before .before .find-end .result) (c .before .before .before .before .find-end .ensures) in
+    let s = a .s .now in
+    let from = c .before .before .before .before .before .before .find-seat .result .from in
+    let to = c .before .before .before .before .find-end .result in
+    let q = c .before .before .before .before .before .choose-key .result in
+    let b = scan-bounds s (a .seats) (c .before .before .before .before .before .before .before .before .before .before .before .pre) (c .before .before .before .before .before .before .before .before .scan .i) (c .before .before .before .before .before .before .before .scan-test .taken) (c .before .before .before .before .before .before .find-seat .result) (c .before .before .before .before .before .before .find-seat .ensures) q to (c .before .before .before .before .find-end .ensures) in
     search needs
 
-part-repeats-key-end : tie.Need-part-repeats-key-end Inv-loop μ-loop Inv-scan μ-scan
-part-repeats-key-end c =
+part-find-rise-end : tie.Need-part-find-rise-end Inv-loop μ-loop Inv-scan μ-scan
+part-find-rise-end c =
     let a = c .before .before .before .before .before .before .before .before .before .before .before .args in
-    let b = scan-bounds (a .s .now) (a .seats) (c .before .before .before .before .before .before .before .before .before .before .before .pre) (c .before .before .before .before .before .before .before .before .scan .i) (c .before .before .before .before .before .before .before .scan-test .taken) (c .before .before .before .before .before .before .find-seat .result) (c .before .before .before .before .before .before .find-seat .ensures) (c .before .before .before .before .before .choose-key .result) (c .before .before .before .before .find-end .result) (c .before .before .before .before .find-end .ensures) in
+    let s = a .s .now in
+    let from = c .before .before .before .before .before .before .find-seat .result .from in
+    let to = c .before .before .before .before .find-end .result in
+    let q = c .before .before .before .before .before .choose-key .result in
+    let b = scan-bounds s (a .seats) (c .before .before .before .before .before .before .before .before .before .before .before .pre) (c .before .before .before .before .before .before .before .before .scan .i) (c .before .before .before .before .before .before .before .scan-test .taken) (c .before .before .before .before .before .before .find-seat .result) (c .before .before .before .before .before .before .find-seat .ensures) q to (c .before .before .before .before .find-end .ensures) in
     search needs
 
-repeats-key-requires : tie.Need-repeats-key-requires Inv-loop μ-loop Inv-scan μ-scan
-repeats-key-requires c κs =
+find-rise-requires : tie.Need-find-rise-requires Inv-loop μ-loop Inv-scan μ-scan
+find-rise-requires c κs =
     let a = c .before .before .before .before .before .before .before .before .before .before .before .before .args in
     let s = a .s .now in
     let from = c .before .before .before .before .before .before .before .find-seat .result .from in
     let to = c .before .before .before .before .before .find-end .result in
-    let b = scan-bounds s (a .seats) (c .before .before .before .before .before .before .before .before .before .before .before .before .pre) (c .before .before .before .before .before .before .before .before .before .scan .i) (c .before .before .before .before .before .before .before .before .scan-test .taken) (c .before .before .before .before .before .before .before .find-seat .result) (c .before .before .before .before .before .before .before .find-seat .ensures) (c .before .before .before .before .before .before .choose-key .result) to (c .before .before .before .before .before .find-end .ensures) in
+    let q = c .before .before .before .before .before .before .choose-key .result in
+    let b = scan-bounds s (a .seats) (c .before .before .before .before .before .before .before .before .before .before .before .before .pre) (c .before .before .before .before .before .before .before .before .before .scan .i) (c .before .before .before .before .before .before .before .before .scan-test .taken) (c .before .before .before .before .before .before .before .find-seat .result) (c .before .before .before .before .before .before .before .find-seat .ensures) q to (c .before .before .before .before .before .find-end .ensures) in
     let w = take (to - from) (drop from s) in
     let n = part-length from to s (b .1) in
-    let h : c .before .before .before .before .loop .at < length w = omega (arith, c .before .before .before .loop-test .taken) in
-    let t = handed w (c .before .before .before .before .loop .at) (c .before .line .result) h (c .before .line .ensures) in
-    (omega arith, omega arith, c .before .before .before .before .loop .inv .4)
+    let l = c .before .before .before .before .loop in
+    let h : l .at < length w = omega (arith, c .before .before .before .loop-test .taken) in
+    let t = handed w (l .at) (c .before .line .result) h (c .before .line .ensures) in
+    let e = c .before .line .result .span .to in
+    (omega arith, omega arith)
 
-add-t31 : tie.Need-add-t31 Inv-loop μ-loop Inv-scan μ-scan
-add-t31 c = search needs
+sub-find-repeat : tie.Need-sub-find-repeat Inv-loop μ-loop Inv-scan μ-scan
+sub-find-repeat c =
+    let a = c .before .before .before .before .before .before .before .before .before .before .before .before .before .before .before .before .args in
+    let s = a .s .now in
+    let from = c .before .before .before .before .before .before .before .before .before .before .before .find-seat .result .from in
+    let to = c .before .before .before .before .before .before .before .before .before .find-end .result in
+    let q = c .before .before .before .before .before .before .before .before .before .before .choose-key .result in
+    let b = scan-bounds s (a .seats) (c .before .before .before .before .before .before .before .before .before .before .before .before .before .before .before .before .pre) (c .before .before .before .before .before .before .before .before .before .before .before .before .before .scan .i) (c .before .before .before .before .before .before .before .before .before .before .before .before .scan-test .taken) (c .before .before .before .before .before .before .before .before .before .before .before .find-seat .result) (c .before .before .before .before .before .before .before .before .before .before .before .find-seat .ensures) q to (c .before .before .before .before .before .before .before .before .before .find-end .ensures) in
+    search needs
+
+part-find-repeat-start : tie.Need-part-find-repeat-start Inv-loop μ-loop Inv-scan μ-scan
+part-find-repeat-start c =
+    let a = c .before .before .before .before .before .before .before .before .before .before .before .before .before .before .before .before .args in
+    let s = a .s .now in
+    let from = c .before .before .before .before .before .before .before .before .before .before .before .find-seat .result .from in
+    let to = c .before .before .before .before .before .before .before .before .before .find-end .result in
+    let q = c .before .before .before .before .before .before .before .before .before .before .choose-key .result in
+    let b = scan-bounds s (a .seats) (c .before .before .before .before .before .before .before .before .before .before .before .before .before .before .before .before .pre) (c .before .before .before .before .before .before .before .before .before .before .before .before .before .scan .i) (c .before .before .before .before .before .before .before .before .before .before .before .before .scan-test .taken) (c .before .before .before .before .before .before .before .before .before .before .before .find-seat .result) (c .before .before .before .before .before .before .before .before .before .before .before .find-seat .ensures) q to (c .before .before .before .before .before .before .before .before .before .find-end .ensures) in
+    search needs
+
+part-find-repeat-end : tie.Need-part-find-repeat-end Inv-loop μ-loop Inv-scan μ-scan
+part-find-repeat-end c =
+    let a = c .before .before .before .before .before .before .before .before .before .before .before .before .before .before .before .before .args in
+    let s = a .s .now in
+    let from = c .before .before .before .before .before .before .before .before .before .before .before .find-seat .result .from in
+    let to = c .before .before .before .before .before .before .before .before .before .find-end .result in
+    let q = c .before .before .before .before .before .before .before .before .before .before .choose-key .result in
+    let b = scan-bounds s (a .seats) (c .before .before .before .before .before .before .before .before .before .before .before .before .before .before .before .before .pre) (c .before .before .before .before .before .before .before .before .before .before .before .before .before .scan .i) (c .before .before .before .before .before .before .before .before .before .before .before .before .scan-test .taken) (c .before .before .before .before .before .before .before .before .before .before .before .find-seat .result) (c .before .before .before .before .before .before .before .before .before .before .before .find-seat .ensures) q to (c .before .before .before .before .before .before .before .before .before .find-end .ensures) in
+    search needs
+
+find-repeat-requires : tie.Need-find-repeat-requires Inv-loop μ-loop Inv-scan μ-scan
+find-repeat-requires c κs = search needs
+
+add-t36 : tie.Need-add-t36 Inv-loop μ-loop Inv-scan μ-scan
+add-t36 c =
+    omega (arith, c .before .before .before .before .before .before .before .before .before .before .before .loop .inv .1, c .before .before .before .before .before .before .before .before .before .before .before .before .before .before .before .scan-test .taken, c .before .before .before .before .before .before .before .before .before .before .before .before .before .before .before .before .before .before .before .pre .few)
+
+add-i : tie.Need-add-i Inv-loop μ-loop Inv-scan μ-scan
+add-i c =
+    omega (arith, c .before .before .before .before .before .before .before .before .before .before .before .loop .inv .1, c .before .before .before .before .before .before .before .before .before .before .before .before .before .before .before .scan-test .taken, c .before .before .before .before .before .before .before .before .before .before .before .before .before .before .before .before .before .before .before .pre .few)
+
+scan-less : tie.Need-scan-less Inv-loop μ-loop Inv-scan μ-scan
+scan-less c = omega (arith, c .before .before .before .before .before .before .before .before .before .before .before .loop .inv .1)
+
+scan-again : tie.Need-scan-again Inv-loop μ-loop Inv-scan μ-scan
+scan-again c =
+    let a = c .before .before .before .before .before .before .before .before .before .before .before .before .before .before .before .before .before .before .before .args in
+    let s = a .s .now in
+    let from = c .before .before .before .before .before .before .before .before .before .before .before .before .before .before .find-seat .result .from in
+    let to = c .before .before .before .before .before .before .before .before .before .before .before .before .find-end .result in
+    let q = c .before .before .before .before .before .before .before .before .before .before .before .before .before .choose-key .result in
+    let b = scan-bounds s (a .seats) (c .before .before .before .before .before .before .before .before .before .before .before .before .before .before .before .before .before .before .before .pre) (c .before .before .before .before .before .before .before .before .before .before .before .before .before .before .before .before .scan .i) (c .before .before .before .before .before .before .before .before .before .before .before .before .before .before .before .scan-test .taken) (c .before .before .before .before .before .before .before .before .before .before .before .before .before .before .find-seat .result) (c .before .before .before .before .before .before .before .before .before .before .before .before .before .before .find-seat .ensures) q to (c .before .before .before .before .before .before .before .before .before .before .before .before .find-end .ensures) in
+    let l = c .before .before .before .before .before .before .before .before .before .before .before .loop in
+    let z : c .before .find-repeat .result ≡ 0 = c .if2 .left in (
+      omega (arith, l .inv .1),
+      l .inv .0,
+      rw (l .inv .1) (below-more _ _ (c .before .before .before .before .before .before .before .before .before .before .before .before .before .before .before .before .scan .inv .2)
+          (repeat-is s (a .seats) (c .before .before .before .before .before .before .before .before .before .before .before .before .before .before .before .before .before .before .before .pre) (c .before .before .before .before .before .before .before .before .before .before .before .before .before .before .before .before .scan .i) (c .before .before .before .before .before .before .before .before .before .before .before .before .before .before .before .scan-test .taken) (c .before .before .before .before .before .before .before .before .before .before .before .before .before .before .find-seat .result) (c .before .before .before .before .before .before .before .before .before .before .before .before .before .before .find-seat .ensures) (a .second) q to 0 (c .before .before .before .before .before .before .before .before .before .before .before .before .before .choose-key .ensures) (c .before .before .before .before .before .before .before .before .before .before .before .before .find-end .ensures)
+          (sym (c .before .find-repeat .ensures) ∙ z))),
+    )
 
 loop-less : tie.Need-loop-less Inv-loop μ-loop Inv-scan μ-scan
 loop-less c =
-    let a = c .before .before .before .before .before .before .before .before .before .before .before .before .before .before .before .args in
+    let a = c .before .before .before .before .before .before .before .before .before .before .before .before .before .before .before .before .args in
     let s = a .s .now in
-    let from = c .before .before .before .before .before .before .before .before .before .before .find-seat .result .from in
-    let to = c .before .before .before .before .before .before .before .before .find-end .result in
-    let b = scan-bounds s (a .seats) (c .before .before .before .before .before .before .before .before .before .before .before .before .before .before .before .pre) (c .before .before .before .before .before .before .before .before .before .before .before .before .scan .i) (c .before .before .before .before .before .before .before .before .before .before .before .scan-test .taken) (c .before .before .before .before .before .before .before .before .before .before .find-seat .result) (c .before .before .before .before .before .before .before .before .before .before .find-seat .ensures) (c .before .before .before .before .before .before .before .before .before .choose-key .result) to (c .before .before .before .before .before .before .before .before .find-end .ensures) in
+    let from = c .before .before .before .before .before .before .before .before .before .before .before .find-seat .result .from in
+    let to = c .before .before .before .before .before .before .before .before .before .find-end .result in
+    let q = c .before .before .before .before .before .before .before .before .before .before .choose-key .result in
+    let b = scan-bounds s (a .seats) (c .before .before .before .before .before .before .before .before .before .before .before .before .before .before .before .before .pre) (c .before .before .before .before .before .before .before .before .before .before .before .before .before .scan .i) (c .before .before .before .before .before .before .before .before .before .before .before .before .scan-test .taken) (c .before .before .before .before .before .before .before .before .before .before .before .find-seat .result) (c .before .before .before .before .before .before .before .before .before .before .before .find-seat .ensures) q to (c .before .before .before .before .before .before .before .before .before .find-end .ensures) in
     let w = take (to - from) (drop from s) in
     let n = part-length from to s (b .1) in
-    let h : c .before .before .before .before .before .before .before .loop .at < length w = omega (arith, c .before .before .before .before .before .before .loop-test .taken) in
-    let t = handed w (c .before .before .before .before .before .before .before .loop .at) (c .before .before .before .before .line .result) h (c .before .before .before .before .line .ensures) in
+    let l = c .before .before .before .before .before .before .before .before .loop in
+    let h : l .at < length w = omega (arith, c .before .before .before .before .before .before .before .loop-test .taken) in
+    let t = handed w (l .at) (c .before .before .before .before .before .line .result) h (c .before .before .before .before .before .line .ensures) in
+    let e = c .before .before .before .before .before .line .result .span .to in
     omega arith
 
 loop-again : tie.Need-loop-again Inv-loop μ-loop Inv-scan μ-scan
 loop-again c =
-    let a = c .before .before .before .before .before .before .before .before .before .before .before .before .before .before .before .args in
+    let a = c .before .before .before .before .before .before .before .before .before .before .before .before .before .before .before .before .args in
     let s = a .s .now in
-    let from = c .before .before .before .before .before .before .before .before .before .before .find-seat .result .from in
-    let to = c .before .before .before .before .before .before .before .before .find-end .result in
-    let b = scan-bounds s (a .seats) (c .before .before .before .before .before .before .before .before .before .before .before .before .before .before .before .pre) (c .before .before .before .before .before .before .before .before .before .before .before .before .scan .i) (c .before .before .before .before .before .before .before .before .before .before .before .scan-test .taken) (c .before .before .before .before .before .before .before .before .before .before .find-seat .result) (c .before .before .before .before .before .before .before .before .before .before .find-seat .ensures) (c .before .before .before .before .before .before .before .before .before .choose-key .result) to (c .before .before .before .before .before .before .before .before .find-end .ensures) in
+    let from = c .before .before .before .before .before .before .before .before .before .before .before .find-seat .result .from in
+    let to = c .before .before .before .before .before .before .before .before .before .find-end .result in
+    let q = c .before .before .before .before .before .before .before .before .before .before .choose-key .result in
+    let b = scan-bounds s (a .seats) (c .before .before .before .before .before .before .before .before .before .before .before .before .before .before .before .before .pre) (c .before .before .before .before .before .before .before .before .before .before .before .before .before .scan .i) (c .before .before .before .before .before .before .before .before .before .before .before .before .scan-test .taken) (c .before .before .before .before .before .before .before .before .before .before .before .find-seat .result) (c .before .before .before .before .before .before .before .before .before .before .before .find-seat .ensures) q to (c .before .before .before .before .before .before .before .before .before .find-end .ensures) in
     let w = take (to - from) (drop from s) in
     let n = part-length from to s (b .1) in
-    let l = c .before .before .before .before .before .before .before .loop in
-    let h : l .at < length w = omega (arith, c .before .before .before .before .before .before .loop-test .taken) in
-    let t = handed w (l .at) (c .before .before .before .before .line .result) h (c .before .before .before .before .line .ensures) in
-    let e = c .before .before .before .before .line .result .span .to in (
+    let l = c .before .before .before .before .before .before .before .before .loop in
+    let h : l .at < length w = omega (arith, c .before .before .before .before .before .before .before .loop-test .taken) in
+    let t = handed w (l .at) (c .before .before .before .before .before .line .result) h (c .before .before .before .before .before .line .ensures) in
+    let e = c .before .before .before .before .before .line .result .span .to in
+    let r : c .before .before .before .find-rise .result .rises ≡ true = is-true _ (c .if1 .left) in
+    let g = c .before .before .before .find-rise .ensures in (
       l .inv .0,
-      omega arith,
-      starts-next w (l .at) e h (t .size) (l .inv .2),
-      sym (line-more w (l .at) e h (t .size) (l .inv .2) (again (c .before .before .before .before .before .before .before .before .before .choose-key .result)) (l .n) (sym (c .before .before .repeats-key .ensures .0) ∙ c .if1 .left)) ∙ l .inv .3,
-      rw (passed-lines w (l .at) e h (t .size) (l .inv .2)) (c .before .before .repeats-key .ensures .1),
+      l .inv .1,
+      fresh-next _ w (l .at) e (l .inv .2) h (t .size) (rise-new _ _ _ _ (l .inv .3) (sym (g .0) ∙ r)),
+      rw (passed-lines w (l .at) e h (t .size) (l .inv .2 .stands .starts), g .1) (rise-topped _ _ _ _ (l .inv .3) (sym (g .0) ∙ r)),
     )
 
-add-i : tie.Need-add-i Inv-loop μ-loop Inv-scan μ-scan
-add-i c = search needs
+add-i-2 : tie.Need-add-i-2 Inv-loop μ-loop Inv-scan μ-scan
+add-i-2 c = omega (arith, c .before .loop .inv .1)
 
-scan-less : tie.Need-scan-less Inv-loop μ-loop Inv-scan μ-scan
-scan-less c = search needs
+scan-less-2 : tie.Need-scan-less-2 Inv-loop μ-loop Inv-scan μ-scan
+scan-less-2 c = omega (arith, c .before .loop .inv .1)
 
-scan-again : tie.Need-scan-again Inv-loop μ-loop Inv-scan μ-scan
-scan-again c =
+scan-again-2 : tie.Need-scan-again-2 Inv-loop μ-loop Inv-scan μ-scan
+scan-again-2 c =
     let a = c .before .before .before .before .before .before .before .before .before .args in
     let s = a .s .now in
     let from = c .before .before .before .before .find-seat .result .from in
@@ -177,11 +267,11 @@ scan-again c =
     let n = part-length from to s (b .1) in
     let l = c .before .loop in
     let h : length w ≤ l .at = omega (arith, c .loop-test .left) in (
-      omega arith,
+      omega (arith, l .inv .1),
       l .inv .0,
-      below-more _ _ (c .before .before .before .before .before .before .scan .inv .2)
+      rw (l .inv .1) (below-more _ _ (c .before .before .before .before .before .before .scan .inv .2)
           (repeat-is s (a .seats) (c .before .before .before .before .before .before .before .before .before .pre) (c .before .before .before .before .before .before .scan .i) (c .before .before .before .before .before .scan-test .taken) (c .before .before .before .before .find-seat .result) (c .before .before .before .before .find-seat .ensures) (a .second) q to 0 (c .before .before .before .choose-key .ensures) (c .before .before .find-end .ensures)
-          (sym (l .inv .3) ∙ line-end w (l .at) (again q) _ (l .n) h)),
+          (fresh-end q w (l .at) (l .inv .2) h))),
     )
 
 returns : tie.Need-returns Inv-loop μ-loop Inv-scan μ-scan
@@ -192,22 +282,19 @@ returns c =
 
 returns-2 : tie.Need-returns-2 Inv-loop μ-loop Inv-scan μ-scan
 returns-2 c =
-    let a = c .before .before .before .before .before .before .before .before .before .before .before .before .before .before .before .args in
+    let a = c .before .before .before .before .before .before .before .before .before .before .before .before .before .before .before .before .before .before .before .args in
     let s = a .s .now in
-    let from = c .before .before .before .before .before .before .before .before .before .before .find-seat .result .from in
-    let to = c .before .before .before .before .before .before .before .before .find-end .result in
-    let q = c .before .before .before .before .before .before .before .before .before .choose-key .result in
-    let b = scan-bounds s (a .seats) (c .before .before .before .before .before .before .before .before .before .before .before .before .before .before .before .pre) (c .before .before .before .before .before .before .before .before .before .before .before .before .scan .i) (c .before .before .before .before .before .before .before .before .before .before .before .scan-test .taken) (c .before .before .before .before .before .before .before .before .before .before .find-seat .result) (c .before .before .before .before .before .before .before .before .before .before .find-seat .ensures) q to (c .before .before .before .before .before .before .before .before .find-end .ensures) in
-    let w = take (to - from) (drop from s) in
-    let n = part-length from to s (b .1) in
-    let l = c .before .before .before .before .before .before .before .loop in
-    let h : l .at < length w = omega (arith, c .before .before .before .before .before .before .loop-test .taken) in
-    let t = handed w (l .at) (c .before .before .before .before .line .result) h (c .before .before .before .before .line .ensures) in
-    let e = c .before .before .before .before .line .result .span .to in
-    rw (c .before .before .before .before .before .before .before .before .before .before .before .before .before .repeat-number .ensures)
-    (sym (repeats-at s (a .seats) (c .before .before .before .before .before .before .before .before .before .before .before .before .before .before .before .pre) (a .second) (c .before .before .before .before .before .before .before .before .before .before .before .before .scan .i) (l .n) (c .before .before .before .before .before .before .before .before .before .before .before .scan-test .taken) (c .before .before .before .before .before .before .before .before .before .before .before .before .scan .inv .2)
-    (repeat-is s (a .seats) (c .before .before .before .before .before .before .before .before .before .before .before .before .before .before .before .pre) (c .before .before .before .before .before .before .before .before .before .before .before .before .scan .i) (c .before .before .before .before .before .before .before .before .before .before .before .scan-test .taken) (c .before .before .before .before .before .before .before .before .before .before .find-seat .result) (c .before .before .before .before .before .before .before .before .before .before .find-seat .ensures) (a .second) q to (l .n + 1) (c .before .before .before .before .before .before .before .before .before .choose-key .ensures) (c .before .before .before .before .before .before .before .before .find-end .ensures)
-    (sym (l .inv .3) ∙ line-hit w (l .at) e h (t .size) (again q) (l .n) (sym (c .before .before .repeats-key .ensures .0) ∙ c .if1 .taken)))))
+    let from = c .before .before .before .before .before .before .before .before .before .before .before .before .before .before .find-seat .result .from in
+    let to = c .before .before .before .before .before .before .before .before .before .before .before .before .find-end .result in
+    let q = c .before .before .before .before .before .before .before .before .before .before .before .before .before .choose-key .result in
+    let b = scan-bounds s (a .seats) (c .before .before .before .before .before .before .before .before .before .before .before .before .before .before .before .before .before .before .before .pre) (c .before .before .before .before .before .before .before .before .before .before .before .before .before .before .before .before .scan .i) (c .before .before .before .before .before .before .before .before .before .before .before .before .before .before .before .scan-test .taken) (c .before .before .before .before .before .before .before .before .before .before .before .before .before .before .find-seat .result) (c .before .before .before .before .before .before .before .before .before .before .before .before .before .before .find-seat .ensures) q to (c .before .before .before .before .before .before .before .before .before .before .before .before .find-end .ensures) in
+    let l = c .before .before .before .before .before .before .before .before .before .before .before .loop in
+    let n = c .before .find-repeat .result in
+    let k : n ≡ n - 1 + 1 = omega (arith, c .if2 .taken) in
+    rw (l .inv .1, c .before .before .before .before .before .before .before .before .before .before .before .before .before .before .before .before .before .repeat-number .ensures, k)
+    (sym (repeats-at s (a .seats) (c .before .before .before .before .before .before .before .before .before .before .before .before .before .before .before .before .before .before .before .pre) (a .second) (c .before .before .before .before .before .before .before .before .before .before .before .before .before .before .before .before .scan .i) (n - 1) (c .before .before .before .before .before .before .before .before .before .before .before .before .before .before .before .scan-test .taken) (c .before .before .before .before .before .before .before .before .before .before .before .before .before .before .before .before .scan .inv .2)
+    (repeat-is s (a .seats) (c .before .before .before .before .before .before .before .before .before .before .before .before .before .before .before .before .before .before .before .pre) (c .before .before .before .before .before .before .before .before .before .before .before .before .before .before .before .before .scan .i) (c .before .before .before .before .before .before .before .before .before .before .before .before .before .before .before .scan-test .taken) (c .before .before .before .before .before .before .before .before .before .before .before .before .before .before .find-seat .result) (c .before .before .before .before .before .before .before .before .before .before .before .before .before .before .find-seat .ensures) (a .second) q to (n - 1 + 1) (c .before .before .before .before .before .before .before .before .before .before .before .before .before .choose-key .ensures) (c .before .before .before .before .before .before .before .before .before .before .before .before .find-end .ensures)
+    (sym (c .before .find-repeat .ensures) ∙ k))))
 
 pub first-repeat-spec : {M : Type 1} → statement M
 first-repeat-spec =
@@ -228,16 +315,22 @@ first-repeat-spec =
     part-line-start
     part-line-end
     line-requires
-    add-n
-    sub-repeats-key
-    part-repeats-key-start
-    part-repeats-key-end
-    repeats-key-requires
-    add-t31
-    loop-less
-    loop-again
+    sub-find-rise
+    part-find-rise-start
+    part-find-rise-end
+    find-rise-requires
+    sub-find-repeat
+    part-find-repeat-start
+    part-find-repeat-end
+    find-repeat-requires
+    add-t36
     add-i
     scan-less
     scan-again
+    loop-less
+    loop-again
+    add-i-2
+    scan-less-2
+    scan-again-2
     returns
     returns-2)

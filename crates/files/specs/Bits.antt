@@ -1,0 +1,38 @@
+-- A table of bits that hashes are put into. Which bits a hash has matters to no proof.
+use Prim.Native.Nat.{ℕ, _+_, _*_, _/_, _%_, _^_}
+use mathlib.Core.Path.{_≡_}
+use mathlib.Core.Bool.{Bool, false}
+use mathlib.Core.List.{List}
+use lib.ListN.{getD}
+use lib.Bits.{bitAnd, bitOr}
+
+abbrev bit : ℕ → ℕ
+bit p = 1 * 2 ^ p % 18446744073709551616
+
+-- four bits of a word
+unfoldable pub bits-of : ℕ → ℕ
+bits-of h = bitOr (bitOr (bitOr (bit (h / 268435456 % 64)) (bit (h / 17179869184 % 64))) (bit (h / 1099511627776 % 64))) (bit (h / 70368744177664 % 64))
+
+-- in which of n rounds a hash is looked at
+unfoldable pub lane-of : ℕ → ℕ → ℕ
+lane-of h n = h / 1125899906842624 % 256 * n / 256
+
+-- all bits of m are set in word i
+unfoldable pub In : List ℕ → ℕ → ℕ → Type 0
+In t i m = bitAnd (getD t i 0) m ≡ m
+
+-- the bits m of word i were set; r: they were before
+pub record Touched (t₀ : List ℕ) (i m : ℕ) (r : Bool) (t : List ℕ) : Type 0 where
+  pub keeps : (j n : ℕ) → In t₀ j n → In t j n
+  pub holds : In t i m
+  pub fresh : r ≡ false → In t₀ i m → ⊥
+
+-- all bits of a hash are set
+unfoldable pub Has : List ℕ → ℕ → Type 0
+Has t h = In t (h % 16384) (bits-of h) × In t (h / 16384 % 16384) (bits-of h)
+
+-- the bits of a hash were set; r: they were before
+pub record Added (t₀ : List ℕ) (h : ℕ) (r : Bool) (t : List ℕ) : Type 0 where
+  pub keeps : (g : ℕ) → Has t₀ g → Has t g
+  pub holds : Has t h
+  pub fresh : r ≡ false → Has t₀ h → ⊥
