@@ -3,3 +3,4 @@ pub mod SizeLaws
 pub mod ColumnLaws
 pub mod FormatLaws
 pub mod PlaceLaws
+pub mod RunLaws

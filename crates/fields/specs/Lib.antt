@@ -1,2 +1,3 @@
 pub mod Magnitudes
 pub mod Sizes
+pub mod Runs

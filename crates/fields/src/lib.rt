@@ -7,6 +7,7 @@ mod names;
 mod numbers;
 mod places;
 mod texts;
+mod walk;
 
 pub use columns::amount_of;
 pub use columns::read_field;
@@ -32,3 +33,5 @@ pub use texts::is_empty_text;
 pub use texts::own_size;
 pub use texts::text_size;
 pub use texts::texts_equal;
+pub use walk::Counted;
+pub use walk::number_at;
