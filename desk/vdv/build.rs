@@ -62,8 +62,13 @@ const X86_64: Way = Way {
 /// The kit builds archives for x86-64 alone.
 const AARCH64: Way = Way {
     archive: "target/staticlib-aarch64/libvdv.a",
-    sources: &["crates.txt", "crates", "desk/vdv/arm", "desk/vdv/include"],
-    command: "desk/vdv/arm/archive",
+    sources: &[
+        "crates.txt",
+        "crates",
+        "desk/vdv/native",
+        "desk/vdv/include",
+    ],
+    command: "desk/vdv/native/archive",
     words: &[".", "target/staticlib-aarch64/libvdv.a"],
 };
 
