@@ -13,13 +13,6 @@ const GIVEN: &str = "VDV_ARCHIVE";
 fn main() {
     println!("cargo:rerun-if-env-changed={GIVEN}");
     println!("cargo:rerun-if-changed=build.rs");
-    let target = (
-        wanted("CARGO_CFG_TARGET_ARCH"),
-        wanted("CARGO_CFG_TARGET_OS"),
-    );
-    if target != ("x86_64".to_owned(), "linux".to_owned()) {
-        refuse("the proved archive is built for Linux on x86-64 only");
-    }
     let archive = match env::var(GIVEN) {
         Ok(path) => given(&path),
         Err(_) => built(&Path::new(&wanted("CARGO_MANIFEST_DIR")).join("../..")),
@@ -44,20 +37,98 @@ fn refuse(why: &str) -> ! {
 
 fn given(path: &str) -> PathBuf {
     println!("cargo:rerun-if-changed={path}");
-    PathBuf::from(path)
+    let archive = PathBuf::from(path);
+    if !archive.is_file() {
+        refuse(&format!("{GIVEN} names {path}, and there is no such file"));
+    }
+    archive
+}
+
+/// How the archive for a machine comes about, and where it lies.
+struct Way {
+    archive: &'static str,
+    sources: &'static [&'static str],
+    command: &'static str,
+    words: &'static [&'static str],
+}
+
+const X86_64: Way = Way {
+    archive: "target/staticlib/libvdv.a",
+    sources: &["crates.txt", "crates"],
+    command: "rt",
+    words: &["staticlib", "vdv"],
+};
+
+/// The kit builds archives for x86-64 alone.
+const AARCH64: Way = Way {
+    archive: "target/staticlib-aarch64/libvdv.a",
+    sources: &[
+        "crates.txt",
+        "crates",
+        "desk/vdv/native",
+        "desk/vdv/include",
+    ],
+    command: "desk/vdv/native/archive",
+    words: &[".", "target/staticlib-aarch64/libvdv.a"],
+};
+
+impl Way {
+    fn to_target() -> Way {
+        let names = ["CARGO_CFG_TARGET_ARCH", "CARGO_CFG_TARGET_OS"];
+        let [machine, system] = names.map(wanted);
+        let is_native = wanted("HOST") == wanted("TARGET");
+        match (machine.as_str(), system.as_str()) {
+            ("x86_64", "linux") => X86_64,
+            ("aarch64", "linux") if is_native => AARCH64,
+            _ => refuse(&format!(
+                "the library is proved and built for Linux on x86-64, and on an Arm machine for \
+                 itself, not for {system} on {machine}; name an archive for it in {GIVEN}"
+            )),
+        }
+    }
+
+    fn run(&self, root: &Path) {
+        let shown = [&[self.command], self.words].concat().join(" ");
+        let run = Command::new(self.command)
+            .args(self.words)
+            .current_dir(root)
+            .output();
+        match run {
+            Ok(output) if output.status.success() => {}
+            Ok(output) if output.status.code() == Some(NO_COMMAND) => lack_rt(),
+            Ok(output) => refuse(&format!(
+                "`{shown}` proved no archive:\n{}{}",
+                String::from_utf8_lossy(&output.stdout),
+                String::from_utf8_lossy(&output.stderr)
+            )),
+            Err(error) if error.kind() == ErrorKind::NotFound => lack_rt(),
+            Err(error) => refuse(&format!("`{shown}`: {error}")),
+        }
+    }
+}
+
+/// What a shell ends with that finds no such command.
+const NO_COMMAND: i32 = 127;
+
+fn lack_rt() -> ! {
+    refuse(&format!(
+        "`rt`, which proves and builds the library, is not on this machine; \
+         install Rattle, or name a built libvdv.a in {GIVEN}"
+    ))
 }
 
 /// The archive under target/, no older than what it is proved from.
 fn built(root: &Path) -> PathBuf {
-    let archive = root.join("target/staticlib/libvdv.a");
-    let sources = [root.join("crates.txt"), root.join("crates")];
-    for source in &sources {
+    let way = Way::to_target();
+    let archive = root.join(way.archive);
+    let mut latest = None;
+    for source in way.sources.iter().map(|source| root.join(source)) {
         println!("cargo:rerun-if-changed={}", source.display());
+        latest = latest.max(newest(&source));
     }
     let written = changed(&archive).ok();
-    let newest = sources.iter().map(|source| newest(source)).max().flatten();
-    if written.is_none() || written < newest {
-        prove(root);
+    if written.is_none() || written < latest {
+        way.run(root);
     }
     archive
 }
@@ -73,24 +144,4 @@ fn newest(path: &Path) -> Option<SystemTime> {
     };
     let below = entries.flatten().filter_map(|entry| newest(&entry.path()));
     below.chain(own).max()
-}
-
-fn prove(root: &Path) {
-    let run = Command::new("rt")
-        .args(["staticlib", "vdv"])
-        .current_dir(root)
-        .output();
-    match run {
-        Ok(output) if output.status.success() => {}
-        Ok(output) => refuse(&format!(
-            "`rt staticlib vdv` proved no archive:\n{}{}",
-            String::from_utf8_lossy(&output.stdout),
-            String::from_utf8_lossy(&output.stderr)
-        )),
-        Err(error) if error.kind() == ErrorKind::NotFound => refuse(&format!(
-            "`rt`, which proves and builds the library, is not on this machine; \
-             install Rattle, or name a built libvdv.a in {GIVEN}"
-        )),
-        Err(error) => refuse(&format!("`rt staticlib vdv`: {error}")),
-    }
 }

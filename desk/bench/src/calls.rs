@@ -1,6 +1,7 @@
 //! The calls that are measured, each with room enough.
 
-use face::{tables, At, Library, Refusal, Row, CELLS, LIMIT};
+use face::{all_rows, cells_of, Library, Refusal, Row, LIMIT};
+use samples::large::EMPTY;
 
 #[derive(Clone, Copy, Debug, PartialEq, Eq)]
 pub enum Call {
@@ -21,12 +22,6 @@ pub const ALL: [Call; 6] = [
     Call::Strip,
 ];
 
-/// The empty text that every measured file has.
-const EMPTY: At = At::new(1, 2, 2);
-
-/// Rows lent to a listing: a sound file has eight sections at most.
-const ROWS: usize = 8;
-
 impl Call {
     pub fn named(name: &str) -> Option<Call> {
         ALL.into_iter().find(|call| call.name() == name)
@@ -43,37 +38,39 @@ impl Call {
         }
     }
 
+    /// Whether a form is put out, which a refused file has none of.
+    pub fn puts_out(self) -> bool {
+        matches!(self, Call::Write | Call::Fill | Call::Strip)
+    }
+
     /// What is lent is made once, so that only the call is measured.
     pub fn prepare<'a>(self, library: &'a dyn Library, file: &'a [u8]) -> Prepared<'a> {
+        let found = match self {
+            Call::List | Call::Table => all_rows(library, file).map_or(Vec::new(), |l| l.rows),
+            _ => Vec::new(),
+        };
         let (section, cells) = match self {
-            Call::Table => largest(library, file),
+            Call::Table => largest(&found),
             _ => (0, 0),
         };
-        let bytes = match self {
-            Call::Write | Call::Fill | Call::Strip => LIMIT,
-            _ => 0,
-        };
+        let bytes = if self.puts_out() { LIMIT } else { 0 };
         Prepared {
             call: self,
             library,
             file,
             section,
             cells: vec![0; cells],
-            rows: vec![Row::default(); ROWS],
+            rows: vec![Row::default(); found.len()],
             out: vec![0; bytes],
         }
     }
 }
 
 /// The section with the most records, and the cells it fills.
-fn largest(library: &dyn Library, file: &[u8]) -> (usize, usize) {
-    let rows = face::all_rows(library, file).map_or(Vec::new(), |listing| listing.rows);
+fn largest(rows: &[Row]) -> (usize, usize) {
     let sections = rows.iter().enumerate();
-    let Some((index, row)) = sections.max_by_key(|(_, row)| row.records) else {
-        return (0, 0);
-    };
-    let width = tables::numbered(row.table).map_or(0, |table| table.columns.len());
-    (index + 1, row.records * width * CELLS)
+    let largest = sections.max_by_key(|(_, row)| row.records);
+    largest.map_or((0, 0), |(index, row)| (index + 1, cells_of(*row)))
 }
 
 pub struct Prepared<'a> {
@@ -87,20 +84,26 @@ pub struct Prepared<'a> {
 }
 
 impl Prepared<'_> {
-    /// The call itself; how much it put out.
-    pub fn run(&mut self) -> Result<usize, Refusal> {
+    /// The call itself, and its answer.
+    pub fn run(&mut self) -> Refusal {
         let (library, file) = (self.library, self.file);
-        let answered = |answer: Refusal| match answer.is_sound() {
-            true => Ok(0),
-            false => Err(answer),
-        };
-        match self.call {
-            Call::Check => answered(library.check(file)),
-            Call::List => answered(library.list(file, &mut self.rows)),
+        let put = match self.call {
+            Call::Check => return library.check(file),
+            Call::List => return library.list(file, &mut self.rows),
             Call::Table => library.table(file, self.section, &mut self.cells),
             Call::Write => library.write(file, &mut self.out),
             Call::Fill => library.fill(file, EMPTY, b"Vorschlag", &mut self.out),
             Call::Strip => library.strip(file, &mut self.out),
+        };
+        put.err().unwrap_or(Refusal::SOUND)
+    }
+
+    /// The number that the call is to answer with a file of this answer: a
+    /// table is handed out whatever the file's answer is.
+    pub fn meant(&self, answer: u32) -> u32 {
+        match self.call {
+            Call::Table => face::number::SOUND,
+            _ => answer,
         }
     }
 

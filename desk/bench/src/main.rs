@@ -1,37 +1,34 @@
 //! Measures the chosen library beside the independent reader: speed, ratio,
-//! and how the time grows with the file.
+//! how the time grows with the file, and the stack that is needed.
 
 mod calls;
 mod clock;
 mod measure;
 mod options;
 mod report;
+mod stack;
 
+use std::env::consts::ARCH;
 use std::process::ExitCode;
+use std::thread::available_parallelism;
 
-use measure::measure;
-use options::{Options, Wish, HELP};
+use measure::Measuring;
+use options::Options;
 use report::Report;
 use samples::large::{file, Shape};
 
 fn main() -> ExitCode {
-    match Wish::read(std::env::args().skip(1)) {
-        Ok(Wish::Help) => {
-            print!("{HELP}");
-            ExitCode::SUCCESS
-        }
-        Ok(Wish::Run(options)) => bench(&options),
-        Err(problem) => {
-            eprintln!("bench: {problem}\n\n{HELP}");
-            ExitCode::from(2)
-        }
-    }
+    ::options::run(bench)
 }
 
 fn bench(options: &Options) -> ExitCode {
     let (subject, baseline) = (libraries::chosen().name(), libraries::baseline().name());
-    println!("{subject} beside {baseline}, best of {} runs", options.runs);
-    println!("lent room is made before the first run and not cleared between runs");
+    let cores = available_parallelism().map_or(1, |count| count.get());
+    println!(
+        "{subject} beside {baseline} on {ARCH}, {cores} cores: the best of {} runs of both in turn, in\n\
+         the time that the thread was at work. What is lent is made before the first run.",
+        options.runs
+    );
     for shape in options.shapes() {
         if let Err(words) = bench_shape(options, shape) {
             eprintln!("bench: {}: {words}", shape.name());
@@ -45,16 +42,23 @@ fn bench_shape(options: &Options, shape: Shape) -> Result<(), String> {
     let (subject, baseline) = (libraries::chosen(), libraries::baseline());
     let sizes = options.sizes().into_iter();
     let files: Vec<_> = sizes
-        .map(|size| (size, file(shape, size << 20, 1)))
+        .map(|size| (size, file(shape, (size as usize) << 20, 1)))
         .collect();
-    println!("\n{}", shape.name());
+    println!("\n## {}\n", shape.name());
     let mut report = Report::new();
-    report.print_heading();
-    for call in options.calls() {
+    report.print_heading(subject.name(), baseline.name());
+    for call in options.calls(shape) {
         for (mebibytes, file) in &files {
-            let times = measure(call, subject, baseline, file, options.runs)
+            let measuring = Measuring {
+                call,
+                file,
+                answer: shape.answer(),
+                runs: options.runs,
+            };
+            let measured = measuring
+                .measure(subject, baseline)
                 .map_err(|words| format!("{} of {mebibytes} MiB: {words}", call.name()))?;
-            report.print(call, *mebibytes, file.len(), times);
+            report.print(call, *mebibytes, file.len(), measured);
         }
     }
     Ok(())

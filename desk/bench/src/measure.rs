@@ -1,4 +1,5 @@
-//! The best of several runs, of both implementations in turn.
+//! The best of several runs, of both implementations in turn, and the stack
+//! that a run needs.
 
 use std::hint::black_box;
 use std::time::Duration;
@@ -6,45 +7,77 @@ use std::time::Duration;
 use face::Library;
 
 use crate::calls::{Call, Prepared};
-use crate::clock;
+use crate::{clock, stack};
+
+/// What one call of both implementations took.
+#[derive(Clone, Copy, Debug, PartialEq, Eq)]
+pub struct Measured {
+    pub subject: Taken,
+    pub baseline: Taken,
+}
 
 #[derive(Clone, Copy, Debug, PartialEq, Eq)]
-pub struct Times {
-    pub subject: Duration,
-    pub baseline: Duration,
+pub struct Taken {
+    pub time: Duration,
+    /// Bytes of stack.
+    pub stack: usize,
 }
 
-/// Both are run in turn, so that what else the machine does falls on both.
-/// What is fast and wrong is not measured.
-pub fn measure(
-    call: Call,
-    subject: &dyn Library,
-    baseline: &dyn Library,
-    file: &[u8],
-    runs: usize,
-) -> Result<Times, String> {
-    let mut subject = call.prepare(subject, file);
-    let mut baseline = call.prepare(baseline, file);
-    let mut best = Times {
-        subject: Duration::MAX,
-        baseline: Duration::MAX,
-    };
-    for _ in 0..runs {
-        best.subject = best.subject.min(time(&mut subject)?);
-        best.baseline = best.baseline.min(time(&mut baseline)?);
-    }
-    if subject.agrees(&baseline) {
-        Ok(best)
-    } else {
-        Err("the two put out different things".to_owned())
-    }
+/// A file to measure with, and the answer it is made to get.
+#[derive(Clone, Copy)]
+pub struct Measuring<'a> {
+    pub call: Call,
+    pub file: &'a [u8],
+    pub answer: u32,
+    pub runs: u64,
 }
 
-fn time(prepared: &mut Prepared<'_>) -> Result<Duration, String> {
-    let start = clock::now();
-    let answer = black_box(prepared.run());
-    let taken = clock::now() - start;
-    answer
-        .map(|_| taken)
-        .map_err(|refusal| format!("refused by {}", refusal.number))
+impl Measuring<'_> {
+    /// Both are run in turn, so that what else the machine does falls on both.
+    /// What is fast and wrong is not measured.
+    pub fn measure(
+        self,
+        subject: &dyn Library,
+        baseline: &dyn Library,
+    ) -> Result<Measured, String> {
+        let mut subject = self.call.prepare(subject, self.file);
+        let mut baseline = self.call.prepare(baseline, self.file);
+        let mut measured = Measured {
+            subject: self.taken(&mut subject)?,
+            baseline: self.taken(&mut baseline)?,
+        };
+        for _ in 0..self.runs {
+            let times = [
+                (&mut measured.subject, &mut subject),
+                (&mut measured.baseline, &mut baseline),
+            ];
+            for (taken, prepared) in times {
+                taken.time = taken.time.min(self.time(prepared)?);
+            }
+        }
+        if subject.agrees(&baseline) {
+            Ok(measured)
+        } else {
+            Err("the two put out different things".to_owned())
+        }
+    }
+
+    /// The first run, which no time is taken of, tells the stack.
+    fn taken(self, prepared: &mut Prepared<'_>) -> Result<Taken, String> {
+        let stack = stack::used_by(&mut || {
+            black_box(prepared.run());
+        })?;
+        let time = Duration::MAX;
+        Ok(Taken { time, stack })
+    }
+
+    fn time(self, prepared: &mut Prepared<'_>) -> Result<Duration, String> {
+        let start = clock::now();
+        let answer = black_box(prepared.run());
+        let time = clock::now() - start;
+        match answer.number == prepared.meant(self.answer) {
+            true => Ok(time),
+            false => Err(format!("answered by {}", answer.number)),
+        }
+    }
 }

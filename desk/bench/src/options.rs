@@ -1,10 +1,11 @@
 //! What is to be measured.
 
+use options::Value;
 use samples::large::{Order, Shape};
 
 use crate::calls::{Call, ALL};
 
-pub const HELP: &str = "\
+const HELP: &str = "\
 Measures the library beside the independent reader.
 
 usage: bench [--runs N] [--largest MIB] [--call NAME] [--shape NAME]
@@ -12,80 +13,84 @@ usage: bench [--runs N] [--largest MIB] [--call NAME] [--shape NAME]
   --runs N       the best of so many runs (3)
   --largest MIB  sizes 1, 2, 4, .. up to this many MiB (16)
   --call NAME    one call: check, list, table, write, fill, strip
-  --shape NAME   one shape: rising, shuffled, huge, huge-shuffled
+  --shape NAME   one shape: rising, shuffled, eight, eight-shuffled, many, huge,
+                 huge-shuffled
 
 rising and shuffled have as many links as running times, in key order or not;
-huge is one table, the calendar. Prints MB/s of both, the subject's time by the
-baseline's, and the time by that of the size before: 2 is growth with the bytes.
+eight is all eight tables with a share of the bytes each; many is small tables
+again and again, which is refused by 17 and so only read; huge is one table, the
+calendar. Prints Markdown tables: MB/s of both, the subject's time by the
+baseline's, the time by that of half the size (2 is growth with the bytes), and
+the most stack a call needed, in bytes.
 ";
 
-const SHAPES: [(&str, Shape); 4] = [
+const SHAPES: [(&str, Shape); 7] = [
     ("rising", Shape::Network(Order::Rising)),
     ("shuffled", Shape::Network(Order::Shuffled)),
+    ("eight", Shape::Eight(Order::Rising)),
+    ("eight-shuffled", Shape::Eight(Order::Shuffled)),
+    ("many", Shape::Small),
     ("huge", Shape::Calendar(Order::Rising)),
     ("huge-shuffled", Shape::Calendar(Order::Shuffled)),
 ];
 
 /// A file has no more.
-const MOST: usize = 16;
+const MOST: u64 = 16;
 
 #[derive(Clone, Debug, PartialEq, Eq)]
 pub struct Options {
-    pub runs: usize,
-    largest: usize,
+    pub runs: u64,
+    largest: u64,
     call: Option<Call>,
     shape: Option<Shape>,
 }
 
-#[derive(Clone, Debug, PartialEq, Eq)]
-pub enum Wish {
-    Run(Options),
-    Help,
-}
-
-impl Wish {
-    pub fn read(arguments: impl IntoIterator<Item = String>) -> Result<Wish, String> {
-        let mut options = Options {
+impl Default for Options {
+    fn default() -> Options {
+        Options {
             runs: 3,
             largest: MOST,
             call: None,
             shape: None,
-        };
-        let mut arguments = arguments.into_iter();
-        while let Some(name) = arguments.next() {
-            let mut value = || arguments.next().ok_or(format!("{name} needs a value"));
-            match name.as_str() {
-                "--help" | "-h" => return Ok(Wish::Help),
-                "--runs" => options.runs = number(&value()?, 1000)?,
-                "--largest" => options.largest = number(&value()?, MOST)?,
-                "--call" => options.call = Some(call(&value()?)?),
-                "--shape" => options.shape = Some(shape(&value()?)?),
-                _ => return Err(format!("unknown option {name}")),
-            }
         }
-        Ok(Wish::Run(options))
+    }
+}
+
+impl options::Options for Options {
+    const PROGRAM: &'static str = "bench";
+    const HELP: &'static str = HELP;
+
+    fn take(&mut self, name: &str, value: &mut Value<'_>) -> Result<bool, String> {
+        match name {
+            "--runs" => self.runs = value.number(1..=1000)?,
+            "--largest" => self.largest = value.number(1..=MOST)?,
+            "--call" => self.call = Some(call(&value.word()?)?),
+            "--shape" => self.shape = Some(shape(&value.word()?)?),
+            _ => return Ok(false),
+        }
+        Ok(true)
     }
 }
 
 impl Options {
-    pub fn sizes(&self) -> Vec<usize> {
+    /// In MiB.
+    pub fn sizes(&self) -> Vec<u64> {
         let sizes = [1, 2, 4, 8, 16].into_iter();
         sizes.filter(|size| *size <= self.largest).collect()
     }
 
-    pub fn calls(&self) -> Vec<Call> {
-        self.call.map_or(ALL.to_vec(), |call| vec![call])
+    /// A file that is refused is only read.
+    pub fn calls(&self, shape: Shape) -> Vec<Call> {
+        let calls = self.call.map_or(ALL.to_vec(), |call| vec![call]);
+        let is_sound = shape.answer() == face::number::SOUND;
+        let can_run = |call: &Call| is_sound || !call.puts_out();
+        calls.into_iter().filter(can_run).collect()
     }
 
     pub fn shapes(&self) -> Vec<Shape> {
         let all = || SHAPES.map(|(_, shape)| shape).to_vec();
         self.shape.map_or_else(all, |shape| vec![shape])
     }
-}
-
-fn number(text: &str, most: usize) -> Result<usize, String> {
-    let found = text.parse().ok().filter(|n| (1..=most).contains(n));
-    found.ok_or(format!("{text} is not from 1 to {most}"))
 }
 
 fn call(name: &str) -> Result<Call, String> {
@@ -102,33 +107,41 @@ fn shape(name: &str) -> Result<Shape, String> {
 #[cfg(test)]
 mod tests {
     use super::*;
+    use options::Wish;
 
-    fn read(arguments: &[&str]) -> Result<Wish, String> {
-        Wish::read(arguments.iter().map(|argument| argument.to_string()))
+    fn read(line: &str) -> Result<Options, String> {
+        match options::read(line.split_whitespace().map(str::to_owned))? {
+            Wish::Run(options) => Ok(options),
+            Wish::Help => Err("help".to_owned()),
+        }
     }
 
     #[test]
     fn wishes() {
-        let Ok(Wish::Run(all)) = read(&[]) else {
-            panic!();
-        };
+        let all = read("").unwrap();
         assert_eq!(all.sizes(), [1, 2, 4, 8, 16]);
-        assert_eq!((all.calls().len(), all.shapes().len()), (6, 4));
-        let some = ["--largest", "4", "--call", "table", "--shape", "huge"];
-        let Ok(Wish::Run(some)) = read(&some) else {
-            panic!();
-        };
+        assert_eq!(all.shapes().len(), 7);
+        assert_eq!(all.calls(Shape::Eight(Order::Rising)).len(), 6);
+        assert_eq!(
+            all.calls(Shape::Small),
+            [Call::Check, Call::List, Call::Table]
+        );
+        let some = read("--largest 4 --call table --shape huge").unwrap();
         assert_eq!(some.sizes(), [1, 2, 4]);
-        assert_eq!(some.calls(), [Call::Table]);
         assert_eq!(some.shapes(), [Shape::Calendar(Order::Rising)]);
-        for wrong in [
-            &["--runs", "0"][..],
-            &["--largest", "17"],
-            &["--call", "x"],
-            &["--shape"],
-            &["x"],
+        assert_eq!(some.calls(some.shapes()[0]), [Call::Table]);
+    }
+
+    #[test]
+    fn misuse() {
+        for line in [
+            "--runs 0",
+            "--largest 17",
+            "--call x",
+            "--shape y",
+            "--shape",
         ] {
-            assert!(read(wrong).is_err(), "{wrong:?}");
+            assert!(read(line).is_err(), "{line}");
         }
     }
 }

@@ -1,13 +1,13 @@
-//! One line a measurement.
+//! One line a measurement, in a Markdown table.
 
 use std::time::Duration;
 
 use crate::calls::Call;
-use crate::measure::Times;
+use crate::measure::Measured;
 
 /// Remembers the last size of a call, to say how the time has grown.
 pub struct Report {
-    last: Option<(Call, Times)>,
+    last: Option<(Call, Measured)>,
 }
 
 impl Report {
@@ -15,32 +15,39 @@ impl Report {
         Report { last: None }
     }
 
-    pub fn print_heading(&self) {
-        println!("call     MiB  subject MB/s  baseline MB/s  ratio  growth subject  baseline");
+    pub fn print_heading(&self, subject: &str, baseline: &str) {
+        println!(
+            "| call  | MiB | {subject} MB/s | {baseline} MB/s | ratio | growth of {subject} | of {baseline} \
+             | stack of {subject} | of {baseline} |\n\
+             |---|---:|---:|---:|---:|---:|---:|---:|---:|"
+        );
     }
 
     /// The ratio is the subject's time by the baseline's; growth is the time
-    /// by that of the size before, 2 where time grows with the bytes.
-    pub fn print(&mut self, call: Call, mebibytes: usize, bytes: usize, times: Times) {
+    /// by that of half the size, 2 where time grows with the bytes.
+    pub fn print(&mut self, call: Call, mebibytes: u64, bytes: usize, measured: Measured) {
         let before = self.last.filter(|(last, _)| *last == call);
+        let (subject, baseline) = (measured.subject, measured.baseline);
         let growth = before.map(|(_, last)| {
-            (
-                by(times.subject, last.subject),
-                by(times.baseline, last.baseline),
-            )
+            [
+                by(subject.time, last.subject.time),
+                by(baseline.time, last.baseline.time),
+            ]
         });
-        let (subject_growth, baseline_growth) = match growth {
-            Some((subject, baseline)) => (format!("{subject:.2}"), format!("{baseline:.2}")),
-            None => ("-".to_owned(), "-".to_owned()),
+        let [of_subject, of_baseline] = match growth {
+            Some(growth) => growth.map(|factor| format!("{factor:.2}")),
+            None => ["", ""].map(str::to_owned),
         };
         println!(
-            "{:6} {mebibytes:5} {:13.1} {:14.1} {:6.2} {subject_growth:>15} {baseline_growth:>9}",
+            "| {:5} | {mebibytes:3} | {:.1} | {:.1} | {:.2} | {of_subject} | {of_baseline} | {} | {} |",
             call.name(),
-            speed(bytes, times.subject),
-            speed(bytes, times.baseline),
-            by(times.subject, times.baseline),
+            speed(bytes, subject.time),
+            speed(bytes, baseline.time),
+            by(subject.time, baseline.time),
+            subject.stack,
+            baseline.stack,
         );
-        self.last = Some((call, times));
+        self.last = Some((call, measured));
     }
 }
 

@@ -2,49 +2,47 @@
 
 use std::process::{Command, Output};
 
-fn bench(arguments: &[&str]) -> Output {
+fn bench(line: &str) -> Output {
     Command::new(env!("CARGO_BIN_EXE_bench"))
-        .args(arguments)
+        .args(line.split_whitespace())
         .output()
         .unwrap()
 }
 
+/// The cells of each line that measures this call.
+fn measured<'p>(printed: &'p str, call: &str) -> Vec<Vec<&'p str>> {
+    let cells = |line: &'p str| line.split('|').map(str::trim).collect::<Vec<_>>();
+    let lines = printed.lines().map(cells);
+    lines.filter(|cells| cells.get(1) == Some(&call)).collect()
+}
+
 #[test]
 fn every_call_is_measured() {
-    let output = bench(&["--largest", "2", "--runs", "1", "--shape", "shuffled"]);
+    let output = bench("--largest 2 --runs 1 --shape rising");
     let printed = String::from_utf8(output.stdout).unwrap();
     assert!(output.status.success(), "{printed}");
     for call in ["check", "list", "table", "write", "fill", "strip"] {
-        let lines: Vec<&str> = printed
-            .lines()
-            .filter(|line| line.starts_with(call))
-            .collect();
+        let lines = measured(&printed, call);
         assert_eq!(lines.len(), 2, "{printed}");
-        assert!(
-            lines[0].ends_with("-         -") && !lines[1].ends_with('-'),
-            "{printed}"
-        );
+        let (sizes, growths) = ([lines[0][2], lines[1][2]], [lines[0][6], lines[1][6]]);
+        assert_eq!(sizes, ["1", "2"]);
+        assert!(growths[0].is_empty() && !growths[1].is_empty(), "{printed}");
+        let stack: usize = lines[0][8].parse().unwrap();
+        assert!((1..1_000_000).contains(&stack), "{printed}");
     }
 }
 
 #[test]
-fn one_huge_table() {
-    let output = bench(&[
-        "--largest",
-        "1",
-        "--runs",
-        "1",
-        "--shape",
-        "huge",
-        "--call",
-        "table",
-    ]);
-    assert!(output.status.success());
-    assert!(output.stdout.windows(4).any(|part| part == b"huge"));
+fn a_refused_file_is_only_read() {
+    let output = bench("--largest 1 --runs 1 --shape many");
+    let printed = String::from_utf8(output.stdout).unwrap();
+    assert!(output.status.success(), "{printed}");
+    let count = |call| measured(&printed, call).len();
+    assert_eq!(["check", "list", "table", "write"].map(count), [1, 1, 1, 0]);
 }
 
 #[test]
 fn help_and_misuse() {
-    assert!(bench(&["--help"]).status.success());
-    assert_eq!(bench(&["--runs"]).status.code(), Some(2));
+    assert!(bench("--help").status.success());
+    assert_eq!(bench("--runs").status.code(), Some(2));
 }

@@ -3,7 +3,8 @@
 use std::fmt::{self, Debug, Display, Formatter};
 
 use face::{
-    all_rows, own_bytes, tables, value_in, At, Library, Listing, Refusal, Row, Value, CELLS,
+    all_rows, cells_of, own_bytes, value_in, width_of, At, Library, Listing, Refusal, Row, Value,
+    CELLS,
 };
 use samples::Random;
 
@@ -142,7 +143,7 @@ impl Comparison<'_> {
             &format_args!("{call}: one row of the listing"),
         )?;
         let width = width_of(row);
-        let cells = self.table(section, row, width)?;
+        let cells = self.table(section, row)?;
         for at in self.places(section, row, width) {
             let value = self.value(at)?;
             let cell = cell_of(&cells, at, width);
@@ -157,9 +158,9 @@ impl Comparison<'_> {
     }
 
     /// All values of a table; nothing of a refused one.
-    fn table(&mut self, section: usize, row: Row, width: usize) -> Result<Vec<u64>, Difference> {
+    fn table(&mut self, section: usize, row: Row) -> Result<Vec<u64>, Difference> {
         let file = self.file;
-        let ample = row.records * width * CELLS + 2;
+        let ample = cells_of(row) + 2;
         let run =
             move |library: &dyn Library, cells: &mut [u64]| library.table(file, section, cells);
         let call = format!("table {section}");
@@ -170,7 +171,7 @@ impl Comparison<'_> {
         )?;
         let cells = cells.unwrap_or_default();
         law(
-            cells.len() == row.records * width * CELLS,
+            cells.len() == cells_of(row),
             &format_args!("{call}: as many records as the row counts"),
         )?;
         Ok(cells)
@@ -229,10 +230,6 @@ impl Comparison<'_> {
         }
         Ok(())
     }
-}
-
-fn width_of(row: Row) -> usize {
-    tables::numbered(row.table).map_or(0, |table| table.columns.len())
 }
 
 /// The value at a place by a table's cells.

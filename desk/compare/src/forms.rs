@@ -2,7 +2,7 @@
 //! implementation's to the byte, and the one that is printed from what the
 //! file says by the subject's own calls.
 
-use face::{all_rows, tables, At, Library, Refusal, Row};
+use face::{At, Library, Refusal};
 use samples::form::form;
 use samples::{texts, Model, Random};
 
@@ -13,8 +13,9 @@ use crate::meaning::model_of;
 use crate::tally::Tally;
 use crate::Pair;
 
-/// Places tried for filling: those where it may succeed, and others.
-const MAY_FILL: usize = 15;
+/// Beside every place that can be filled: texts that are not empty, and fields
+/// that may not be filled or do not stand.
+const TAKEN: usize = 3;
 const OTHERS: usize = 4;
 
 /// Bytes never allowed, allowed under ISO8859-1 only, and at the edges.
@@ -110,7 +111,7 @@ impl Forms<'_> {
     /// A form is the printed one, is accepted, says what it was printed from,
     /// and is written again unchanged.
     fn is_form_of(
-        &self,
+        &mut self,
         call: &str,
         put: &Result<Vec<u8>, Refusal>,
         model: &Model,
@@ -129,20 +130,25 @@ impl Forms<'_> {
             model_of(subject, &printed).as_ref() == Some(model),
             &format_args!("{call}: the form says what it is printed from"),
         )?;
-        let mut again = vec![0; printed.len()];
-        let length = subject.write(&printed, &mut again);
+        let file = &printed;
+        let run = move |library: &dyn Library, out: &mut [u8]| library.write(file, out);
+        let call = &format_args!("{call}, written again");
+        let again = lend(self.pair, self.tally, call, printed.len(), &run)?;
         law(
-            length == Ok(printed.len()) && again == printed,
-            &format_args!("{call}: written again unchanged"),
+            again.as_ref() == Ok(&printed),
+            &format_args!("{call}: unchanged"),
         )
     }
 
     fn fill_places(&mut self, model: &Model) -> Result<(), Difference> {
-        let rows = all_rows(self.pair.subject, self.file).map_or(Vec::new(), |l| l.rows);
         let mut first = true;
-        for at in self.places(&rows) {
+        for at in self.places(model) {
             let text = texts::any(self.random, false, 12);
             let filled = self.fill(at, &text)?;
+            law(
+                filled.is_ok() == model.fillable().contains(&at),
+                &format_args!("{}: just the empty texts can be filled", Call("fill", at)),
+            )?;
             if filled.is_ok() {
                 let model = model.filled(at, &text);
                 self.is_form_of(&Call("fill", at).to_string(), &filled, &model)?;
@@ -155,27 +161,26 @@ impl Forms<'_> {
         Ok(())
     }
 
-    /// Every text of a small file that may be marked, a draw of its other
-    /// fields, and places beside them.
-    fn places(&mut self, rows: &[Row]) -> Vec<At> {
-        let (mut places, mut others) = (Vec::new(), Vec::new());
-        for (index, row) in rows.iter().enumerate() {
-            let Some(table) = tables::numbered(row.table) else {
-                continue;
-            };
-            let width = table.columns.len();
-            for place in 0..row.records * width {
+    /// Every text that can be filled, a draw of the other fields, and places
+    /// beside them.
+    fn places(&mut self, model: &Model) -> Vec<At> {
+        let mut places = model.fillable();
+        let (mut taken, mut others) = (Vec::new(), Vec::new());
+        for (index, content) in model.tables.iter().enumerate() {
+            let (records, width) = (content.records.len(), content.table.columns.len());
+            for place in 0..records * width {
                 let at = At::new(index + 1, place / width + 1, place % width + 1);
-                let may_fill = table.markable == Some(at.field);
-                let list = if may_fill { &mut places } else { &mut others };
+                let may_fill = content.table.markable == Some(at.field);
+                let list = if may_fill { &mut taken } else { &mut others };
                 list.push(at);
             }
-            others.push(At::new(index + 1, row.records + 1, 1));
+            others.push(At::new(index + 1, records + 1, 1));
             others.push(At::new(index + 1, 1, width + 1));
         }
-        self.random.shuffle(&mut places);
+        taken.retain(|at| !places.contains(at));
+        self.random.shuffle(&mut taken);
         self.random.shuffle(&mut others);
-        places.truncate(MAY_FILL);
+        places.extend(taken.into_iter().take(TAKEN));
         places.extend(others.into_iter().take(OTHERS));
         places.extend([
             At::new(0, 1, 2),

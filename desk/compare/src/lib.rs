@@ -17,7 +17,7 @@ mod tally;
 pub use calls::compare_file;
 pub use difference::Difference;
 pub use limit::compare_large;
-pub use options::{Options, Wish, HELP};
+pub use options::Options;
 pub use run::{run, Failure, Summary};
 pub use shrink::shrink;
 pub use tally::Tally;

@@ -3,20 +3,10 @@
 use std::io::{self, IsTerminal, Write};
 use std::process::ExitCode;
 
-use compare::{run, Options, Pair, Wish, HELP};
+use compare::{run, Options, Pair};
 
 fn main() -> ExitCode {
-    match Wish::read(std::env::args().skip(1)) {
-        Ok(Wish::Help) => {
-            print!("{HELP}");
-            ExitCode::SUCCESS
-        }
-        Ok(Wish::Run(options)) => compare(&options),
-        Err(problem) => {
-            eprintln!("compare: {problem}\n\n{HELP}");
-            ExitCode::from(2)
-        }
-    }
+    options::run(compare)
 }
 
 fn compare(options: &Options) -> ExitCode {
@@ -42,7 +32,7 @@ fn compare(options: &Options) -> ExitCode {
 }
 
 /// A line that is written over on a terminal, else a line for every tenth.
-fn progress(count: u64) -> impl FnMut(u64) {
+fn progress(count: u64) -> impl Fn(u64) + Sync {
     let on_terminal = io::stderr().is_terminal();
     let step = if on_terminal { 200 } else { count.div_ceil(10) };
     move |done| {
@@ -55,7 +45,7 @@ fn progress(count: u64) -> impl FnMut(u64) {
         } else {
             eprintln!("{done} of {count} files");
         }
-        if on_terminal && done + step >= count {
+        if on_terminal && done + step > count {
             eprint!("\r\x1b[K");
         }
     }

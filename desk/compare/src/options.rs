@@ -2,7 +2,9 @@
 
 use std::path::PathBuf;
 
-pub const HELP: &str = "\
+use options::Value;
+
+const HELP: &str = "\
 Compares two implementations call by call over drawn and damaged files.
 
 usage: compare [--seed N] [--count N] [--from N] [--save FOLDER] [--small]
@@ -42,54 +44,22 @@ impl Default for Options {
     }
 }
 
-#[derive(Clone, Debug, PartialEq, Eq)]
-pub enum Wish {
-    Run(Options),
-    Help,
-}
+impl options::Options for Options {
+    const PROGRAM: &'static str = "compare";
+    const HELP: &'static str = HELP;
 
-impl Wish {
-    pub fn read(arguments: impl IntoIterator<Item = String>) -> Result<Wish, String> {
-        let mut options = Options::default();
-        let mut arguments = arguments.into_iter();
-        while let Some(name) = arguments.next() {
-            let mut value = || arguments.next().ok_or(format!("{name} needs a value"));
-            match name.as_str() {
-                "--help" | "-h" => return Ok(Wish::Help),
-                "--small" => options.large = false,
-                "--seed" => options.seed = number(&value()?)?,
-                "--count" => options.count = number(&value()?)?,
-                "--from" => options.from = number(&value()?)?,
-                "--save" => options.save = Some(value()?.into()),
-                _ => return Err(format!("unknown option {name}")),
-            }
+    fn take(&mut self, name: &str, value: &mut Value<'_>) -> Result<bool, String> {
+        match name {
+            "--small" => self.large = false,
+            "--seed" => self.seed = value.number(0..=u64::MAX)?,
+            "--count" => self.count = value.number(0..=MOST)?,
+            "--from" => self.from = value.number(0..=MOST)?,
+            "--save" => self.save = Some(value.word()?.into()),
+            _ => return Ok(false),
         }
-        Ok(Wish::Run(options))
+        Ok(true)
     }
 }
 
-fn number(text: &str) -> Result<u64, String> {
-    text.parse().map_err(|_| format!("{text} is no number"))
-}
-
-#[cfg(test)]
-mod tests {
-    use super::*;
-
-    fn read(arguments: &[&str]) -> Result<Wish, String> {
-        Wish::read(arguments.iter().map(|argument| argument.to_string()))
-    }
-
-    #[test]
-    fn wishes() {
-        assert_eq!(read(&[]), Ok(Wish::Run(Options::default())));
-        assert_eq!(read(&["--help"]), Ok(Wish::Help));
-        let Ok(Wish::Run(options)) = read(&["--seed", "7", "--count", "3", "--small"]) else {
-            panic!();
-        };
-        assert_eq!((options.seed, options.count, options.large), (7, 3, false));
-        assert!(read(&["--seed"]).is_err());
-        assert!(read(&["--seed", "x"]).is_err());
-        assert!(read(&["files"]).is_err());
-    }
-}
+/// More files than anyone waits for, and few enough to be counted.
+const MOST: u64 = 1 << 40;

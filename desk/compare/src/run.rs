@@ -2,8 +2,10 @@
 //! demand 3.
 
 use std::fmt::{self, Display, Formatter};
+use std::ops::Range;
 use std::path::Path;
-use std::{fs, io};
+use std::sync::atomic::{AtomicU64, AtomicUsize, Ordering};
+use std::{fs, io, thread};
 
 use samples::{Model, Random};
 
@@ -40,14 +42,18 @@ pub struct Failure {
     pub difference: Difference,
 }
 
-pub fn run(pair: Pair<'_>, options: &Options, mut progress: impl FnMut(u64)) -> Summary {
-    let mut summary = Summary::default();
-    for index in options.from..options.from + options.count {
-        progress(summary.files);
-        compare_drawn(pair, options.seed, index, &mut summary);
-        if summary.failures.len() >= options.enough {
-            return summary;
-        }
+pub fn run(pair: Pair<'_>, options: &Options, progress: impl Fn(u64) + Sync) -> Summary {
+    let drawn = options.from..options.from + options.count;
+    let course = Course {
+        pair,
+        options,
+        progress: &progress,
+        done: AtomicU64::new(0),
+        failed: AtomicUsize::new(0),
+    };
+    let mut summary = course.run_on_every_core(drawn);
+    if summary.failures.len() >= options.enough {
+        return summary;
     }
     if options.large {
         if let Err(difference) = compare_large(pair, &mut summary.tally) {
@@ -62,6 +68,52 @@ pub fn run(pair: Pair<'_>, options: &Options, mut progress: impl FnMut(u64)) -> 
         summary.missed = summary.tally.missed();
     }
     summary
+}
+
+/// A run over drawn files, shared by the machine's cores. What a file is
+/// follows from the seed and its index, so the counts do not depend on them.
+struct Course<'a> {
+    pair: Pair<'a>,
+    options: &'a Options,
+    progress: &'a (dyn Fn(u64) + Sync),
+    done: AtomicU64,
+    failed: AtomicUsize,
+}
+
+impl Course<'_> {
+    fn run_on_every_core(&self, drawn: Range<u64>) -> Summary {
+        let cores = thread::available_parallelism().map_or(1, |count| count.get());
+        let mut summary = Summary::default();
+        thread::scope(|scope| {
+            let every = |first: usize| drawn.clone().skip(first).step_by(cores);
+            let workers: Vec<_> = (0..cores)
+                .map(|first| scope.spawn(move || self.run_over(every(first))))
+                .collect();
+            for worker in workers {
+                match worker.join() {
+                    Ok(part) => summary.add(part),
+                    Err(panic) => std::panic::resume_unwind(panic),
+                }
+            }
+        });
+        summary.failures.sort_by_key(|failure| failure.index);
+        summary
+    }
+
+    fn run_over(&self, indices: impl Iterator<Item = u64>) -> Summary {
+        let mut summary = Summary::default();
+        for index in indices {
+            if self.failed.load(Ordering::Relaxed) >= self.options.enough {
+                break;
+            }
+            let before = summary.failures.len();
+            compare_drawn(self.pair, self.options.seed, index, &mut summary);
+            let found = summary.failures.len() - before;
+            self.failed.fetch_add(found, Ordering::Relaxed);
+            (self.progress)(self.done.fetch_add(1, Ordering::Relaxed) + 1);
+        }
+        summary
+    }
 }
 
 /// One in four is sound, with what it means; the others are damaged.
@@ -137,6 +189,14 @@ fn reduce(
 }
 
 impl Summary {
+    fn add(&mut self, part: Summary) {
+        self.files += part.files;
+        self.tally.add(&part.tally);
+        self.runs += part.runs;
+        self.kept += part.kept;
+        self.failures.extend(part.failures);
+    }
+
     pub fn is_clean(&self) -> bool {
         self.failures.is_empty() && self.missed.is_empty()
     }

@@ -26,6 +26,13 @@ impl Tally {
         }
     }
 
+    pub fn add(&mut self, other: &Tally) {
+        let counts = self.checks.iter_mut().chain(&mut self.others);
+        for (count, more) in counts.zip(other.checks.iter().chain(&other.others)) {
+            *count += more;
+        }
+    }
+
     /// Files answered in this way.
     pub fn checks(&self, number: u32) -> u64 {
         self.checks.get(number as usize).copied().unwrap_or(0)

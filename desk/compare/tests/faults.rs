@@ -10,8 +10,21 @@ use libraries::Plain;
 /// A right implementation but for one fault.
 struct Bent(Fault);
 
-#[derive(Clone, Copy, Debug, PartialEq, Eq)]
-enum Fault {
+/// The faults and the list of them all.
+macro_rules! faults {
+    ($($name:ident,)*) => {
+        #[derive(Clone, Copy, Debug, PartialEq, Eq)]
+        enum Fault {
+            $($name,)*
+        }
+
+        use Fault::*;
+
+        const ALL: &[Fault] = &[$($name,)*];
+    };
+}
+
+faults! {
     RefusesAll,
     AcceptsAll,
     NoSecondKeys,
@@ -49,47 +62,6 @@ enum Fault {
     StripEmpties,
     ReadsTrailer,
 }
-
-use Fault::*;
-
-const ALL: [Fault; 36] = [
-    RefusesAll,
-    AcceptsAll,
-    NoSecondKeys,
-    NoReferences,
-    LineOff,
-    SectionOff,
-    LaterLine,
-    SpareRow,
-    RowsWithoutRoom,
-    LengthOff,
-    RecordsOfRefused,
-    FirstRowAgain,
-    RowVerdictInstead,
-    NeverNoRoom,
-    SectionZero,
-    DateTurned,
-    AbsentLineThere,
-    AllOperator,
-    QuotesInSpan,
-    QuotesStay,
-    PartOfText,
-    TextOfNumber,
-    LastCellLost,
-    SpareCell,
-    WritesNothing,
-    ZeroesAfterForm,
-    WritesWhenRefused,
-    RoomOffByOne,
-    LineEndLost,
-    FortyTooLong,
-    FillOrder,
-    FillWithoutMark,
-    FillOverwrites,
-    StripKeeps,
-    StripEmpties,
-    ReadsTrailer,
-];
 
 impl Bent {
     fn is(&self, fault: Fault) -> bool {
@@ -302,7 +274,7 @@ fn each_fault_is_found() {
         };
         !run(pair, &options, |_| {}).failures.is_empty()
     };
-    let missed: Vec<_> = ALL.into_iter().filter(|fault| !found(*fault)).collect();
+    let missed: Vec<_> = ALL.iter().filter(|fault| !found(**fault)).collect();
     assert!(missed.is_empty(), "{missed:?}");
 }
 

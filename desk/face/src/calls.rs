@@ -33,6 +33,16 @@ pub fn all_rows(library: &dyn Library, file: &[u8]) -> Result<Listing, Refusal> 
     }
 }
 
+/// Fields of a record of the row's table; none of an unknown one.
+pub fn width_of(row: Row) -> usize {
+    tables::numbered(row.table).map_or(0, |table| table.columns.len())
+}
+
+/// Cells that a section with this row hands out.
+pub fn cells_of(row: Row) -> usize {
+    row.records * width_of(row) * CELLS
+}
+
 /// Every cell of a section whose row is known.
 pub fn table_cells(
     library: &dyn Library,
@@ -40,8 +50,7 @@ pub fn table_cells(
     section: usize,
     row: Row,
 ) -> Result<Vec<u64>, Refusal> {
-    let width = tables::numbered(row.table).map_or(0, |table| table.columns.len());
-    let mut cells = vec![0; row.records * width * CELLS];
+    let mut cells = vec![0; cells_of(row)];
     let length = library.table(file, section, &mut cells)?;
     cells.truncate(length);
     Ok(cells)

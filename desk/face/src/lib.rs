@@ -10,11 +10,11 @@ pub mod tables;
 pub use answers::{
     own_bytes, value_in, At, Date, Header, Owner, Refusal, Row, Span, Time, Value, CELLS, LIMIT,
 };
-pub use calls::{all_rows, form_of, table_cells, Listing};
+pub use calls::{all_rows, cells_of, form_of, table_cells, width_of, Listing};
 
 /// One implementation. No call keeps anything of the file; what is lent keeps
 /// its values wherever nothing is promised to be written.
-pub trait Library {
+pub trait Library: Sync {
     /// What reports call it.
     fn name(&self) -> &'static str;
 

@@ -26,13 +26,11 @@ impl Line<'_> {
             number::COMMAND => self.odd_command(),
             number::ORDER => self.command(),
             number::UNKNOWN_TABLE | number::TABLE_TWICE | number::END_COUNT => self.field(0),
-            number::ATR => self.first_field(|column, name| column.name.as_bytes() == name),
-            number::FRM => self.first_field(takes_format),
-            number::NOT_A_TEXT => {
-                self.odd_value(|column, value| column.is_text() && !is_text(value))
-            }
+            number::ATR => self.first_odd(|column, name| column.name.as_bytes() != name),
+            number::FRM => self.first_odd(|column, format| !takes_format(column, format)),
+            number::NOT_A_TEXT => self.first_odd(|column, text| column.is_text() && !is_text(text)),
             number::NOT_A_NUMBER => self.odd_number(),
-            number::RANGE => self.odd_value(|column, value| !fits(column, value)),
+            number::RANGE => self.first_odd(|column, value| !fits(column, value)),
             number::MARK => self.mark(),
             number::SAME_POINTS => return self.points(),
             number::PRIMARY_KEY => return self.key(|table| table.primary),
@@ -81,13 +79,17 @@ impl Line<'_> {
         fields(self.content).get(index).cloned()
     }
 
-    /// The first field that is not as its column asks.
-    fn first_field(&self, is_right: impl Fn(&Column, &[u8]) -> bool) -> Option<Range<usize>> {
+    fn fields(&self, indices: impl Iterator<Item = usize>) -> Vec<Range<usize>> {
+        indices.filter_map(|index| self.field(index)).collect()
+    }
+
+    /// The first field that is not as its column asks, or one too many.
+    fn first_odd(&self, is_odd: impl Fn(&Column, &[u8]) -> bool) -> Option<Range<usize>> {
         let found = fields(self.content);
         let columns = self.table?.columns;
         let odd = found.iter().zip(columns).find(|(field, column)| {
             let field: Range<usize> = (*field).clone();
-            !is_right(column, &self.content[field])
+            is_odd(column, &self.content[field])
         });
         odd.map(|(field, _)| field.clone())
             .or(found.get(columns.len()).cloned())
@@ -98,11 +100,7 @@ impl Line<'_> {
         if command(self.content) == Some(b"end") {
             return self.field(0);
         }
-        self.odd_value(|column, value| !column.is_text() && read_number(value).is_none())
-    }
-
-    fn odd_value(&self, is_odd: impl Fn(&Column, &[u8]) -> bool) -> Option<Range<usize>> {
-        self.first_field(|column, value| !is_odd(column, value))
+        self.first_odd(|column, value| !column.is_text() && read_number(value).is_none())
     }
 
     /// A mark's own text, or the empty text it stands on.
@@ -117,17 +115,12 @@ impl Line<'_> {
     fn points(&self) -> Vec<Range<usize>> {
         let width = self.table.map_or(0, |table| table.columns.len());
         let first = width.saturating_sub(5);
-        (first..first + 4)
-            .filter_map(|index| self.field(index))
-            .collect()
+        self.fields(first..first + 4)
     }
 
     fn key(&self, of: impl Fn(&Table) -> &'static [usize]) -> Vec<Range<usize>> {
         let named = self.table.map(of).unwrap_or_default();
-        named
-            .iter()
-            .filter_map(|field| self.field(field - 1))
-            .collect()
+        self.fields(named.iter().map(|field| field - 1))
     }
 }
 
@@ -187,59 +180,67 @@ mod tests {
             .collect()
     }
 
+    /// A line with its number and table, and the parts pointed at.
+    type Case<'a> = (&'a [u8], u32, u32, &'a [&'a [u8]]);
+
+    fn all_point(cases: &[Case<'_>]) {
+        for (content, number, table, parts) in cases {
+            let shown = content.escape_ascii();
+            assert_eq!(pointed(content, *number, *table), *parts, "{shown}");
+        }
+    }
+
     #[test]
     fn fields_at_fault() {
-        assert_eq!(
-            pointed(b"rec; 7; 1; \"School day", 11, 290),
-            [b"\"School day"]
-        );
-        assert_eq!(pointed(b"rec; 7; x; \"a\"", 12, 290), [b"x"]);
-        assert_eq!(pointed(b"rec; 7; 1000; \"a\"", 13, 290), [b"1000"]);
-        assert_eq!(
-            pointed(b"rec; 7; 1; \"1234567\"; \"\"", 13, 998),
-            [b"\"1234567\""]
-        );
-        assert_eq!(pointed(b"end; x", 12, 290), [b"x"]);
-        assert_eq!(pointed(b"end; 3", 16, 290), [b"3"]);
-        assert_eq!(pointed(b"rec; 7; -1; 1; 2; 1; 3; 4", 13, 225), [b"-1"]);
+        all_point(&[
+            (b"rec; 7; 1; \"School day", 11, 290, &[b"\"School day"]),
+            (b"rec; 7; x; \"a\"", 12, 290, &[b"x"]),
+            (b"rec; 7; 1000; \"a\"", 13, 290, &[b"1000"]),
+            (b"rec; 7; 1; \"1234567\"; \"\"", 13, 998, &[b"\"1234567\""]),
+            (b"end; x", 12, 290, &[b"x"]),
+            (b"end; 3", 16, 290, &[b"3"]),
+            (b"rec; 7; -1; 1; 2; 1; 3; 4", 13, 225, &[b"-1"]),
+        ]);
     }
 
     #[test]
     fn heads_at_fault() {
-        assert_eq!(pointed(b"tbl; REC_ORT", 7, 0), [b"REC_ORT"]);
-        assert_eq!(pointed(b"atr; BASIS_VERSION; X", 8, 485), [b"X"]);
-        assert_eq!(
-            pointed(b"atr; BASIS_VERSION; BASIS_VERSION_TEXT; X", 8, 485),
-            [b"X"]
-        );
-        assert_eq!(pointed(b"frm; num[9.0]; char[040]", 9, 485), [b"char[040]"]);
-        assert!(pointed(b"atr; BASIS_VERSION", 8, 485).is_empty());
+        all_point(&[
+            (b"tbl; REC_ORT", 7, 0, &[b"REC_ORT"]),
+            (b"atr; BASIS_VERSION; X", 8, 485, &[b"X"]),
+            (
+                b"atr; BASIS_VERSION; BASIS_VERSION_TEXT; X",
+                8,
+                485,
+                &[b"X"],
+            ),
+            (b"frm; num[9.0]; char[040]", 9, 485, &[b"char[040]"]),
+            (b"atr; BASIS_VERSION", 8, 485, &[]),
+        ]);
     }
 
     #[test]
     fn commands_and_bytes_at_fault() {
-        assert_eq!(pointed(b"  REC ; 7", 5, 485), [b"REC"]);
-        assert_eq!(pointed(b"hello", 5, 485), [b"hello"]);
-        assert_eq!(pointed(b" rec; 7", 6, 485), [b"rec"]);
-        assert_eq!(pointed(b"rec; 7; \"\xfc\"", 4, 485), [b"\xfc"]);
-        assert_eq!(
-            pointed(b"com; \"SUGGESTED x\"", 15, 485),
-            [b"\"SUGGESTED x\""]
-        );
-        assert_eq!(pointed(b"rec; 7; \"\"", 15, 485), [b"\"\""]);
-        assert_eq!(pointed(b"end; 0", 15, 485), [b"end"]);
+        all_point(&[
+            (b"  REC ; 7", 5, 485, &[b"REC"]),
+            (b"hello", 5, 485, &[b"hello"]),
+            (b" rec; 7", 6, 485, &[b"rec"]),
+            (b"rec; 7; \"\xfc\"", 4, 485, &[b"\xfc"]),
+            (b"com; \"SUGGESTED x\"", 15, 485, &[b"\"SUGGESTED x\""]),
+            (b"rec; 7; \"\"", 15, 485, &[b"\"\""]),
+            (b"end; 0", 15, 485, &[b"end"]),
+        ]);
     }
 
     #[test]
     fn keys_and_points() {
-        assert_eq!(pointed(b"rec; 7; 1; \"a\"", 18, 290), [b"7", b"1"]);
-        assert_eq!(
-            pointed(b"rec; 7; 1; \"HP\"; \"\"", 19, 998),
-            [&b"7"[..], b"\"HP\""]
-        );
         let link = b"rec; 7; 0; 1; 5; 1; 5; 9";
-        assert_eq!(pointed(link, 14, 225), [b"1", b"5", b"1", b"5"]);
-        assert!(pointed(link, 20, 225).is_empty());
+        all_point(&[
+            (b"rec; 7; 1; \"a\"", 18, 290, &[b"7", b"1"]),
+            (b"rec; 7; 1; \"HP\"; \"\"", 19, 998, &[b"7", b"\"HP\""]),
+            (link, 14, 225, &[b"1", b"5", b"1", b"5"]),
+            (link, 20, 225, &[]),
+        ]);
     }
 
     #[test]

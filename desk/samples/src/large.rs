@@ -1,6 +1,9 @@
 //! Large files of a given number of bytes, to measure with and for the limit.
 
-use face::tables::{Table, CALENDAR, DAY_TYPES, LINKS, POINT_TYPES, TIMES, VALIDITY, VERSIONS};
+use face::tables::{
+    Table, CALENDAR, DAY_TYPES, LINKS, POINT_TYPES, TIMES, TRIP_TYPES, VALIDITY, VERSIONS,
+};
+use face::{number, At};
 
 use crate::form::form;
 use crate::meaning;
@@ -31,6 +34,9 @@ pub enum Shape {
     Network(Order),
     /// One huge calendar (348), every eighth text a suggestion.
     Calendar(Order),
+    /// All eight tables, each with a share of the bytes: many versions with
+    /// few records each.
+    Eight(Order),
     /// Small tables again and again: unsound by 17.
     Small,
 }
@@ -42,18 +48,32 @@ impl Shape {
             Shape::Network(Order::Shuffled) => "links and times shuffled",
             Shape::Calendar(Order::Rising) => "one huge calendar in key order",
             Shape::Calendar(Order::Shuffled) => "one huge calendar shuffled",
+            Shape::Eight(Order::Rising) => "all eight tables in key order",
+            Shape::Eight(Order::Shuffled) => "all eight tables shuffled",
             Shape::Small => "small tables again and again",
+        }
+    }
+
+    /// The file's answer: "table a second time" where small ones come again.
+    pub fn answer(self) -> u32 {
+        match self {
+            Shape::Small => number::TABLE_TWICE,
+            _ => number::SOUND,
         }
     }
 }
 
+/// The empty text that waits to be filled in every sound one.
+pub const EMPTY: At = At::new(1, 2, 2);
+
 /// A file of just so many bytes, at least 4096. All shapes but the last are
-/// sound; in section 1, record 2, field 2 waits to be filled.
+/// sound.
 pub fn file(shape: Shape, bytes: usize, seed: u64) -> Vec<u8> {
     let mut random = Random::new(seed);
     match shape {
         Shape::Network(order) => network(&mut random, bytes, order),
         Shape::Calendar(order) => calendar(&mut random, bytes, order),
+        Shape::Eight(order) => eight(&mut random, bytes, order),
         Shape::Small => small(&mut random, bytes),
     }
 }
@@ -68,6 +88,12 @@ pub fn without_spaces(file: &[u8]) -> Vec<u8> {
         }
     }
     dense
+}
+
+/// The same with so many more bytes in the header's first text.
+pub fn with_longer_source(file: &[u8], more: usize) -> Vec<u8> {
+    let place = file.iter().position(|&byte| byte == b'"').unwrap_or(0) + 1;
+    [&file[..place], &vec![b'.'; more], &file[place..]].concat()
 }
 
 struct Part {
@@ -245,6 +271,83 @@ fn draw_day(random: &mut Random, day: u64, is_suggestion: bool) -> Vec<u8> {
     record
 }
 
+/// The order in which `draw_version` gives each table's records.
+const EIGHT: [&Table; 8] = [
+    &VERSIONS,
+    &VALIDITY,
+    &DAY_TYPES,
+    &CALENDAR,
+    &POINT_TYPES,
+    &TRIP_TYPES,
+    &LINKS,
+    &TIMES,
+];
+
+fn eight(random: &mut Random, bytes: usize, order: Order) -> Vec<u8> {
+    let mut room = room(&[], &EIGHT, bytes);
+    let mut parts = EIGHT.map(|table| Part::new(table, &[]));
+    for version in 1.. {
+        let records = draw_version(random, version);
+        let length: usize = records.iter().flatten().map(Vec::len).sum();
+        if length > room {
+            break;
+        }
+        room -= length;
+        for (part, records) in parts.iter_mut().zip(records) {
+            part.records.extend(records);
+        }
+    }
+    if order == Order::Shuffled {
+        for part in &mut parts {
+            random.shuffle(&mut part.records);
+        }
+        let versions = &mut parts[EMPTY.section - 1].records;
+        let is_empty = |record: &Vec<u8>| record.ends_with(b"\"\"\n");
+        if let Some(empty) = versions.iter().position(is_empty) {
+            versions.swap(empty, EMPTY.record - 1);
+        }
+    }
+    assemble(&parts, bytes)
+}
+
+/// One version's records of each table. Every second version has no text.
+fn draw_version(random: &mut Random, version: usize) -> [Vec<Vec<u8>>; 8] {
+    let lines = |lines: &[String]| lines.iter().map(|line| line.clone().into_bytes()).collect();
+    let text = if version.is_multiple_of(2) {
+        ""
+    } else {
+        "Fahrplan"
+    };
+    let valid = 10_000_000 + version;
+    let (from, to) = (random.between(1, 499_999), random.between(500_000, 999_998));
+    let (metres, seconds) = (random.between(100, 81_890), random.between(30, 9_999));
+    let points = [format!("1; {from}; 2; {to}"), format!("2; {to}; 1; {from}")];
+    let v = version;
+    [
+        lines(&[format!("rec; {v}; \"{text}\"\n")]),
+        lines(&[format!("rec; {valid}; {v}\n")]),
+        lines(&[format!("rec; {v}; 1; \"Schultag\"\n")]),
+        lines(&[
+            format!("rec; {v}; 20250101; \"Neujahr\"; 1\n"),
+            format!("com; \"SUGGESTED 3\"\nrec; {v}; 20250106; \"Feiertag\"; 1\n"),
+        ]),
+        lines(&[
+            format!("rec; {v}; 1; \"HP\"; \"Haltepunkt\"\n"),
+            format!("rec; {v}; 2; \"BHOF\"; \"\"\n"),
+        ]),
+        lines(&[
+            format!("rec; {v}; 1; \"NF\"\n"),
+            format!("rec; {v}; 2; \"BAF\"\n"),
+        ]),
+        lines(
+            &points
+                .clone()
+                .map(|p| format!("rec; {v}; 1; {p}; {metres}\n")),
+        ),
+        lines(&points.map(|p| format!("rec; {v}; 1; 1; {p}; {seconds}\n"))),
+    ]
+}
+
 /// The sections of small drawn files one after another under one header.
 fn small(random: &mut Random, bytes: usize) -> Vec<u8> {
     let mut out = HEADER.to_vec();
@@ -286,6 +389,8 @@ mod tests {
             Shape::Network(Order::Shuffled),
             Shape::Calendar(Order::Rising),
             Shape::Calendar(Order::Shuffled),
+            Shape::Eight(Order::Rising),
+            Shape::Eight(Order::Shuffled),
             Shape::Small,
         ] {
             for bytes in [4096, 10_001, 65_537] {

@@ -1,14 +1,16 @@
 //! Large files: sound up to the limit, refused one byte beyond.
 
-use face::{At, LIMIT};
+use face::LIMIT;
 use reader::{check, list, write, Answer};
-use samples::large::{file, Order, Shape};
+use samples::large::{file, Order, Shape, EMPTY};
 
-const SOUND: [Shape; 4] = [
+const SOUND: [Shape; 6] = [
     Shape::Network(Order::Rising),
     Shape::Network(Order::Shuffled),
     Shape::Calendar(Order::Rising),
     Shape::Calendar(Order::Shuffled),
+    Shape::Eight(Order::Rising),
+    Shape::Eight(Order::Shuffled),
 ];
 
 #[test]
@@ -48,10 +50,13 @@ fn the_limit_and_one_more() {
 
 #[test]
 fn the_form_of_a_full_file_takes_one_more_suggestion() {
-    let full = file(Shape::Calendar(Order::Rising), LIMIT, 1);
-    let mut out = vec![0; LIMIT];
-    let written = write(&full, &mut out).unwrap();
-    let at = At::new(1, 2, 2);
-    let filled = reader::fill(&full, at.section, at.record, at.field, b"neu", &mut out).unwrap();
-    assert_eq!(filled, written + b"com; \"SUGGESTED 2\"\nneu".len());
+    for shape in SOUND {
+        let full = file(shape, LIMIT, 1);
+        let mut out = vec![0; LIMIT];
+        let written = write(&full, &mut out).unwrap();
+        let (section, record, field) = (EMPTY.section, EMPTY.record, EMPTY.field);
+        let filled = reader::fill(&full, section, record, field, b"neu", &mut out).unwrap();
+        let more = b"com; \"SUGGESTED 2\"\nneu".len();
+        assert_eq!(filled, written + more, "{shape:?}");
+    }
 }
