@@ -1,3 +1,4 @@
 pub mod Scan
 pub mod Seating
 pub mod Faults
+pub mod Aims

@@ -1,5 +1,10 @@
 // The file's answer.
+mod aims;
 mod answer;
+mod children;
+mod follow;
+mod guesses;
+mod known;
 mod references;
 mod repeats;
 mod scan;
