@@ -8,4 +8,6 @@ pub mod SeatLaws
 pub mod FiledLaws
 pub mod RepeatLaws
 pub mod LostLaws
+pub mod FollowLaws
+pub mod AimLaws
 pub mod AnswerLaws

@@ -8,7 +8,7 @@ use borrow.Author.Tests.{eq-eqb, ne-eqb}
 use lib.Dec.{eqb}
 use lib.ListN.{length, getD, take, drop}
 use Rattle.page.specs.Bytes.{Bytes, bytes, pick}
-use Rattle.page.specs.Lines.{lines, content, command, rest, Rec}
+use Rattle.page.specs.Lines.{lines, content, rest}
 use Rattle.page.specs.Fields.{fields}
 use Rattle.page.specs.Tables.{Reference, table-at, columns, standing, table-named}
 use Rattle.page.specs.Cut.{Section, sections}
@@ -163,19 +163,6 @@ module _ (s : Bytes) (r : Seats) (z : Ready s r) where
         → reaches s r t fs k ≡ any (bears c key) (lines (take (a .to - a .from) (drop (a .from) s)))
     unfolding reaches
     reaches-some n a e c f key g = rw (sym x, sym q, ne-eqb p 0 n, e, f, g)
-
-  pub misses-is : (t : ℕ) (fs : List Bytes) (k : ℕ) (x b : Bool) → x ≡ reaches s r t fs k → not x ≡ b → misses s r t fs k ≡ b
-  unfolding misses
-  misses-is t fs k x b e q = rw (sym e) q
-
-  module _ (t : ℕ) (l c : Bytes) (k : ℕ) (a : c ≡ content l) (b : k ≡ command c) where
-    pub loses-other : (k ≡ 11 → ⊥) → loses s r t l ≡ false
-    unfolding loses is-record
-    loses-other n = rw (sym a, sym b, ne-eqb k Rec n)
-
-    pub loses-record : k ≡ 11 → (f : Bytes) → f ≡ rest c → (n : ℕ) → n ≡ length (table-at t .references) → loses s r t l ≡ some (misses s r t (fields f)) 0 n
-    unfolding loses is-record
-    loses-record e f x n y = rw (x, y, a, ap command (sym a) ∙ sym b, eq-eqb k Rec e)
 
   pub lost-here : (i : ℕ) (a : Seat) (n : ℕ) → a ≡ seat-at r i → first-line (loses-any s r (a .table)) [] 0 (lines (take (a .to - a .from) (drop (a .from) s))) ≡ n → lost-line s r (seat-at r i) ≡ n
   unfolding lost-line

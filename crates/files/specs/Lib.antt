@@ -3,3 +3,4 @@ pub mod Bits
 pub mod Rounds
 pub mod Seating
 pub mod Faults
+pub mod Aims

@@ -1,6 +1,11 @@
 // The file's answer.
+mod aims;
 mod answer;
 mod bits;
+mod children;
+mod follow;
+mod guesses;
+mod known;
 mod references;
 mod repeats;
 mod rounds;

@@ -1,113 +1,170 @@
 // 20: "a reference finds no record".
 ghost use mathlib.Core.Path.{_≡_};
+ghost use mathlib.Core.Bool.{true};
 ghost use mathlib.Core.List.{[]};
-ghost use Prim.Native.Nat.{_-_, _≤_};
-ghost use lib.ListN.{length, getD, take, drop};
-ghost use Rattle.page.specs.Fields.{fields};
+ghost use Prim.Native.Nat.{_-_, _<_, _≤_};
+ghost use lib.ListN.{length, take, drop};
 ghost use Rattle.page.specs.File.{lost, first-record, filedOf};
 ghost use Rattle.files.specs.Seating.{Ready};
-ghost use Rattle.files.specs.Faults.{reaches, loses};
+ghost use Rattle.files.specs.Aims.{aim-at, reached, lacks-some, Within};
+use crate::aims::Aim;
+use crate::aims::Aims;
+use crate::aims::find_aim;
+use crate::aims::take_aims;
+use crate::children::guess_from;
+use crate::children::hash_target;
+use crate::follow::finds_guessed;
+use crate::follow::finds_near;
+use crate::guesses::ROOM;
+use crate::known::Known;
+use crate::known::is_guessed;
+use crate::known::keep_place;
+use crate::known::last_place;
+use crate::known::let_guess;
+use crate::known::nothing_known;
 use crate::scan::Find;
 use crate::scan::finds_from;
 use crate::seating::Seats;
 use crate::seating::find_seat;
+use keys::Key;
 use lines::Cursor;
 use page::Refusal;
-use page::tables::TABLES;
 
-// The section of a table, from 1, or 0.
-fn find_place(seats: Seats, t: usize) -> usize
-    ensures { λ r. ⌜ r ≡ getD (seats .place) t 0 ⌝ }
+// Whether a reference finds its record, and what is known then.
+struct Reach {
+    met: bool,
+    known: Known,
+}
+
+// How many lines from the last record on are read before guesses are made.
+const NEAR: usize = 16;
+
+// Is the record that a key names soon found? `at` is the place of the line that refers to it.
+fn reaches_soon(s: &[u8], at: usize, a: Aim, r: usize, key: Key, known: Known, g: &[u32]) -> Find
+    requires { ⌜ (a .from ≤ a .to) × (a .to ≤ length (now s)) × (length (now g) ≡ 50176) ⌝ }
+    ensures { λ x. ⌜ (x .met ≡ true → reached (now (s .entry)) a (key .k) ≡ true) ⌝ }
 {
-    let all = seats.place;
-    if t < TABLES {
-        return all[t];
+    let from = a.from;
+    let to = a.to;
+    if at < known.until {
+        if is_guessed(known, r) {
+            return finds_guessed(&s[from..to], g, hash_target(a.target, key), a.key, key);
+        }
     }
-    0
+    finds_near(&s[from..to], last_place(known, r), NEAR, a.key, key)
 }
 
-// The most references that a table has.
-const MOST: usize = 3;
-
-// Where each reference of a table found its last record.
-struct Places {
-    at: [usize; MOST],
-}
-
-fn last_place(p: Places, r: usize) -> usize {
-    let all = p.at;
-    if r < MOST {
-        return all[r];
-    }
-    0
-}
-
-fn keep_place(p: Places, r: usize, at: usize) -> Places {
-    let mut all = p.at;
-    if r < MOST {
-        all[r] = at;
-    }
-    Places { at: all }
-}
-
-// Does reference r of a record of table t find its record? `w` is what stands after the first `;` of the record's line, `last` where this
-// reference found its last record.
-fn reaches(s: &[u8], w: &[u8], seats: Seats, t: usize, r: usize, last: usize) -> Find
-    requires { ⌜ Ready (now s) seats ⌝ }
-    ensures { λ x. ⌜ x .met ≡ reaches (now (s .entry)) seats t (fields (now (w .entry))) r ⌝ }
+// With guesses for a reference, unless it has them at a place.
+fn guess_more(
+    s: &[u8],
+    w: &[u8],
+    at: usize,
+    t: usize,
+    aims: Aims,
+    r: usize,
+    known: Known,
+    g: &mut [u32],
+) -> Known
+    requires { ⌜ Within (now s) aims × (length (now g) ≡ 50176) ⌝ }
 {
-    let u = keys::find_target(t, r);
-    let k = find_place(seats, u);
-    if k == 0 {
-        return Find { met: false, at: 0 };
+    if at < known.until {
+        if is_guessed(known, r) {
+            return known;
+        }
     }
-    let seat = find_seat(seats, k - 1);
-    let from = seat.from;
-    let to = seat.to;
-    finds_from(
-        &s[from..to],
-        last,
-        keys::choose_key(u, false),
-        keys::read_reference(w, t, r),
-    )
+    guess_from(s, w, at, t, aims, let_guess(known, r), g)
 }
 
-// Whether a reference of a line finds no record, and where each last found one.
+fn reaches_late(s: &[u8], at: usize, a: Aim, r: usize, key: Key, known: Known, g: &[u32]) -> Find
+    requires { ⌜ (a .from ≤ a .to) × (a .to ≤ length (now s)) × (length (now g) ≡ 50176) ⌝ }
+    ensures { λ x. ⌜ x .met ≡ reached (now (s .entry)) a (key .k) ⌝ }
+{
+    let x = reaches_soon(s, at, a, r, key, known, g);
+    if x.met {
+        return x;
+    }
+    let from = a.from;
+    let to = a.to;
+    finds_from(&s[from..to], last_place(known, r), a.key, key)
+}
+
+// Does reference r of the record at a place of section w, of table t, find the record that has the key?
+fn reaches(
+    s: &[u8],
+    w: &[u8],
+    at: usize,
+    t: usize,
+    aims: Aims,
+    r: usize,
+    key: Key,
+    known: Known,
+    g: &mut [u32],
+) -> Reach
+    requires { ⌜ Within (now s) aims × (r < 3) × (length (now g) ≡ 50176) ⌝ }
+    ensures { λ x. ⌜ x .met ≡ reached (now (s .entry)) (aim-at aims r) (key .k) ⌝ }
+{
+    let a = find_aim(aims, r);
+    let soon = reaches_soon(s, at, a, r, key, known, &g[..]);
+    if soon.met {
+        return Reach {
+            met: true,
+            known: keep_place(known, r, soon.at),
+        };
+    }
+    let more = guess_more(s, w, at, t, aims, r, known, g);
+    let late = reaches_late(s, at, a, r, key, more, &g[..]);
+    Reach {
+        met: late.met,
+        known: keep_place(more, r, late.at),
+    }
+}
+
+// Whether a reference of a line finds no record, and what is known then.
 struct Loss {
     lost: bool,
-    places: Places,
+    known: Known,
 }
 
 // Is the line from a place to e a record of table t with a reference that finds none?
-fn loses(s: &[u8], w: &[u8], at: usize, e: usize, seats: Seats, t: usize, last: Places) -> Loss
-    requires { ⌜ Ready (now s) seats × (at ≤ e) × (e ≤ length (now w)) ⌝ }
-    ensures { λ r. ⌜ r .lost ≡ loses (now (s .entry)) seats t (take (e - at) (drop at (now (w .entry)))) ⌝ }
+fn loses(
+    s: &[u8],
+    w: &[u8],
+    at: usize,
+    e: usize,
+    t: usize,
+    aims: Aims,
+    last: Known,
+    g: &mut [u32],
+) -> Loss
+    requires { ⌜ Within (now s) aims × (at ≤ e) × (e ≤ length (now w)) × (length (now g) ≡ 50176) ⌝ }
+    ensures { λ r. ⌜ r .lost ≡ lacks-some (now (s .entry)) aims t (take (e - at) (drop at (now (w .entry)))) ⌝ }
 {
     let c = lines::content_of(&w[at..e]);
     if lines::command_of(c) != lines::REC {
         return Loss {
             lost: false,
-            places: last,
+            known: last,
         };
     }
     let f = lines::rest_of(c);
     let n = keys::count_references(t);
-    let mut places = last;
+    let mut known = last;
     let mut r: usize = 0;
     while r < n {
-        let x = reaches(s, f, seats, t, r, last_place(places, r));
+        let key = keys::read_reference(f, t, r);
+        let x = reaches(s, w, at, t, aims, r, key, known, g);
         if !x.met {
             return Loss {
                 lost: true,
-                places: places,
+                known: known,
             };
         }
-        places = keep_place(places, r, x.at);
+        known = x.known;
         r += 1;
     }
     Loss {
         lost: false,
-        places: places,
+        known: known,
     }
 }
 
@@ -117,6 +174,7 @@ pub fn first_lost(s: &[u8], seats: Seats) -> Refusal
     ensures { λ r. ⌜ r ≡ first-record 20 (λ before. lost (filedOf (now (s .entry)))) [] (filedOf (now (s .entry))) ⌝ }
 {
     let count = seats.count;
+    let mut guesses: [u32; ROOM] = [0; ROOM];
     let mut found = Refusal {
         number: 0,
         section: 0,
@@ -129,7 +187,8 @@ pub fn first_lost(s: &[u8], seats: Seats) -> Refusal
         let to = seat.to;
         let t = seat.table;
         let size = to - from;
-        let mut places = Places { at: [0; MOST] };
+        let aims = take_aims(s, seats, t);
+        let mut known = nothing_known();
         let mut at: usize = 0;
         let mut n: usize = 0;
         while at < size {
@@ -138,8 +197,8 @@ pub fn first_lost(s: &[u8], seats: Seats) -> Refusal
             let e = l.span.to;
             at = e;
             n += 1;
-            let x = loses(s, &s[from..to], here, e, seats, t, places);
-            places = x.places;
+            let x = loses(s, &s[from..to], here, e, t, aims, known, &mut guesses);
+            known = x.known;
             if x.lost {
                 found = Refusal {
                     number: 20,

@@ -9,7 +9,7 @@ use keys::Key;
 use lines::Cursor;
 
 // Is a line a record that has a key in the fields of a choice?
-fn bears_key(l: &[u8], choice: u64, key: Key) -> bool
+pub fn bears_key(l: &[u8], choice: u64, key: Key) -> bool
     ensures { λ r. ⌜ r ≡ bears choice (key .k) (now (l .entry)) ⌝ }
 {
     let c = lines::content_of(l);
@@ -50,7 +50,7 @@ pub fn was_met(w: &[u8], at: usize, choice: u64, key: Key) -> bool
 }
 
 // A place, if a line begins there; else the first line's.
-fn find_start(w: &[u8], at: usize) -> usize
+pub fn find_start(w: &[u8], at: usize) -> usize
     ensures { λ r. ⌜ Starts (now (w .entry)) r ⌝ }
 {
     if at == 0 {

@@ -1,83 +1,59 @@
 -- `files::references::reaches` meets its contract. Assumes nothing.
-use Rattle.files.proofs.LostLaws.{place-few, reaches-none, reaches-some}
-use Rattle.files.proofs.RepeatLaws.{seat-bounds}
+use Rattle.files.proofs.AimLaws.{aim-bounds, reached-at}
 use Prim.Native.Nat.{_-_}
 use mathlib.Core.Path.{sym, _∙_}
-use native.Mathlib.Omega.{arith}
 use borrow.Author.Needs.{needs}
 use Rattle.files.proofs.references.reaches.Statement.{statement}
 use Rattle.files.proofs.references.reaches.Tie as tie
 
-find-target-requires : tie.Need-find-target-requires
-find-target-requires c κs = search needs
+find-aim-requires : tie.Need-find-aim-requires
+find-aim-requires c κs = search needs
 
-find-place-requires : tie.Need-find-place-requires
-find-place-requires c κs = search needs
+reaches-soon-requires : tie.Need-reaches-soon-requires
+reaches-soon-requires c κs =
+    let b = aim-bounds (c .before .before .before .before .before .pre .0) (c .before .before .before .before .before .args .r) (c .before .before .before .before .before .pre .1) (c .before .find-aim .result) (c .before .find-aim .ensures) in
+    (b .0, b .1, search needs)
+
+keep-place-requires : tie.Need-keep-place-requires
+keep-place-requires c κs = search needs
+
+same-length : tie.Need-same-length
+same-length c = search needs
 
 returns : tie.Need-returns
 returns c =
-    let a = c .before .before .before .before .before .args in
-    sym (reaches-none (a .s .now) (a .seats) (c .before .before .before .before .before .pre) (a .t) (a .r) _ (c .before .before .find-target .result) (c .before .before .find-target .ensures) (c .before .find-place .result) (c .before .find-place .ensures) (c .if1 .taken))
+    reached-at _ _ _ _ (c .before .before .before .before .find-aim .ensures) _ _ (sym (c .before .before .reaches-soon .ensures (c .before .if1 .taken)))
 
-sub-find-seat : tie.Need-sub-find-seat
-sub-find-seat c = search needs
+guess-more-requires : tie.Need-guess-more-requires
+guess-more-requires c κs = search needs
 
-find-seat-requires : tie.Need-find-seat-requires
-find-seat-requires c κs =
-    let a = c .before .before .before .before .before .args in
-    let n = place-few (a .s .now) (a .seats) (c .before .before .before .before .before .pre) (c .before .before .find-target .result) (c .before .find-place .result) (c .before .find-place .ensures) (c .if1 .left) in
-    omega (arith, c .before .before .before .before .before .pre .few)
+reaches-late-requires : tie.Need-reaches-late-requires
+reaches-late-requires c κs =
+    let b = aim-bounds (c .before .before .before .before .before .before .before .before .before .before .before .before .pre .0) (c .before .before .before .before .before .before .before .before .before .before .before .before .args .r) (c .before .before .before .before .before .before .before .before .before .before .before .before .pre .1) (c .before .before .before .before .before .before .before .before .find-aim .result) (c .before .before .before .before .before .before .before .before .find-aim .ensures) in
+    (b .0, b .1, c .before .before .before .guess-more .kept .1 .1 .1 .1 .1 .1 .1 .0 ∙ c .before .before .before .before .before .before .before .before .before .before .before .before .pre .2)
 
-sub-finds-from : tie.Need-sub-finds-from
-sub-finds-from c =
-    let a = c .before .before .before .before .before .before .args in
-    let n = place-few (a .s .now) (a .seats) (c .before .before .before .before .before .before .pre) (c .before .before .before .find-target .result) (c .before .before .find-place .result) (c .before .before .find-place .ensures) (c .before .if1 .left) in
-    let b = seat-bounds (a .s .now) (a .seats) (c .before .before .before .before .before .before .pre) (c .before .before .find-place .result - 1) n (c .find-seat .result) (c .find-seat .ensures) in
-    search needs
+keep-place-requires-2 : tie.Need-keep-place-requires-2
+keep-place-requires-2 c κs = search needs
 
-part-finds-from-start : tie.Need-part-finds-from-start
-part-finds-from-start c =
-    let a = c .before .before .before .before .before .before .args in
-    let n = place-few (a .s .now) (a .seats) (c .before .before .before .before .before .before .pre) (c .before .before .before .find-target .result) (c .before .before .find-place .result) (c .before .before .find-place .ensures) (c .before .if1 .left) in
-    let b = seat-bounds (a .s .now) (a .seats) (c .before .before .before .before .before .before .pre) (c .before .before .find-place .result - 1) n (c .find-seat .result) (c .find-seat .ensures) in
-    search needs
-
-part-finds-from-end : tie.Need-part-finds-from-end
-part-finds-from-end c =
-    let a = c .before .before .before .before .before .before .args in
-    let n = place-few (a .s .now) (a .seats) (c .before .before .before .before .before .before .pre) (c .before .before .before .find-target .result) (c .before .before .find-place .result) (c .before .before .find-place .ensures) (c .before .if1 .left) in
-    let b = seat-bounds (a .s .now) (a .seats) (c .before .before .before .before .before .before .pre) (c .before .before .find-place .result - 1) n (c .find-seat .result) (c .find-seat .ensures) in
-    search needs
-
-choose-key-requires : tie.Need-choose-key-requires
-choose-key-requires c κs = search needs
-
-read-reference-requires : tie.Need-read-reference-requires
-read-reference-requires c κs = search needs
-
-finds-from-requires : tie.Need-finds-from-requires
-finds-from-requires c κs = search needs
+same-length-2 : tie.Need-same-length-2
+same-length-2 c =
+    c .before .before .before .before .before .guess-more .kept .1 .1 .1 .1 .1 .1 .1 .0
 
 returns-2 : tie.Need-returns-2
 returns-2 c =
-    let a = c .before .before .before .before .before .before .before .before .before .before .args in
-    c .finds-from .ensures
-    ∙ sym (reaches-some (a .s .now) (a .seats) (c .before .before .before .before .before .before .before .before .before .before .pre) (a .t) (a .r) _ (c .before .before .before .before .before .before .before .find-target .result) (c .before .before .before .before .before .before .before .find-target .ensures) (c .before .before .before .before .before .before .find-place .result) (c .before .before .before .before .before .before .find-place .ensures) (c .before .before .before .before .before .if1 .left)
-    (c .before .before .before .before .find-seat .result) (c .before .before .before .before .find-seat .ensures) (c .before .before .choose-key .result) (c .before .before .choose-key .ensures) (c .before .read-reference .result .k) (c .before .read-reference .ensures))
+    reached-at _ _ _ _ (c .before .before .before .before .before .before .before .before .before .before .find-aim .ensures) _ _ (c .before .reaches-late .ensures)
 
 pub reaches-spec : {M : Type 1} → statement M
 reaches-spec =
     tie.close
     (tie.spec
-    find-target-requires
-    find-place-requires
+    find-aim-requires
+    reaches-soon-requires
+    keep-place-requires
+    same-length
     returns
-    sub-find-seat
-    find-seat-requires
-    sub-finds-from
-    part-finds-from-start
-    part-finds-from-end
-    choose-key-requires
-    read-reference-requires
-    finds-from-requires
+    guess-more-requires
+    reaches-late-requires
+    keep-place-requires-2
+    same-length-2
     returns-2)

@@ -1,11 +1,11 @@
--- `files::references::find_place` meets its contract. Assumes nothing.
+-- `files::aims::find_place` meets its contract. Assumes nothing.
 use lib.ListN.{List·getD-eq-default, length}
 use Prim.Native.Nat.{_-_}
 use mathlib.Core.Path.{_≡_, sym}
 use native.Mathlib.Omega.{arith}
 use borrow.Author.Needs.{needs}
-use Rattle.files.proofs.references.find_place.Statement.{statement}
-use Rattle.files.proofs.references.find_place.Tie as tie
+use Rattle.files.proofs.aims.find_place.Statement.{statement}
+use Rattle.files.proofs.aims.find_place.Tie as tie
 
 mul-result : tie.Need-mul-result
 mul-result c = search needs

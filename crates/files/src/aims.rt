@@ -1,0 +1,80 @@
+// Where the references of a table go: asked for once a section.
+ghost use mathlib.Core.Path.{_≡_};
+ghost use Prim.Native.Nat.{_<_};
+ghost use lib.ListN.{getD};
+ghost use Rattle.files.specs.Seating.{Ready};
+ghost use Rattle.files.specs.Aims.{aim-at, Aimed, Aiming};
+use crate::seating::Seats;
+use crate::seating::find_seat;
+use page::tables::TABLES;
+
+// The most references that a table has.
+pub const MOST: usize = 3;
+
+// A reference's target by its place in the list of tables, the bytes of the target's section, none if it has no section, and the fields
+// of the target's key.
+pub struct Aim {
+    pub target: usize,
+    pub from: usize,
+    pub to: usize,
+    pub key: u64,
+}
+
+pub struct Aims {
+    pub all: [Aim; MOST],
+}
+
+// The section of a table, from 1, or 0.
+fn find_place(seats: Seats, t: usize) -> usize
+    ensures { λ r. ⌜ r ≡ getD (seats .place) t 0 ⌝ }
+{
+    let all = seats.place;
+    if t < TABLES {
+        return all[t];
+    }
+    0
+}
+
+fn take_aim(s: &[u8], seats: Seats, t: usize, r: usize) -> Aim
+    requires { ⌜ Ready (now s) seats ⌝ }
+    ensures { λ x. ⌜ Aimed (now (s .entry)) seats t r x ⌝ }
+{
+    let u = keys::find_target(t, r);
+    let k = find_place(seats, u);
+    if k == 0 {
+        return Aim {
+            target: u,
+            from: 0,
+            to: 0,
+            key: 0,
+        };
+    }
+    let seat = find_seat(seats, k - 1);
+    let from = seat.from;
+    let to = seat.to;
+    let key = keys::choose_key(u, false);
+    Aim {
+        target: u,
+        from: from,
+        to: to,
+        key: key,
+    }
+}
+
+pub fn take_aims(s: &[u8], seats: Seats, t: usize) -> Aims
+    requires { ⌜ Ready (now s) seats ⌝ }
+    ensures { λ x. ⌜ Aiming (now (s .entry)) seats t x ⌝ }
+{
+    let a = take_aim(s, seats, t, 0);
+    let b = take_aim(s, seats, t, 1);
+    let c = take_aim(s, seats, t, 2);
+    Aims { all: [a, b, c] }
+}
+
+pub fn find_aim(aims: Aims, r: usize) -> Aim
+    requires { ⌜ r < 3 ⌝ }
+    ensures { λ x. ⌜ x ≡ aim-at aims r ⌝ }
+{
+    let all = aims.all;
+    all[r]
+}

@@ -1,0 +1,96 @@
+// Where the record that a reference names may stand: an open table by the hash of the target and the key. An entry is 0; or the mark of a
+// key that is referred to; or, once the target's record with that mark was met, the record's place and seven bits of the hash. What it
+// holds is a guess: the record is read before it is believed, so a wrong one costs time only.
+ghost use mathlib.Core.Path.{_≡_};
+ghost use Prim.Native.Nat.{_<_, _≤_};
+ghost use lib.ListN.{length};
+
+// A key's entries follow its slot without a turn at the end: the last slot has so much room behind it.
+pub const ROOM: usize = 50176;
+
+const SLOTS: u64 = 49152;
+
+// Of so many slots.
+pub const MOST_KEYS: usize = 38000;
+
+// Marks begin here, so that no place is taken for one.
+const MARKS: u64 = 2147483648;
+
+// A section's places end here: a file is no longer.
+pub const PLACES: usize = 16777216;
+
+// Where a key's entries begin.
+pub fn find_slot(h: u64) -> usize
+    ensures { λ r. ⌜ r < 49152 ⌝ }
+{
+    (h / 17179869184 % SLOTS) as usize
+}
+
+fn find_mark(h: u64) -> u32 {
+    (h % MARKS + MARKS) as u32
+}
+
+// The bits of a hash that stand beside a place.
+pub fn find_bits(h: u64) -> u32
+    ensures { λ r. ⌜ r < 128 ⌝ }
+{
+    (h % 127 + 1) as u32
+}
+
+pub fn wipe(g: &mut [u32]) {
+    let mut i: usize = 0;
+    while i < g.len() {
+        g[i] = 0;
+        i += 1;
+    }
+}
+
+// Marks a key as referred to; 1 if it was not before.
+pub fn note_key(g: &mut [u32], h: u64) -> usize
+    requires { ⌜ length (now g) ≡ 50176 ⌝ }
+    ensures { λ r. ⌜ r ≤ 1 ⌝ }
+{
+    let mark = find_mark(h);
+    let mut i = find_slot(h);
+    while i < ROOM {
+        let x = g[i];
+        if x == mark {
+            return 0;
+        }
+        if x == 0 {
+            g[i] = mark;
+            return 1;
+        }
+        i += 1;
+    }
+    0
+}
+
+fn narrow(at: usize) -> u32
+    requires { ⌜ at < 16777216 ⌝ }
+    ensures { λ r. ⌜ r < 16777216 ⌝ }
+{
+    at as u32
+}
+
+// Puts a record's place where its key is marked.
+pub fn note_place(g: &mut [u32], h: u64, at: usize)
+    requires { ⌜ length (now g) ≡ 50176 ⌝ }
+{
+    if PLACES <= at {
+        return;
+    }
+    let mark = find_mark(h);
+    let mut i = find_slot(h);
+    while i < ROOM {
+        let x = g[i];
+        if x == 0 {
+            return;
+        }
+        if x == mark {
+            g[i] = find_bits(h) * 16777216 + narrow(at);
+            return;
+        }
+        i += 1;
+    }
+}
