@@ -7,13 +7,17 @@ use native.Mathlib.Numerals.{add-one}
 use native.Mathlib.Nat.{add-zero, add-suc, suc-add}
 use native.Mathlib.Omega.{arith}
 use lib.ListN.{length, set, take, drop, getD, length-append}
-use lib.Seq.{sets, sets-eq, length-sets, drop-cons}
+use lib.Seq.{sets, sets-eq, set-out, length-sets, drop-cons}
 use Rattle.page.specs.Bytes.{Bytes}
 use Rattle.output.specs.Put.{Put}
 
 pub sets-none : (at : ℕ) (form : Bytes) → sets [] at form ≡ []
 sets-none at [] = refl
 sets-none at (v ∷ form) = sets-none (suc at) form
+
+pub sets-past : (l : Bytes) (at : ℕ) (form : Bytes) → length l ≤ at → sets l at form ≡ l
+sets-past l at [] h = refl
+sets-past l at (v ∷ form) h = ap (λ (x : Bytes). sets x (suc at) form) (set-out l at v h) ∙ sets-past l (suc at) form (omega arith)
 
 pub sets-append : (l : Bytes) (i : ℕ) (a b : Bytes) → sets (sets l i a) (i + length a) b ≡ sets l i (a ++ b)
 sets-append l i [] b = ap (λ (k : ℕ). sets l k b) (add-zero i)
@@ -67,6 +71,14 @@ first-of s i h = rw (add-one, drop-cons s i 0)
 
 pub put-none : {l : Bytes} {i : ℕ} → Put l i [] l i
 put-none = record { is = refl; next = omega arith }
+
+-- past the room nothing changes
+pub put-past : {l : Bytes} {i : ℕ} {form : Bytes} → length l ≤ i → Put l i form l (i + length form)
+put-past {l} {i} {form} h = record { is = sym (sets-past l i form h); next = refl }
+
+-- a byte that is stored
+pub put-stored : {l : Bytes} {i b : ℕ} → Put l i (b ∷ []) (set l i b) (i + 1)
+put-stored = record { is = refl; next = refl }
 
 -- the same bytes by another name
 pub put-as : {l m a b : Bytes} {i j : ℕ} → a ≡ b → Put l i a m j → Put l i b m j

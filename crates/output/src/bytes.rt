@@ -20,7 +20,23 @@ pub fn put_byte(out: &mut [u8], at: usize, b: u8) -> usize
     at + 1
 }
 
-pub fn put_bytes(out: &mut [u8], at: usize, s: &[u8]) -> usize
+// Where there is room for all of them.
+fn copy_bytes(out: &mut [u8], at: usize, s: &[u8]) -> usize
+    requires { ⌜ at + length (now s) ≤ length (now out) ⌝ }
+    ensures { λ r. ⌜ Put (now (out .entry)) at (now (s .entry)) (now (out .exit)) r ⌝ }
+{
+    let mut o = at;
+    let mut i = 0;
+    while i < s.len() {
+        out[o] = s[i];
+        o += 1;
+        i += 1;
+    }
+    o
+}
+
+// Where there may be room for some of them.
+fn clip_bytes(out: &mut [u8], at: usize, s: &[u8]) -> usize
     requires { ⌜ at + length (now s) < 2 ^ 62 ⌝ }
     ensures { λ r. ⌜ Put (now (out .entry)) at (now (s .entry)) (now (out .exit)) r ⌝ }
 {
@@ -31,6 +47,20 @@ pub fn put_bytes(out: &mut [u8], at: usize, s: &[u8]) -> usize
         i += 1;
     }
     o
+}
+
+pub fn put_bytes(out: &mut [u8], at: usize, s: &[u8]) -> usize
+    requires { ⌜ at + length (now s) < 2 ^ 62 ⌝ }
+    ensures { λ r. ⌜ Put (now (out .entry)) at (now (s .entry)) (now (out .exit)) r ⌝ }
+{
+    let e = at + s.len();
+    if out.len() <= at {
+        return e;
+    }
+    if e <= out.len() {
+        return copy_bytes(out, at, s);
+    }
+    clip_bytes(out, at, s)
 }
 
 fn least_of(a: usize, b: usize) -> usize

@@ -1,51 +1,41 @@
-use Prim.Native.Nat.{_-_, _≤_}
-use native.Mathlib.Omega.{arith}
-use lib.ListN.{drop-of-length-le, length, drop}
-use Rattle.output.proofs.PutLaws.{Todo, begin, next-by, at-end, first-of, same}
+use borrow.Author.Needs.{needs}
+use Rattle.output.proofs.PutLaws.{put-past}
 use Rattle.output.proofs.bytes.put_bytes.Statement.{statement}
 use Rattle.output.proofs.bytes.put_bytes.Tie as tie
 
-abbrev Inv-loop : tie.InvT-loop
-Inv-loop out₀ at s o₀ i₀ out o i = (i ≤ length s) × Todo out₀ at s out o (drop i s)
+add-e : tie.Need-add-e
+add-e c = search needs
 
-abbrev μ-loop : tie.MeasureT-loop
-μ-loop out₀ at s o₀ i₀ out o i = length s - i
+returns : tie.Need-returns
+returns c = put-past (c .if1 .taken)
 
-loop-holds : tie.Need-loop-holds Inv-loop μ-loop
-loop-holds c = (omega arith, begin)
+copy-bytes-requires : tie.Need-copy-bytes-requires
+copy-bytes-requires c κs = search needs
 
-shared-slice-read-put-byte : tie.Need-shared-slice-read-put-byte Inv-loop μ-loop
-shared-slice-read-put-byte c = omega arith
+same-length : tie.Need-same-length
+same-length c = search needs
 
-put-byte-requires : tie.Need-put-byte-requires Inv-loop μ-loop
-put-byte-requires c κs = omega arith
+returns-2 : tie.Need-returns-2
+returns-2 c = c .before .before .copy-bytes .ensures
 
-add-i : tie.Need-add-i Inv-loop μ-loop
-add-i c = omega arith
+clip-bytes-requires : tie.Need-clip-bytes-requires
+clip-bytes-requires c κs = search needs
 
-loop-less : tie.Need-loop-less Inv-loop μ-loop
-loop-less c = omega arith
+same-length-2 : tie.Need-same-length-2
+same-length-2 c = search needs
 
-loop-again : tie.Need-loop-again Inv-loop μ-loop
-loop-again c = (omega arith, next-by (first-of _ _ (c .before .before .before .before .before .loop-test .taken)) (c .before .before .before .before .before .before .loop .inv .1) (c .before .before .put-byte .ensures))
-
-same-length : tie.Need-same-length Inv-loop μ-loop
-same-length c = same (c .before .loop .inv .1)
-
-returns : tie.Need-returns Inv-loop μ-loop
-returns c = at-end (drop-of-length-le _ (c .loop-test .left)) (c .before .loop .inv .1)
+returns-3 : tie.Need-returns-3
+returns-3 c = c .before .before .clip-bytes .ensures
 
 pub put-bytes-spec : {M : Type 1} → statement M
 put-bytes-spec =
     tie.close
     (tie.spec
-    Inv-loop
-    μ-loop
-    loop-holds
-    shared-slice-read-put-byte
-    put-byte-requires
-    add-i
-    loop-less
-    loop-again
+    add-e
+    returns
+    copy-bytes-requires
     same-length
-    returns)
+    returns-2
+    clip-bytes-requires
+    same-length-2
+    returns-3)
