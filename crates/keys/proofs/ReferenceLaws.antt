@@ -1,20 +1,19 @@
 -- What holds of each reference is computed over the one list of tables. Assumes nothing.
-use mathlib.Core.Path.{_≡_, refl, ap, _∙_}
-use mathlib.Core.Bool.{Bool, true, false, not, _||_}
-use mathlib.Core.List.{List, [], _∷_}
-use Prim.Native.Nat.{ℕ, zero, suc, _+_, _*_, _/_, _%_, _<_, _≤_}
+use mathlib.Core.Path.{_≡_, refl, sym, _∙_}
+use mathlib.Core.Bool.{Bool, true, not, _||_}
+use mathlib.Core.List.{List, [], _∷_, map}
+use Prim.Native.Nat.{ℕ, zero, suc, _<_, _≤_}
 use native.Mathlib.Omega.{arith}
-use lib.Dec.{eqb, leb, ltb}
+use lib.Dec.{eqb, leb}
 use lib.ListN.{length, getD, List·getD-eq-default}
-use borrow.Author.Tests.{eqb-true, leb-true, ltb-true, ltb-false}
+use borrow.Author.Tests.{eqb-true, leb-true}
 use Rattle.page.specs.Bytes.{bytes, pick, same}
 use Rattle.page.specs.Lines.{find}
-use Rattle.page.specs.Tables.{Named, Reference, Table, all-tables, no-column, table-at, columns, table-named}
+use Rattle.page.specs.Tables.{Named, Reference, Table, all-tables, no-table, no-column, table-at, columns, table-named}
 use Rattle.page.specs.File.{any, by-primary, by-second}
 use Rattle.page.specs.declared.Column.{Column}
-use Rattle.page.proofs.NameLaws.{below}
 use Rattle.page.proofs.TestLaws.{and-left, and-right, same-true}
-use Rattle.page.proofs.TableLaws.{Skips, member, each, table-test, past-tables, untaken}
+use Rattle.page.proofs.TableLaws.{each, table-test, fill, past-tables}
 use Rattle.keys.specs.Numbers.{no-reference, reference-at, flags, kind-of, choice-by, refer-choice, target-at}
 
 pub each-at : {A : Type 0} (p : A → Bool) (d : A) → p d ≡ true → (l : List A) → each p l ≡ true → (n : ℕ) → p (getD l n d) ≡ true
@@ -90,6 +89,36 @@ pub primary-plain : (t : ℕ) → each (λ (c : Named). not (c .column .primary)
 unfolding all-tables each columns
 primary-plain t = table-test (λ (x : Table). each (λ (c : Named). not (c .column .primary) || not (c .column .text)) (x .columns)) refl refl t
 
+-- a property of the references, as an array has it: a row of three places a table
+
+fill-at : {A : Type 0} (d e : A) (n : ℕ) (xs : List A) (k : ℕ) → k < n → getD (fill n d xs) k e ≡ getD xs k d
+unfolding fill
+fill-at d e zero xs k h = absurd (omega arith)
+fill-at d e (suc n) [] zero h = refl
+fill-at d e (suc n) [] (suc k) h = fill-at d e n [] k (omega arith)
+fill-at d e (suc n) (x ∷ xs) zero h = refl
+fill-at d e (suc n) (x ∷ xs) (suc k) h = fill-at d e n xs k (omega arith)
+
+module _ {B : Type 0} (f : Table → Reference → B) (d : B) (z : (x : Table) → f x no-reference ≡ d) where
+  unfoldable pub rows : List Table → List (List B)
+  rows xs = map (λ (x : Table). fill 3 d (map (f x) (x .references))) xs
+
+  at-map : (x : Table) (rs : List Reference) (r : ℕ) → getD (map (f x) rs) r d ≡ f x (getD rs r no-reference)
+  at-map x [] r = sym (z x)
+  at-map x (y ∷ rs) zero = refl
+  at-map x (y ∷ rs) (suc r) = at-map x rs r
+
+  rows-at : (xs : List Table) (t r : ℕ) (e : B) → t < length xs → r < 3
+      → getD (getD (rows xs) t []) r e ≡ f (getD xs t no-table) (getD (getD xs t no-table .references) r no-reference)
+  unfolding rows
+  rows-at [] t r e l h = absurd (omega arith)
+  rows-at (x ∷ xs) zero r e l h = fill-at d e 3 (map (f x) (x .references)) r h ∙ at-map x (x .references) r
+  rows-at (x ∷ xs) (suc t) r e l h = rows-at xs t r e (omega arith) h
+
+  pub row-entry : (t r : ℕ) (e : B) → t < 8 → r < 3 → getD (getD (rows all-tables) t []) r e ≡ f (table-at t) (reference-at t r)
+  unfolding table-at reference-at all-tables
+  row-entry t r e l h = rows-at all-tables t r e l h
+
 -- no table has more than three
 pub past-references : (t r : ℕ) → 3 ≤ r → reference-at t r ≡ no-reference
 unfolding reference-at all-tables each
@@ -127,39 +156,3 @@ no-target x = refl
 pub target-is : (t r : ℕ) → target-at t r ≡ target-in (table-at t) (reference-at t r)
 unfolding target-at
 target-is t r = refl
-
--- a reference by one number, three places a table
-
-pub at-three : {A : Type 0} (f : ℕ → ℕ → A) (t r : ℕ) → r < 3 → f ((t * 3 + r) / 3) ((t * 3 + r) % 3) ≡ f t r
-at-three f t r h =
-    let a : (t * 3 + r) / 3 ≡ t = omega arith in
-    let b : (t * 3 + r) % 3 ≡ r = omega arith in
-    rw (a, b)
-
--- the places of the references that there are, the last one first
-abbrev pub referring : List ℕ
-referring = 22 ∷ 21 ∷ 20 ∷ 19 ∷ 18 ∷ 15 ∷ 12 ∷ 9 ∷ 7 ∷ 6 ∷ 3 ∷ []
-
-pub no-columns : (i : ℕ) → Skips i referring → refer-choice (i / 3) (i % 3) ≡ 0
-unfolding below member refer-choice reference-at flags choice-by kind-of any columns table-at all-tables
-no-columns i h = go (ltb i 24) refl
-  where
-    go : (b : Bool) → ltb i 24 ≡ b → refer-choice (i / 3) (i % 3) ≡ 0
-    go true e = eqb-true _ _ (untaken (λ (k : ℕ). eqb (refer-choice (k / 3) (k % 3)) 0) 24 referring refl i h (ltb-true i 24 e))
-    go false e =
-        let l = ltb-false i 24 e in
-        refer-choice-is (i / 3) (i % 3)
-        ∙ ap (choice-in (table-at (i / 3))) (past-table-references (i / 3) (i % 3) (omega arith))
-        ∙ no-choice (table-at (i / 3))
-
-pub no-aim : (i : ℕ) → Skips i referring → target-at (i / 3) (i % 3) ≡ 8
-unfolding below member target-at reference-at table-named find same bytes table-at all-tables
-no-aim i h = go (ltb i 24) refl
-  where
-    go : (b : Bool) → ltb i 24 ≡ b → target-at (i / 3) (i % 3) ≡ 8
-    go true e = eqb-true _ _ (untaken (λ (k : ℕ). eqb (target-at (k / 3) (k % 3)) 8) 24 referring refl i h (ltb-true i 24 e))
-    go false e =
-        let l = ltb-false i 24 e in
-        target-is (i / 3) (i % 3)
-        ∙ ap (target-in (table-at (i / 3))) (past-table-references (i / 3) (i % 3) (omega arith))
-        ∙ no-target (table-at (i / 3))

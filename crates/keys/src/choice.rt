@@ -1,104 +1,84 @@
-// Which fields of a record make a key or a reference, as one number: two bits a column, the first column's lowest. 0: not this field;
-// 1: its number; 2: its text.
+// Which fields of a record make a key or a reference, as one number: a digit of base 4 a column, the first column's lowest. 0: not this
+// field; 1: its number; 2: its text. A loop over records asks for it once.
 ghost use mathlib.Core.Path.{_≡_};
-ghost use mathlib.Core.Bool.{true, false};
-ghost use Prim.Native.Nat.{_/_, _%_};
+ghost use Prim.Native.Nat.{_≤_};
 ghost use lib.ListN.{length};
 ghost use Rattle.page.specs.Tables.{table-at};
-ghost use Rattle.keys.specs.Numbers.{by-key, key-choice, refer-choice, target-at};
+ghost use Rattle.keys.specs.Numbers.{by-key, kind-of, key-choice, refer-choice, target-at};
+use page::Column;
 use page::tables::TABLES;
+use page::tables::find_column;
+use page::tables::find_width;
 
 const MOST: usize = 3;
 
-fn choose_primary(t: usize) -> u64
-    ensures { λ r. ⌜ r ≡ key-choice (by-key false) t ⌝ }
+const COUNTS: [usize; TABLES] = [0, 1, 2, 1, 1, 1, 3, 2];
+
+const REFERENCES: [[u64; MOST]; TABLES] = [
+    [0, 0, 0],
+    [4, 0, 0],
+    [1, 65, 0],
+    [1, 0, 0],
+    [1, 0, 0],
+    [1, 0, 0],
+    [1, 17, 257],
+    [1, 5445, 0],
+];
+
+const TARGETS: [[usize; MOST]; TABLES] = [
+    [8, 8, 8],
+    [0, 8, 8],
+    [0, 3, 8],
+    [0, 8, 8],
+    [0, 8, 8],
+    [0, 8, 8],
+    [0, 4, 4],
+    [0, 6, 8],
+];
+
+fn is_in_key(c: Column, second: bool) -> bool
+    ensures { λ r. ⌜ r ≡ by-key second c ⌝ }
 {
-    match t {
-        0 => 0b01,
-        1 => 0b01,
-        2 => 0b01_01,
-        3 => 0b01_01,
-        4 => 0b01_01,
-        5 => 0b01_01,
-        6 => 0b01_01_01_01_01_01,
-        7 => 0b01_01_01_01_01_01_01,
-        _ => 0,
+    if second {
+        return c.second;
     }
+    c.primary
 }
 
-fn choose_second(t: usize) -> u64
-    ensures { λ r. ⌜ r ≡ key-choice (by-key true) t ⌝ }
+fn find_kind(c: Column, second: bool) -> u64
+    ensures { λ r. ⌜ (r ≡ kind-of (by-key second c) c) × (r ≤ 2) ⌝ }
 {
-    match t {
-        4 => 0b10_00_01,
-        5 => 0b10_00_01,
-        _ => 0,
+    let text = c.text;
+    if is_in_key(c, second) {
+        if text {
+            return 2;
+        }
+        return 1;
     }
+    0
 }
 
 // The primary key of table t, or its second one; 0 if it has none.
 pub fn choose_key(t: usize, second: bool) -> u64
     ensures { λ r. ⌜ r ≡ key-choice (by-key second) t ⌝ }
 {
-    if second {
-        return choose_second(t);
+    let mut q: u64 = 0;
+    let mut k = find_width(t);
+    while 0 < k {
+        k -= 1;
+        let c = find_column(t, k);
+        q = q * 4 + find_kind(c, second);
     }
-    choose_primary(t)
+    q
 }
 
 pub fn count_references(t: usize) -> usize
     ensures { λ r. ⌜ r ≡ length (table-at t .references) ⌝ }
 {
-    match t {
-        0 => 0,
-        1 => 1,
-        2 => 2,
-        3 => 1,
-        4 => 1,
-        5 => 1,
-        6 => 3,
-        7 => 2,
-        _ => 0,
+    if t < TABLES {
+        return COUNTS[t];
     }
-}
-
-// The references of the tables, three places a table.
-fn look_columns(i: usize) -> u64
-    ensures { λ x. ⌜ x ≡ refer-choice (i / 3) (i % 3) ⌝ }
-{
-    match i {
-        3 => 0b01_00,
-        6 => 0b01,
-        7 => 0b01_00_00_01,
-        9 => 0b01,
-        12 => 0b01,
-        15 => 0b01,
-        18 => 0b01,
-        19 => 0b01_00_01,
-        20 => 0b01_00_00_00_01,
-        21 => 0b01,
-        22 => 0b01_01_01_01_00_01_01,
-        _ => 0,
-    }
-}
-
-fn look_target(i: usize) -> usize
-    ensures { λ x. ⌜ x ≡ target-at (i / 3) (i % 3) ⌝ }
-{
-    match i {
-        3 => 0,
-        6 => 0,
-        7 => 3,
-        9 => 0,
-        12 => 0,
-        15 => 0,
-        18 => 0,
-        19 => 4,
-        20 => 4,
-        21 => 0,
-        22 => 6,
-        _ => TABLES,
-    }
+    0
 }
 
 // Reference r of table t, from 0.
@@ -107,7 +87,7 @@ pub fn choose_reference(t: usize, r: usize) -> u64
 {
     if t < TABLES {
         if r < MOST {
-            return look_columns(t * MOST + r);
+            return REFERENCES[t][r];
         }
     }
     0
@@ -119,7 +99,7 @@ pub fn find_target(t: usize, r: usize) -> usize
 {
     if t < TABLES {
         if r < MOST {
-            return look_target(t * MOST + r);
+            return TARGETS[t][r];
         }
     }
     TABLES

@@ -2,18 +2,18 @@
 use mathlib.Core.Path.{_≡_, refl, ap, sym, _∙_}
 use mathlib.Core.Bool.{Bool, true, false, false≢true, not, _&&_, _||_}
 use mathlib.Core.List.{List, [], _∷_, map}
-use Prim.Native.Nat.{ℕ, zero, suc, _+_, _-_, _*_, _/_, _%_, _<_, _≤_}
+use Prim.Native.Nat.{ℕ, zero, suc, _-_, _<_, _≤_}
 use native.Mathlib.Nat.{lt-of-not-le}
 use native.Mathlib.Omega.{arith}
 use lib.Dec.{eqb, leb, ltb}
 use lib.ListN.{length, getD, List·getD-map, List·getD-eq-default}
-use borrow.Author.Tests.{leb-true, ltb-true, ltb-false, eqb-true, ne-eqb, not-true}
+use borrow.Author.Tests.{leb-true, ltb-true, eqb-true, not-true}
 use Rattle.page.specs.declared.Column.{Column}
 use Rattle.page.specs.Bytes.{Bytes, bytes, pick, same}
 use Rattle.page.specs.Lines.{find}
-use Rattle.page.specs.Tables.{Named, Table, all-tables, no-table, no-column, table-at, number-at, columns, width, column-at, name-at, points-from, standing, table-named}
+use Rattle.page.specs.Tables.{Named, Table, all-tables, no-table, no-column, table-at, number-at, columns, width, column-at, name-at, standing, table-named}
 use Rattle.page.specs.Marks.{may-mark}
-use Rattle.page.proofs.NameLaws.{below, below-at, find-within, found}
+use Rattle.page.proofs.NameLaws.{find-within, found}
 use Rattle.page.proofs.TestLaws.{and-left, and-right}
 
 -- a list cut or filled up to n places
@@ -45,6 +45,11 @@ module _ {B : Type 0} (f : Named → B) where
   pub entry : (t k : ℕ) → k < 8 → getD (getD (array all-tables) t []) k (f no-column) ≡ f (getD (columns t) k no-column)
   unfolding columns table-at
   entry t k h = array-at all-tables t k h
+
+pub column-entry : {B : Type 0} (f : Column → B) (t k : ℕ) → k < 8
+    → getD (getD (array (λ (c : Named). f (c .column)) all-tables) t []) k (f (no-column .column)) ≡ f (column-at t k)
+unfolding column-at
+column-entry f t k h = entry (λ (c : Named). f (c .column)) t k h
 
 pub name-entry : (t k : ℕ) → k < 8 → getD (getD (array (λ (c : Named). c .name) all-tables) t []) k "" ≡ name-at t k
 unfolding name-at
@@ -105,80 +110,6 @@ past-names t k h = ap (λ (c : Named). c .name) (List·getD-eq-default (columns 
 pub past-columns : (t k : ℕ) → width t ≤ k → column-at t k ≡ no-column .column
 unfolding column-at width
 past-columns t k h = ap (λ (c : Named). c .column) (List·getD-eq-default (columns t) no-column h)
-
--- a column by one number, eight places a table
-
-pub entry-here : {i n : ℕ} {c : Column} → i ≡ n → c ≡ column-at (n / 8) (n % 8) → c ≡ column-at (i / 8) (i % 8)
-entry-here e h = rw e h
-
-pub entry-at : (t k : ℕ) → k < 8 → column-at ((t * 8 + k) / 8) ((t * 8 + k) % 8) ≡ column-at t k
-entry-at t k h =
-    let a : (t * 8 + k) / 8 ≡ t = omega arith in
-    let b : (t * 8 + k) % 8 ≡ k = omega arith in
-    rw (a, b)
-
--- a number that is none of a list, as the last arm of a `match` has it
-
-unfoldable pub Skips : ℕ → List ℕ → Type 0
-Skips i [] = Unit {0}
-Skips i (n ∷ ns) = Skips i ns × (i ≡ n → ⊥)
-
-unfoldable pub member : ℕ → List ℕ → Bool
-member i [] = false
-member i (n ∷ ns) = eqb i n || member i ns
-
-skipped : (i : ℕ) (ns : List ℕ) → Skips i ns → member i ns ≡ false
-unfolding Skips member
-skipped i [] h = refl
-skipped i (n ∷ ns) h = rw (ne-eqb i n (h .1), skipped i ns (h .0))
-
--- a test that every number passes which is none of them
-pub untaken : (p : ℕ → Bool) (n : ℕ) (ns : List ℕ) → below (λ (k : ℕ). p k || member k ns) n ≡ true → (i : ℕ) → Skips i ns → i < n → p i ≡ true
-untaken p n ns e i h l = or-first (p i) (member i ns) (below-at (λ (k : ℕ). p k || member k ns) n e i l) (skipped i ns h)
-  where
-    or-first : (a b : Bool) → (a || b) ≡ true → b ≡ false → a ≡ true
-    or-first true b e f = refl
-    or-first false b e f = absurd (false≢true (sym f ∙ e))
-
-pub past-eight : (t : ℕ) → Skips t (7 ∷ 6 ∷ 5 ∷ 4 ∷ 3 ∷ 2 ∷ 1 ∷ 0 ∷ []) → 8 ≤ t
-unfolding below member
-past-eight t h =
-    let g : 7 < t = lt-of-not-le (λ (l : t ≤ 7). false≢true (untaken (λ (k : ℕ). false) 8 (7 ∷ 6 ∷ 5 ∷ 4 ∷ 3 ∷ 2 ∷ 1 ∷ 0 ∷ []) refl t h (omega arith))) in
-    omega arith
-
--- the places of the columns that there are, the last one first
-abbrev places : List ℕ
-places =
-    63 ∷ 62 ∷ 61 ∷ 60 ∷ 59 ∷ 58 ∷ 57 ∷ 56 ∷ 54 ∷ 53 ∷ 52 ∷ 51 ∷ 50 ∷ 49 ∷ 48 ∷ 42 ∷ 41 ∷ 40 ∷ 35 ∷ 34 ∷ 33 ∷ 32 ∷ 26 ∷ 25 ∷ 24 ∷
-    19 ∷ 18 ∷ 17 ∷ 16 ∷ 9 ∷ 8 ∷ 1 ∷ 0 ∷ []
-
-past-places : (i : ℕ) → Skips i places → width (i / 8) ≤ i % 8
-unfolding below member width columns table-at all-tables
-past-places i h = go (ltb i 64) refl
-  where
-    go : (b : Bool) → ltb i 64 ≡ b → width (i / 8) ≤ i % 8
-    go true e = leb-true _ _ (untaken (λ (k : ℕ). leb (width (k / 8)) (k % 8)) 64 places refl i h (ltb-true i 64 e))
-    go false e =
-        let l = ltb-false i 64 e in
-        let w = past-width (i / 8) (omega arith) in
-        omega arith
-
-pub entry-past : (i : ℕ) → Skips i places → no-column .column ≡ column-at (i / 8) (i % 8)
-entry-past i h = sym (past-columns (i / 8) (i % 8) (past-places i h))
-
--- the column where the points begin
-
-pub no-points : (t : ℕ) → (t ≡ 6 → ⊥) → (t ≡ 7 → ⊥) → points-from t ≡ 0
-unfolding points-from
-no-points zero a b = refl
-no-points (suc zero) a b = refl
-no-points (suc (suc zero)) a b = refl
-no-points (suc (suc (suc zero))) a b = refl
-no-points (suc (suc (suc (suc zero)))) a b = refl
-no-points (suc (suc (suc (suc (suc zero))))) a b = refl
-no-points (suc (suc (suc (suc (suc (suc zero)))))) a b = absurd (a refl)
-no-points (suc (suc (suc (suc (suc (suc (suc zero))))))) a b = absurd (b refl)
-no-points (suc (suc (suc (suc (suc (suc (suc (suc t)))))))) a b = refl
 
 -- in the words of `standing`
 

@@ -1,25 +1,30 @@
 -- `keys::choice::choose_reference` meets its contract. Assumes nothing.
+use Rattle.keys.specs.Numbers.{flags, choice-by, kind-of}
+use Rattle.page.specs.Tables.{table-at, all-tables}
+use Rattle.page.proofs.TableLaws.{fill}
+use Rattle.keys.proofs.ReferenceLaws.{rows, row-entry, choice-in, no-choice, refer-choice-is, past-references, past-table-references}
+use Rattle.page.specs.File.{any}
 use mathlib.Core.Path.{ap, sym, _∙_}
 use borrow.Author.Needs.{needs}
-use Rattle.page.specs.Tables.{table-at}
-use Rattle.keys.specs.Numbers.{refer-choice}
-use Rattle.keys.proofs.ReferenceLaws.{at-three, choice-in, no-choice, refer-choice-is, past-references, past-table-references}
 use Rattle.keys.proofs.choice.choose_reference.Statement.{statement}
 use Rattle.keys.proofs.choice.choose_reference.Tie as tie
 
-mul-look-columns : tie.Need-mul-look-columns
-mul-look-columns c = search needs
+mul-result : tie.Need-mul-result
+mul-result c = search needs
 
-add-look-columns : tie.Need-add-look-columns
-add-look-columns c = search needs
+mul-result-2 : tie.Need-mul-result-2
+mul-result-2 c = search needs
 
-look-columns-requires : tie.Need-look-columns-requires
-look-columns-requires c κs = search needs
+index-1-result : tie.Need-index-1-result
+index-1-result c = search needs
+
+index-2-result : tie.Need-index-2-result
+index-2-result c = search needs
 
 returns : tie.Need-returns
-returns c =
-    let a = c .before .before .before .args in
-    c .look-columns .ensures ∙ at-three refer-choice (a .t) (a .r) (c .before .if2 .taken)
+unfolding rows fill all-tables flags choice-by kind-of any
+returns c = let a = c .before .before .before .args in
+    row-entry choice-in 0 no-choice (a .t) (a .r) 0 (c .before .before .if1 .taken) (c .before .if2 .taken) ∙ sym (refer-choice-is (a .t) (a .r))
 
 returns-2 : tie.Need-returns-2
 returns-2 c = let a = c .before .before .args in
@@ -32,4 +37,4 @@ returns-3 c = let a = c .before .args in
 pub choose-reference-spec : {M : Type 1} → statement M
 choose-reference-spec =
     tie.close
-    (tie.spec mul-look-columns add-look-columns look-columns-requires returns returns-2 returns-3)
+    (tie.spec mul-result mul-result-2 index-1-result index-2-result returns returns-2 returns-3)

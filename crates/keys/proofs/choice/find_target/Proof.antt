@@ -1,25 +1,30 @@
 -- `keys::choice::find_target` meets its contract. Assumes nothing.
+use Rattle.page.specs.Tables.{all-tables, table-at, table-named}
+use Rattle.page.specs.Lines.{find}
+use Rattle.page.specs.Bytes.{same, bytes}
+use Rattle.page.proofs.TableLaws.{fill}
+use Rattle.keys.proofs.ReferenceLaws.{rows, row-entry, target-in, no-target, target-is, past-references, past-table-references}
 use mathlib.Core.Path.{ap, sym, _∙_}
 use borrow.Author.Needs.{needs}
-use Rattle.page.specs.Tables.{table-at}
-use Rattle.keys.specs.Numbers.{target-at}
-use Rattle.keys.proofs.ReferenceLaws.{at-three, target-in, no-target, target-is, past-references, past-table-references}
 use Rattle.keys.proofs.choice.find_target.Statement.{statement}
 use Rattle.keys.proofs.choice.find_target.Tie as tie
 
-mul-look-target : tie.Need-mul-look-target
-mul-look-target c = search needs
+mul-result : tie.Need-mul-result
+mul-result c = search needs
 
-add-look-target : tie.Need-add-look-target
-add-look-target c = search needs
+mul-result-2 : tie.Need-mul-result-2
+mul-result-2 c = search needs
 
-look-target-requires : tie.Need-look-target-requires
-look-target-requires c κs = search needs
+index-1-result : tie.Need-index-1-result
+index-1-result c = search needs
+
+index-2-result : tie.Need-index-2-result
+index-2-result c = search needs
 
 returns : tie.Need-returns
-returns c =
-    let a = c .before .before .before .args in
-    c .look-target .ensures ∙ at-three target-at (a .t) (a .r) (c .before .if2 .taken)
+unfolding rows fill all-tables table-named find same bytes
+returns c = let a = c .before .before .before .args in
+    row-entry target-in 8 no-target (a .t) (a .r) 0 (c .before .before .if1 .taken) (c .before .if2 .taken) ∙ sym (target-is (a .t) (a .r))
 
 returns-2 : tie.Need-returns-2
 returns-2 c = let a = c .before .before .args in
@@ -32,4 +37,4 @@ returns-3 c = let a = c .before .args in
 pub find-target-spec : {M : Type 1} → statement M
 find-target-spec =
     tie.close
-    (tie.spec mul-look-target add-look-target look-target-requires returns returns-2 returns-3)
+    (tie.spec mul-result mul-result-2 index-1-result index-2-result returns returns-2 returns-3)
