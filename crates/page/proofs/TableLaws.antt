@@ -30,6 +30,9 @@ fill-at d (suc n) [] (suc k) h = fill-at d n [] k (omega arith)
 fill-at d (suc n) (x ∷ xs) zero h = refl
 fill-at d (suc n) (x ∷ xs) (suc k) h = fill-at d n xs k (omega arith)
 
+pub fill-none : {A : Type 0} (d : A) (k : ℕ) → k < 8 → getD (fill 8 d []) k d ≡ d
+fill-none d k h = fill-at d 8 [] k h
+
 -- a property of the columns, as an array has it: a row of eight places a table
 module _ {B : Type 0} (f : Named → B) where
   unfoldable pub array : List Table → List (List B)

@@ -1,6 +1,9 @@
 // "The columns, kinds, ranges and keys stand once, as fixed tables": one array a property, indexed by table and column, for the
 // reader, the checker and the writer alike. The tables stand in the order of document 01.
 ghost use mathlib.Core.Path.{_≡_};
+ghost use mathlib.Core.Bool.{false};
+ghost use Prim.Native.Nat.{ℕ, _<_};
+ghost use lib.ListN.{getD};
 ghost use Rattle.page.specs.Tables.{number-at, width, column-at, points-from};
 ghost use Rattle.page.specs.Marks.{may-mark};
 use crate::Column;
@@ -148,6 +151,34 @@ pub fn find_column(t: usize, k: usize) -> Column
         second: false,
         fillable: false,
     }
+}
+
+// One property of all columns of a table, for a loop over a record's fields: asked for once, not at each field.
+pub fn find_kinds(t: usize) -> [bool; WIDEST]
+    ensures { λ r. ⌜ ((k : ℕ) → k < 8 → getD r k false ≡ column-at t k .text) ⌝ }
+{
+    if t < TABLES {
+        return TEXT[t];
+    }
+    [false; WIDEST]
+}
+
+pub fn find_lows(t: usize) -> [u64; WIDEST]
+    ensures { λ r. ⌜ ((k : ℕ) → k < 8 → getD r k 0 ≡ column-at t k .lo) ⌝ }
+{
+    if t < TABLES {
+        return LOW[t];
+    }
+    [0; WIDEST]
+}
+
+pub fn find_highs(t: usize) -> [u64; WIDEST]
+    ensures { λ r. ⌜ ((k : ℕ) → k < 8 → getD r k 0 ≡ column-at t k .hi) ⌝ }
+{
+    if t < TABLES {
+        return HIGH[t];
+    }
+    [0; WIDEST]
 }
 
 // "Only these may be marked": field i, from 1.
