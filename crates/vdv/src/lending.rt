@@ -3,7 +3,7 @@ ghost use mathlib.Core.Path.{_≡_};
 ghost use lib.ListN.{length};
 ghost use Rattle.page.specs.Answers.{earlier};
 ghost use Rattle.page.specs.File.{file-refusal};
-ghost use Rattle.page.specs.Handing.{textOut, text-after};
+ghost use Rattle.page.specs.Handing.{textOut, text-after, tableOf, cells-after};
 ghost use Rattle.page.specs.Reading.{list-refusal, rows-after};
 ghost use Rattle.page.specs.Writing.{writeOf, write-after, stripOf, strip-after, fillOf, fill-after};
 ghost use Rattle.vdv.specs.Told.{told-written};
@@ -36,6 +36,16 @@ pub extern "C" fn vdv_text(
         × (now (out .exit) ≡ text-after (now (file .entry)) section «record» field (now (out .entry))) ⌝ }
 {
     tell_length(handing::text(file, section, record, field, out))
+}
+
+// All values of a sound table, three numbers each: 0, the number, 0; or 1 for the operator's text and 2 for a suggestion, and its span.
+#[no_mangle]
+pub extern "C" fn vdv_table(file: &[u8], section: usize, cells: &mut [u64]) -> LengthAnswer
+    ensures { λ r.
+        ⌜ (r ≡ told-written (tableOf (now (file .entry)) section (length (now (cells .entry)))))
+        × (now (cells .exit) ≡ cells-after (now (file .entry)) section (now (cells .entry))) ⌝ }
+{
+    tell_length(handing::table(file, section, cells))
 }
 
 // "Only a file with verdict 0 is written; else its verdict is given."

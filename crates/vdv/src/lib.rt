@@ -10,6 +10,7 @@ pub use answers::ValueAnswer;
 pub use lending::vdv_fill;
 pub use lending::vdv_list;
 pub use lending::vdv_strip;
+pub use lending::vdv_table;
 pub use lending::vdv_text;
 pub use lending::vdv_write;
 pub use reading::vdv_check;
