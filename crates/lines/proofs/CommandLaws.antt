@@ -1,17 +1,18 @@
 -- A name of three bytes is told by their number. Assumes nothing.
-use mathlib.Core.Path.{_≡_, refl, ap, _∙_}
+use mathlib.Core.Path.{_≡_, refl, ap, sym, _∙_}
 use mathlib.Core.Bool.{Bool, true, false, _&&_, false≢true}
 use mathlib.Core.List.{List, [], _∷_}
 use Prim.Native.Nat.{ℕ, suc, _+_, _<_}
 use Prim.Native.String.{String}
 use native.Mathlib.Omega.{arith}
-use borrow.Author.Tests.{eq-eqb, eqb-true, eqb-false, ltb-true}
+use borrow.Author.Tests.{eq-eqb, ne-eqb, eqb-true, eqb-false, ltb-true}
 use lib.Dec.{eqb, ltb}
-use lib.ListN.{length, getD}
-use Rattle.page.specs.Bytes.{Bytes, bytes, same}
-use Rattle.page.specs.Lines.{find, known, Mod, Unknown}
+use lib.ListN.{length, getD, drop}
+use Rattle.page.specs.Bytes.{Bytes, bytes, same, until, keep, trim}
+use Rattle.page.specs.Lines.{find, known, Mod, Unknown, semicolon, command}
+use Rattle.page.proofs.ContentLaws.{command-some}
 use Rattle.page.proofs.ScanLaws.{same-length}
-use Rattle.lines.specs.Commands.{key, key-of, find-key}
+use Rattle.lines.specs.Commands.{key, key-of, find-key, Set}
 
 shape : (w : Bytes) → length w ≡ 3 → w ≡ getD w 0 0 ∷ getD w 1 0 ∷ getD w 2 0 ∷ []
 shape [] h = absurd (omega arith)
@@ -92,3 +93,53 @@ module _ (w : Bytes) (h : length w ≡ 3 → ⊥) where
   pub command-other : find Mod known w ≡ Unknown
   unfolding known bytes
   command-other = find-other known Mod refl
+
+-- three bytes that are neither `;` nor a space, and then a `;`
+
+module _ (a b c : ℕ) (w : Bytes) (ha : 59 < a) (hb : 59 < b) (hc : 59 < c) where
+  three-first : until semicolon (a ∷ b ∷ c ∷ 59 ∷ w) ≡ 3
+  unfolding until
+  three-first = rw (ne-eqb a 59 (omega arith), ne-eqb b 59 (omega arith), ne-eqb c 59 (omega arith))
+
+  three-trimmed : trim (a ∷ b ∷ c ∷ []) ≡ a ∷ b ∷ c ∷ []
+  unfolding trim keep until
+  three-trimmed =
+      let x : eqb a 32 ≡ false = ne-eqb a 32 (omega arith) in
+      let y : eqb b 32 ≡ false = ne-eqb b 32 (omega arith) in
+      let z : eqb c 32 ≡ false = ne-eqb c 32 (omega arith) in
+      simp (x, y, z)
+
+  pub three-command : b < 256 → c < 256 → command (a ∷ b ∷ c ∷ 59 ∷ w) ≡ find-key Mod known (key-of a b c)
+  unfolding key
+  three-command kb kc =
+      command-some (a ∷ b ∷ c ∷ 59 ∷ w) 3 (sym three-first) (omega arith)
+      ∙ ap (find Mod known) three-trimmed
+      ∙ command-three (a ∷ b ∷ c ∷ []) refl kb kc
+
+pub set-from : (c : Bytes) → 3 < length c
+    → ((ltb 59 (getD c 0 0) && ltb 59 (getD c 1 0)) && ltb 59 (getD c 2 0)) && eqb (getD c 3 0) 59 ≡ true → Set c
+set-from c h e =
+    let x = both ((ltb 59 (getD c 0 0) && ltb 59 (getD c 1 0)) && ltb 59 (getD c 2 0)) (eqb (getD c 3 0) 59) e in
+    let y = both (ltb 59 (getD c 0 0) && ltb 59 (getD c 1 0)) (ltb 59 (getD c 2 0)) (x .0) in
+    let z = both (ltb 59 (getD c 0 0)) (ltb 59 (getD c 1 0)) (y .0) in
+    record {
+      long = h;
+      first = ltb-true 59 (getD c 0 0) (z .0);
+      second = ltb-true 59 (getD c 1 0) (z .1);
+      third = ltb-true 59 (getD c 2 0) (y .1);
+      after = eqb-true (getD c 3 0) 59 (x .1);
+    }
+
+four-first : (c : Bytes) → 3 < length c → c ≡ getD c 0 0 ∷ getD c 1 0 ∷ getD c 2 0 ∷ getD c 3 0 ∷ drop 4 c
+four-first [] h = absurd (omega arith)
+four-first (x ∷ []) h = absurd (omega arith)
+four-first (x ∷ y ∷ []) h = absurd (omega arith)
+four-first (x ∷ y ∷ z ∷ []) h = absurd (omega arith)
+four-first (x ∷ y ∷ z ∷ v ∷ w) h = refl
+
+pub set-command : (c : Bytes) → Set c → getD c 1 0 < 256 → getD c 2 0 < 256
+    → command c ≡ find-key Mod known (key-of (getD c 0 0) (getD c 1 0) (getD c 2 0))
+set-command c s kb kc =
+    let e : c ≡ getD c 0 0 ∷ getD c 1 0 ∷ getD c 2 0 ∷ 59 ∷ drop 4 c =
+    four-first c (s .long) ∙ ap (λ (x : ℕ). getD c 0 0 ∷ getD c 1 0 ∷ getD c 2 0 ∷ x ∷ drop 4 c) (s .after) in
+    ap command e ∙ three-command (getD c 0 0) (getD c 1 0) (getD c 2 0) (drop 4 c) (s .first) (s .second) (s .third) kb kc

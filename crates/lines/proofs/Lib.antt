@@ -1,2 +1,3 @@
 pub mod CursorLaws
 pub mod CommandLaws
+pub mod RunLaws

@@ -1,9 +1,10 @@
 // A line's command.
 ghost use mathlib.Core.Path.{_≡_};
+ghost use mathlib.Core.Bool.{true};
 ghost use Prim.Native.Nat.{_<_};
 ghost use Rattle.page.specs.Lines.{find, known, Mod, command, clean};
 ghost use Rattle.page.specs.Cut.{begins-table, begins-end};
-ghost use Rattle.lines.specs.Commands.{key-of, find-key};
+ghost use Rattle.lines.specs.Commands.{key-of, find-key, Set};
 use crate::ATR;
 use crate::CHS;
 use crate::COM;
@@ -74,8 +75,17 @@ fn find_name(w: &[u8]) -> u32
     by_key(pack(a, b, c))
 }
 
-// "The command is what stands before the first `;`, spaces trimmed."
-pub fn command_of(c: &[u8]) -> u32
+// Whether the first `;` stands after three bytes, none of which is a space: each is a letter, as nearly always.
+fn is_set(c: &[u8]) -> bool
+    ensures { λ r. ⌜ (r ≡ true → Set (now (c .entry))) ⌝ }
+{
+    if c.len() < 4 {
+        return false;
+    }
+    (59 < c[0]) & (59 < c[1]) & (59 < c[2]) & (c[3] == 59)
+}
+
+fn seek_command(c: &[u8]) -> u32
     ensures { λ r. ⌜ r ≡ command (now (c .entry)) ⌝ }
 {
     let i = find_semicolon(c);
@@ -83,6 +93,16 @@ pub fn command_of(c: &[u8]) -> u32
         return find_name(trimmed(&c[..i]));
     }
     MISSING
+}
+
+// "The command is what stands before the first `;`, spaces trimmed."
+pub fn command_of(c: &[u8]) -> u32
+    ensures { λ r. ⌜ r ≡ command (now (c .entry)) ⌝ }
+{
+    if is_set(c) {
+        return by_key(pack(c[0], c[1], c[2]));
+    }
+    seek_command(c)
 }
 
 // "Also every byte 161..255 in `rec` lines under ISO8859-1."

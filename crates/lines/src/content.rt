@@ -1,5 +1,7 @@
 // A line's content, and the bytes allowed in it.
 ghost use mathlib.Core.Path.{_≡_};
+ghost use Prim.Native.Nat.{_+_, _<_, _≤_};
+ghost use lib.ListN.{length, take, drop};
 ghost use Rattle.page.specs.Bytes.{until, all};
 ghost use Rattle.page.specs.Lines.{content-size, content, blank, semicolon, rest, allowed};
 use crate::scan::spaces;
@@ -66,23 +68,34 @@ pub fn rest_of(c: &[u8]) -> &[u8]
     &c[..0]
 }
 
-// "Characters: 32..126 everywhere", and where it is wide also 161..255.
+// "Characters: 32..126 everywhere", and where it is wide also 161..255. No branch, so that many bytes are tested at once.
 pub fn is_allowed(b: u8, wide: bool) -> bool
     ensures { λ r. ⌜ r ≡ allowed wide b ⌝ }
 {
-    if b < 32 {
-        return false;
-    }
-    if b <= 126 {
-        return true;
-    }
-    if b < 161 {
-        return false;
-    }
-    wide
+    (32 <= b) & (b <= 126) | (161 <= b) & wide
 }
 
-pub fn all_allowed(c: &[u8], wide: bool) -> bool
+fn four_allowed(c: &[u8], at: usize, wide: bool) -> bool
+    requires { ⌜ at + 4 ≤ length (now c) ⌝ }
+    ensures { λ r. ⌜ r ≡ all (allowed wide) (take 4 (drop at (now (c .entry)))) ⌝ }
+{
+    is_allowed(c[at], wide)
+        & is_allowed(c[at + 1], wide)
+        & is_allowed(c[at + 2], wide)
+        & is_allowed(c[at + 3], wide)
+}
+
+fn block_allowed(c: &[u8], at: usize, wide: bool) -> bool
+    requires { ⌜ at + 16 ≤ length (now c) ⌝ }
+    ensures { λ r. ⌜ r ≡ all (allowed wide) (take 16 (drop at (now (c .entry)))) ⌝ }
+{
+    four_allowed(c, at, wide)
+        & four_allowed(c, at + 4, wide)
+        & four_allowed(c, at + 8, wide)
+        & four_allowed(c, at + 12, wide)
+}
+
+fn few_allowed(c: &[u8], wide: bool) -> bool
     ensures { λ r. ⌜ r ≡ all (allowed wide) (now (c .entry)) ⌝ }
 {
     let mut i = 0;
@@ -92,6 +105,35 @@ pub fn all_allowed(c: &[u8], wide: bool) -> bool
             return false;
         }
         i += 1;
+    }
+    true
+}
+
+fn least(a: usize, b: usize) -> usize
+    ensures { λ r. ⌜ (r ≤ a) × (r ≤ b) × (r < b → r ≡ a) ⌝ }
+{
+    if a < b {
+        return a;
+    }
+    b
+}
+
+// Sixteen bytes at a time; the last sixteen overlap those before them.
+pub fn all_allowed(c: &[u8], wide: bool) -> bool
+    ensures { λ r. ⌜ r ≡ all (allowed wide) (now (c .entry)) ⌝ }
+{
+    let n = c.len();
+    if n < 16 {
+        return few_allowed(c, wide);
+    }
+    let last = n - 16;
+    let mut i = 0;
+    while i < n {
+        let at = least(i, last);
+        if !block_allowed(c, at, wide) {
+            return false;
+        }
+        i = at + 16;
     }
     true
 }

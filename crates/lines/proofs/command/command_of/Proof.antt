@@ -1,45 +1,55 @@
 -- `lines::command::command_of` meets its contract. Assumes nothing.
-use Prim.Native.Nat.{_≤_}
 use mathlib.Core.Path.{ap, sym, _∙_}
-use lib.ListN.{length}
+use native.Mathlib.Omega.{arith}
 use borrow.Author.Needs.{needs}
-use lib.Seq.{length-take-le}
-use Rattle.page.specs.Lines.{find, known, Mod}
-use Rattle.page.proofs.ContentLaws.{command-some, command-none}
+use Rattle.page.specs.Lines.{known, Mod}
+use Rattle.lines.specs.Commands.{find-key}
+use Rattle.lines.proofs.CommandLaws.{set-command}
 use Rattle.lines.proofs.command.command_of.Statement.{statement}
 use Rattle.lines.proofs.command.command_of.Tie as tie
 
-find-semicolon-requires : tie.Need-find-semicolon-requires
-find-semicolon-requires c κs = search needs
+is-set-requires : tie.Need-is-set-requires
+is-set-requires c κs = search needs
 
-slice-aggregate-trimmed : tie.Need-slice-aggregate-trimmed
-slice-aggregate-trimmed c =
-    let h : c .before .before .find-semicolon .result ≤ length (c .before .before .before .before .args .c .now) = search needs in
-    sym (length-take-le _ _ h)
+shared-slice-read-pack : tie.Need-shared-slice-read-pack
+shared-slice-read-pack c = let h = c .before .before .is-set .ensures (c .before .if1 .taken) in omega arith
 
-trimmed-requires : tie.Need-trimmed-requires
-trimmed-requires c κs = search needs
+shared-slice-read-pack-2 : tie.Need-shared-slice-read-pack-2
+shared-slice-read-pack-2 c = let h = c .before .before .before .is-set .ensures (c .before .before .if1 .taken) in omega arith
 
-find-name-requires : tie.Need-find-name-requires
-find-name-requires c κs = search needs
+shared-slice-read-pack-3 : tie.Need-shared-slice-read-pack-3
+shared-slice-read-pack-3 c = let h = c .before .before .before .before .is-set .ensures (c .before .before .before .if1 .taken) in omega arith
+
+pack-requires : tie.Need-pack-requires
+pack-requires c κs = search needs
+
+by-key-requires : tie.Need-by-key-requires
+by-key-requires c κs = search needs
 
 returns : tie.Need-returns
 returns c =
-    let s = c .before .before .before .before .before .before .args .c .now in
-    c .find-name .ensures
-    ∙ ap (find Mod known) (c .before .trimmed .ensures)
-    ∙ sym (command-some s _ (c .before .before .before .before .find-semicolon .ensures) (search needs))
+    let s = c .before .before .before .before .before .before .before .before .args .c .now in
+    let h = c .before .before .before .before .before .before .is-set .ensures (c .before .before .before .before .before .if1 .taken) in
+    c .by-key .ensures
+    ∙ ap (find-key Mod known) (c .before .pack .ensures)
+    ∙ sym (set-command s h (omega (arith, c .before .before .shared-slice-known4 .given 1)) (omega (arith, c .before .before .shared-slice-known4 .given 2)))
+
+seek-command-requires : tie.Need-seek-command-requires
+seek-command-requires c κs = search needs
 
 returns-2 : tie.Need-returns-2
-returns-2 c = sym (command-none (c .before .before .before .args .c .now) _ (c .before .find-semicolon .ensures) (c .if1 .left))
+returns-2 c = search needs
 
 pub command-of-spec : {M : Type 1} → statement M
 command-of-spec =
     tie.close
     (tie.spec
-    find-semicolon-requires
-    slice-aggregate-trimmed
-    trimmed-requires
-    find-name-requires
+    is-set-requires
+    shared-slice-read-pack
+    shared-slice-read-pack-2
+    shared-slice-read-pack-3
+    pack-requires
+    by-key-requires
     returns
+    seek-command-requires
     returns-2)

@@ -14,8 +14,17 @@ Inv-loop s at i₀ i = (i ≤ length s) × (at + line-size (drop at s) ≡ i + l
 abbrev μ-loop : tie.MeasureT-loop
 μ-loop s at i₀ i = length s - i
 
+skip-blocks-requires : tie.Need-skip-blocks-requires Inv-loop μ-loop
+skip-blocks-requires c κs = search needs
+
+skip-fours-requires : tie.Need-skip-fours-requires Inv-loop μ-loop
+skip-fours-requires c κs = search needs
+
 loop-holds : tie.Need-loop-holds Inv-loop μ-loop
-loop-holds c = search needs
+loop-holds c =
+    let o = c .before .skip-blocks .ensures in
+    let p = c .skip-fours .ensures in
+    (p .within, omega arith)
 
 shared-slice-read-if1 : tie.Need-shared-slice-read-if1 Inv-loop μ-loop
 shared-slice-read-if1 c = search needs
@@ -25,7 +34,7 @@ add-result c = search needs
 
 returns : tie.Need-returns Inv-loop μ-loop
 returns c =
-    let s = c .before .before .before .before .args .s .now in
+    let s = c .before .before .before .before .before .before .before .args .s .now in
     omega (arith, size-hit s (c .before .before .before .loop .i) (search needs) (search needs))
 
 add-i : tie.Need-add-i Inv-loop μ-loop
@@ -36,11 +45,11 @@ loop-less c = search needs
 
 loop-again : tie.Need-loop-again Inv-loop μ-loop
 loop-again c =
-    let s = c .before .before .before .before .args .s .now in
+    let s = c .before .before .before .before .before .before .before .args .s .now in
     (search needs, omega (arith, size-more s (c .before .before .before .loop .i) (search needs) (search needs)))
 
 returns-2 : tie.Need-returns-2 Inv-loop μ-loop
-returns-2 c = omega (arith, size-end (c .before .before .args .s .now) (c .before .loop .i) (search needs))
+returns-2 c = omega (arith, size-end (c .before .before .before .before .before .args .s .now) (c .before .loop .i) (search needs))
 
 pub line-end-spec : {M : Type 1} → statement M
 line-end-spec =
@@ -48,6 +57,8 @@ line-end-spec =
     (tie.spec
     Inv-loop
     μ-loop
+    skip-blocks-requires
+    skip-fours-requires
     loop-holds
     shared-slice-read-if1
     add-result
