@@ -1,4 +1,4 @@
--- A number field that is a run of digits, with at most one space before it. Assumes nothing.
+-- The field at a place; a number field that is a run of digits, with at most one space before it. Assumes nothing.
 use mathlib.Core.Path.{_≡_, refl, ap, sym, _∙_}
 use mathlib.Core.Bool.{Bool, true, false}
 use mathlib.Core.List.{[], _∷_, _++_}
@@ -12,9 +12,14 @@ use Rattle.page.specs.Bytes.{Bytes, pick, all, until, keep, space, trim}
 use Rattle.page.specs.Fields.{digit, value, digits, numberOf, inside-after, field-size}
 use Rattle.page.specs.declared.Number.the-variants as N
 use Rattle.page.proofs.TestLaws.{and-left, and-right}
-use Rattle.page.proofs.FieldLaws.{field-hit, field-more}
+use Rattle.page.proofs.FieldLaws.{from, from-more, field-hit, field-more}
 use Rattle.page.proofs.NumberLaws.{digit-range, digits-short, ten-more}
-use Rattle.fields.specs.Runs.{Run}
+use Rattle.fields.specs.Runs.{field-from, Run}
+
+pub from-next : (w : Bytes) (at e : ℕ) → at ≤ length w → e ≡ at + field-size false (drop at w) → from w at ≡ field-from w at ∷ from w (e + 1)
+from-next w at e h x =
+    let n : e - at ≡ field-size false (drop at w) = omega arith in
+    from-more w at e h x ∙ ap (λ (k : ℕ). trim (take k (drop at w)) ∷ from w (e + 1)) n
 
 -- one digit more at the end
 
@@ -124,7 +129,7 @@ module _ (w : Bytes) (at from to v : ℕ) (h : at < length w) (f : from ≡ pick
   size : length ds ≡ to - from
   size = length-take-le (to - from) (drop from w) (omega (arith, length-drop from w, r .within))
 
-  pub run-field : (to ≡ at + field-size false (drop at w)) × (N.Plus v ≡ numberOf (trim (take (field-size false (drop at w)) (drop at w))))
+  pub run-field : (to ≡ at + field-size false (drop at w)) × (N.Plus v ≡ numberOf (field-from w at))
   run-field = by (space (getD w at 0)) refl
     where
       long : 1 ≤ length ds
@@ -134,7 +139,7 @@ module _ (w : Bytes) (at from to v : ℕ) (h : at < length w) (f : from ≡ pick
       short = omega (arith, size, r .few)
 
       by : (b : Bool) → space (getD w at 0) ≡ b
-          → (to ≡ at + field-size false (drop at w)) × (N.Plus v ≡ numberOf (trim (take (field-size false (drop at w)) (drop at w))))
+          → (to ≡ at + field-size false (drop at w)) × (N.Plus v ≡ numberOf (field-from w at))
       by true e =
           let q : from ≡ at + 1 = f ∙ rw e in
           let m : suc at ≡ from = omega arith in

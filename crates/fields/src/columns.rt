@@ -1,14 +1,25 @@
 // A field of a record, read as its column asks: a text with its span, a number with its value, or a refusal with its number.
 ghost use mathlib.Core.Path.{_≡_};
-ghost use Rattle.page.specs.Fields.{numberOf};
+ghost use mathlib.Core.Bool.{false};
+ghost use Prim.Native.Nat.{_+_, _≤_};
+ghost use lib.ListN.{length, drop};
+ghost use Rattle.page.specs.Fields.{field-size, numberOf};
 ghost use Rattle.page.specs.Section.{record-text, text-field, number-field, fieldOf, amount};
+ghost use Rattle.fields.specs.Runs.{field-from};
 use crate::numbers::read_number;
 use crate::texts::Size;
 use crate::texts::text_size;
+use crate::walk::number_at;
 use page::Column;
 use page::Field;
 use page::Number;
 use page::Span;
+
+// A field, and where it ends.
+pub struct Reading {
+    pub field: Field,
+    pub end: usize,
+}
 
 // 11, then 13.
 pub fn read_text_field(f: &[u8], size: u64) -> Field
@@ -29,10 +40,10 @@ pub fn read_text_field(f: &[u8], size: u64) -> Field
 }
 
 // 12, then 13.
-pub fn read_number_field(f: &[u8], lo: u64, hi: u64) -> Field
-    ensures { λ r. ⌜ r ≡ number-field lo hi (numberOf (now (f .entry))) ⌝ }
+fn judge_number(number: Number, lo: u64, hi: u64) -> Field
+    ensures { λ r. ⌜ r ≡ number-field lo hi number ⌝ }
 {
-    match read_number(f) {
+    match number {
         Number::Plus(n) => {
             if n < lo {
                 return Field::Refused(13);
@@ -47,24 +58,54 @@ pub fn read_number_field(f: &[u8], lo: u64, hi: u64) -> Field
     }
 }
 
-pub fn read_field(f: &[u8], column: Column) -> Field
-    ensures { λ r. ⌜ r ≡ fieldOf column (now (f .entry)) ⌝ }
+fn text_from(w: &[u8], at: usize, size: u64) -> Reading
+    requires { ⌜ at ≤ length (now w) ⌝ }
+    ensures { λ r. ⌜ (r .end ≡ at + field-size false (drop at (now (w .entry))))
+        × (r .field ≡ text-field size (field-from (now (w .entry)) at) (record-text (field-from (now (w .entry)) at))) ⌝ }
+{
+    let e = lines::field_end(w, at);
+    let f = read_text_field(lines::trimmed(&w[at..e]), size);
+    Reading { field: f, end: e }
+}
+
+fn number_from(w: &[u8], at: usize, lo: u64, hi: u64) -> Reading
+    ensures { λ r. ⌜ (r .end ≡ at + field-size false (drop at (now (w .entry))))
+        × (r .field ≡ number-field lo hi (numberOf (field-from (now (w .entry)) at))) ⌝ }
+{
+    let c = number_at(w, at);
+    let n = c.number;
+    let e = c.end;
+    let f = judge_number(n, lo, hi);
+    Reading { field: f, end: e }
+}
+
+// The field that begins at a place of w, which is what stands after its line's first `;`.
+pub fn read_field(w: &[u8], at: usize, column: Column) -> Reading
+    requires { ⌜ at ≤ length (now w) ⌝ }
+    ensures { λ r. ⌜ (r .end ≡ at + field-size false (drop at (now (w .entry))))
+        × (r .field ≡ fieldOf column (field-from (now (w .entry)) at)) ⌝ }
 {
     let lo = column.lo;
     let hi = column.hi;
     if column.text {
-        return read_text_field(f, hi);
+        return text_from(w, at, hi);
     }
-    read_number_field(f, lo, hi)
+    number_from(w, at, lo, hi)
 }
 
-// The value of a field that was found in its range, and 0 for any other.
-pub fn amount_of(f: &[u8]) -> u64
-    ensures { λ r. ⌜ r ≡ amount (numberOf (now (f .entry))) ⌝ }
+// The value of a number that was found in its range, and 0 for any other.
+pub fn worth(number: Number) -> u64
+    ensures { λ r. ⌜ r ≡ amount number ⌝ }
 {
-    match read_number(f) {
+    match number {
         Number::Plus(n) => n,
         Number::Minus(_) => 0,
         Number::Nothing => 0,
     }
+}
+
+pub fn amount_of(f: &[u8]) -> u64
+    ensures { λ r. ⌜ r ≡ amount (numberOf (now (f .entry))) ⌝ }
+{
+    worth(read_number(f))
 }

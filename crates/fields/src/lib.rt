@@ -9,10 +9,10 @@ mod places;
 mod texts;
 mod walk;
 
+pub use columns::Reading;
 pub use columns::amount_of;
 pub use columns::read_field;
-pub use columns::read_number_field;
-pub use columns::read_text_field;
+pub use columns::worth;
 pub use dates::days_in;
 pub use dates::is_date;
 pub use dates::is_time;

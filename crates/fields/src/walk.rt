@@ -4,10 +4,10 @@ ghost use mathlib.Core.Path.{_≡_};
 ghost use mathlib.Core.Bool.{false};
 ghost use Prim.Native.Nat.{_+_, _≤_, _<_};
 ghost use lib.Dec.{eqb};
-ghost use lib.ListN.{length, take, drop, getD};
-ghost use Rattle.page.specs.Bytes.{pick, space, trim};
+ghost use lib.ListN.{length, drop, getD};
+ghost use Rattle.page.specs.Bytes.{pick, space};
 ghost use Rattle.page.specs.Fields.{field-size, numberOf};
-ghost use Rattle.fields.specs.Runs.{Run};
+ghost use Rattle.fields.specs.Runs.{field-from, Run};
 use crate::numbers::is_digit;
 use crate::numbers::read_number;
 use crate::numbers::widen;
@@ -77,7 +77,7 @@ fn ends_at(w: &[u8], at: usize) -> bool
 fn number_slowly(w: &[u8], at: usize) -> Counted
     requires { ⌜ at ≤ length (now w) ⌝ }
     ensures { λ r. ⌜ (r .end ≡ at + field-size false (drop at (now (w .entry))))
-        × (r .number ≡ numberOf (trim (take (field-size false (drop at (now (w .entry)))) (drop at (now (w .entry)))))) ⌝ }
+        × (r .number ≡ numberOf (field-from (now (w .entry)) at)) ⌝ }
 {
     let e = lines::field_end(w, at);
     let n = read_number(lines::trimmed(&w[at..e]));
@@ -87,7 +87,7 @@ fn number_slowly(w: &[u8], at: usize) -> Counted
 // The number field that begins at a place, and where it ends.
 pub fn number_at(w: &[u8], at: usize) -> Counted
     ensures { λ r. ⌜ (r .end ≡ at + field-size false (drop at (now (w .entry))))
-        × (r .number ≡ numberOf (trim (take (field-size false (drop at (now (w .entry)))) (drop at (now (w .entry)))))) ⌝ }
+        × (r .number ≡ numberOf (field-from (now (w .entry)) at)) ⌝ }
 {
     if w.len() <= at {
         return Counted {

@@ -3,17 +3,20 @@ use mathlib.Core.Path.{_≡_, refl, ap}
 use mathlib.Core.List.{List, [], _∷_, _++_, append-nil}
 use mathlib.Core.Option.{Option, none, some}
 use mathlib.Core.Bool.{false}
-use Prim.Native.Nat.{ℕ, zero, suc, _+_, _-_, _/_, _%_, _<_, _≤_}
+use Prim.Native.Nat.{ℕ, zero, suc, _+_, _/_, _%_, _<_, _≤_}
 use native.Mathlib.Omega.{arith}
 use native.Mathlib.Numerals.{add-one}
 use borrow.Author.Tests.{ne-eqb}
-use lib.ListN.{length, set, replicate, take, drop, length-append}
+use lib.Dec.{eqb}
+use lib.ListN.{length, set, replicate, drop, length-append}
 use lib.Seq.{set-out, set-append-seam, append-snoc}
-use Rattle.page.specs.Bytes.{Bytes, trim}
+use Rattle.page.specs.Bytes.{Bytes, pick}
 use Rattle.page.specs.Fields.{with-byte, field-size}
 use Rattle.page.specs.Records.{own-bytes}
 use Rattle.page.proofs.TableLaws.{fill}
-use Rattle.page.proofs.FieldLaws.{from, from-more, from-end}
+use Rattle.page.proofs.FieldLaws.{from, from-end}
+use Rattle.fields.specs.Runs.{field-from}
+use Rattle.fields.proofs.RunLaws.{from-next}
 use Rattle.keys.specs.Numbers.{push, packed-from, packed, seven, field-as, chosen}
 
 -- what does not fit is left out
@@ -70,12 +73,12 @@ packed-none n = refl
 module _ (w : Bytes) (at e q : ℕ) (h : at ≤ length w) (x : e ≡ at + field-size false (drop at w)) where
   pub chosen-skip : q % 4 ≡ 0 → chosen q (from w at) ≡ chosen (q / 4) (from w (e + 1))
   unfolding chosen
-  chosen-skip z = rw (from-more w at e h x, z)
+  chosen-skip z = rw (from-next w at e h x, z)
 
-  pub chosen-take : (q % 4 ≡ 0 → ⊥) → (f : Bytes) (v : ℕ) → f ≡ trim (take (e - at) (drop at w)) → v ≡ field-as (q % 4) f
+  pub chosen-take : (q % 4 ≡ 0 → ⊥) → (v : ℕ) → v ≡ pick (eqb (q % 4) 0) 0 (field-as (q % 4) (field-from w at))
       → chosen q (from w at) ≡ v ∷ chosen (q / 4) (from w (e + 1))
   unfolding chosen
-  chosen-take n f v a b = rw (from-more w at e h x, ne-eqb (q % 4) 0 n, b, a)
+  chosen-take n v b = rw (from-next w at e h x, b, ne-eqb (q % 4) 0 n)
 
 pub chosen-past : (w : Bytes) (at q : ℕ) → length w < at → chosen q (from w at) ≡ []
 unfolding chosen

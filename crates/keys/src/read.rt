@@ -1,15 +1,26 @@
 // A key read from a record's line: `w` is what stands after its first `;`.
 ghost use mathlib.Core.Path.{_≡_};
 ghost use mathlib.Core.Bool.{false};
-ghost use Rattle.page.specs.Fields.{fields, bodyOf};
+ghost use Prim.Native.Nat.{_+_, _≤_};
+ghost use lib.Dec.{eqb};
+ghost use lib.ListN.{length, drop};
+ghost use Rattle.page.specs.Bytes.{pick};
+ghost use Rattle.page.specs.Fields.{field-size, fields, bodyOf};
 ghost use Rattle.page.specs.Section.{record-text};
 ghost use Rattle.page.specs.Records.{own-bytes, valuesOf};
 ghost use Rattle.page.specs.Tables.{standing};
+ghost use Rattle.fields.specs.Runs.{field-from};
 ghost use Rattle.keys.specs.Numbers.{push, packed, seven, chosen, field-as, by-key, key-numbers, reference-at, refer-numbers};
 use crate::choice::choose_key;
 use crate::choice::choose_reference;
 use crate::key::Key;
 use crate::key::PLACES;
+
+// A field as a number, and where it ends.
+struct Taken {
+    value: u64,
+    end: usize,
+}
 
 fn widen(b: u8) -> u64
     ensures { λ r. ⌜ r ≡ b ⌝ }
@@ -66,13 +77,29 @@ fn pack_text(f: &[u8]) -> u64
     pack_body(&f[1..])
 }
 
-fn read_as(f: &[u8], kind: u64) -> u64
-    ensures { λ r. ⌜ r ≡ field-as kind (now (f .entry)) ⌝ }
+// The field that begins at a place as a choice takes it; 0 where it does not.
+fn take_field(w: &[u8], at: usize, kind: u64) -> Taken
+    requires { ⌜ at ≤ length (now w) ⌝ }
+    ensures { λ r. ⌜ (r .end ≡ at + field-size false (drop at (now (w .entry))))
+        × (r .value ≡ pick (eqb kind 0) 0 (field-as kind (field-from (now (w .entry)) at))) ⌝ }
 {
     if kind == 1 {
-        return fields::amount_of(f);
+        let c = fields::number_at(w, at);
+        let n = c.number;
+        let e = c.end;
+        return Taken {
+            value: fields::worth(n),
+            end: e,
+        };
     }
-    pack_text(f)
+    let e = lines::field_end(w, at);
+    if kind == 0 {
+        return Taken { value: 0, end: e };
+    }
+    Taken {
+        value: pack_text(lines::trimmed(&w[at..e])),
+        end: e,
+    }
 }
 
 // The fields of a choice, in one walk that ends at the last of them.
@@ -87,14 +114,15 @@ pub fn read_chosen(w: &[u8], choice: u64) -> Key
         if w.len() < at {
             return Key { k: k };
         }
-        let from = at;
         let kind = rest % 4;
-        let e = lines::field_end(w, from);
+        let f = take_field(w, at, kind);
+        let v = f.value;
+        let e = f.end;
         at = e + 1;
         rest = rest / 4;
         if kind != 0 {
             if n < PLACES {
-                k[n] = read_as(lines::trimmed(&w[from..e]), kind);
+                k[n] = v;
                 n += 1;
             }
         }

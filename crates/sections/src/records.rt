@@ -1,13 +1,25 @@
 // A record's fields against the columns of its table: `w` is what stands after its line's first `;`.
 ghost use mathlib.Core.Path.{_≡_};
-ghost use Rattle.page.specs.Bytes.{trim};
+ghost use mathlib.Core.Bool.{true};
+ghost use lib.Dec.{eqb};
+ghost use lib.ListN.{length};
 ghost use Rattle.page.specs.Fields.{fields};
-ghost use Rattle.page.specs.Tables.{column-at, standing};
-ghost use Rattle.page.specs.Section.{fieldOf, field-number, first-wrong, amount-at, same-points, empty-marked, rec-verdict};
+ghost use Rattle.page.specs.Tables.{width};
+ghost use Rattle.page.specs.Section.{field-number, amount-at, empty-marked, rec-verdict};
+ghost use Rattle.sections.specs.Judging.{number-of, Judged, points-equal};
 use page::Field;
+use page::tables::WIDEST;
 use page::tables::find_column;
 use page::tables::find_points;
 use page::tables::find_width;
+
+// What one walk over a record's fields finds: the number of the first wrong one (0: none), whether they are known to be as many as the
+// columns, and the values of the number columns.
+struct Judgement {
+    wrong: u32,
+    whole: bool,
+    numbers: [u64; WIDEST],
+}
 
 // The paper's number for what a field is read as.
 fn refusal_of(f: Field) -> u32
@@ -20,34 +32,64 @@ fn refusal_of(f: Field) -> u32
     }
 }
 
-// A field of table t's column k, with the spaces around it.
-fn judge_field(f: &[u8], t: usize, k: usize) -> u32
-    ensures { λ r. ⌜ r ≡ field-number (fieldOf (column-at t k) (trim (now (f .entry)))) ⌝ }
+// The value of a field that is a number.
+fn number_of(f: Field) -> u64
+    ensures { λ r. ⌜ r ≡ number-of f ⌝ }
 {
-    let column = find_column(t, k);
-    refusal_of(fields::read_field(lines::trimmed(f), column))
+    match f {
+        Field::Text(_) => 0,
+        Field::Number(n) => n,
+        Field::Refused(_) => 0,
+    }
 }
 
 // "each field from the left (11 or 12, then 13)"
-pub fn find_wrong(w: &[u8], t: usize) -> u32
-    ensures { λ r. ⌜ r ≡ first-wrong (standing t) (fields (now (w .entry))) ⌝ }
+fn judge_fields(w: &[u8], t: usize) -> Judgement
+    ensures { λ r. ⌜ Judged t (fields (now (w .entry))) (r .wrong) (r .whole) (r .numbers) ⌝ }
 {
     let n = find_width(t);
+    let mut ns = [0; WIDEST];
     let mut k = 0;
     let mut at = 0;
     while k < n {
         if w.len() < at {
-            return 0;
+            return Judgement {
+                wrong: 0,
+                whole: false,
+                numbers: ns,
+            };
         }
-        let e = lines::field_end(w, at);
-        let v = judge_field(&w[at..e], t, k);
+        let r = fields::read_field(w, at, find_column(t, k));
+        let f = r.field;
+        let e = r.end;
+        let v = refusal_of(f);
         if v != 0 {
-            return v;
+            return Judgement {
+                wrong: v,
+                whole: false,
+                numbers: ns,
+            };
         }
+        ns[k] = number_of(f);
         at = e + 1;
         k += 1;
     }
-    0
+    Judgement {
+        wrong: 0,
+        whole: w.len() < at,
+        numbers: ns,
+    }
+}
+
+// Whether a record has a field for each column of its table; `whole`: that is known.
+fn has_width(w: &[u8], t: usize, whole: bool) -> bool
+    requires { ⌜ (whole ≡ true → length (fields (now w)) ≡ width t) ⌝ }
+    ensures { λ r. ⌜ r ≡ eqb (length (fields (now (w .entry)))) (width t) ⌝ }
+{
+    if whole {
+        return true;
+    }
+    lines::count_fields(w) == find_width(t)
 }
 
 pub fn amount_at(w: &[u8], k: usize) -> u64
@@ -57,17 +99,17 @@ pub fn amount_at(w: &[u8], k: usize) -> u64
 }
 
 // "In 225 and 247 the two points, type and number together, differ."
-pub fn same_points(w: &[u8], t: usize) -> bool
-    ensures { λ r. ⌜ r ≡ same-points t (fields (now (w .entry))) ⌝ }
+fn same_points(ns: [u64; WIDEST], t: usize) -> bool
+    ensures { λ r. ⌜ r ≡ points-equal t ns ⌝ }
 {
     let p = find_points(t);
     if p == 0 {
         return false;
     }
-    if amount_at(w, p) != amount_at(w, p + 2) {
+    if ns[p] != ns[p + 2] {
         return false;
     }
-    amount_at(w, p + 1) == amount_at(w, p + 3)
+    ns[p + 1] == ns[p + 3]
 }
 
 // "15 for a marked empty text": m is the field of the mark that waits, 0 if none does.
@@ -84,14 +126,17 @@ pub fn marks_empty(w: &[u8], m: u64) -> bool
 pub fn judge_record(w: &[u8], t: usize, m: u64) -> u32
     ensures { λ r. ⌜ r ≡ rec-verdict t m (fields (now (w .entry))) ⌝ }
 {
-    if lines::count_fields(w) != find_width(t) {
+    let j = judge_fields(w, t);
+    let v = j.wrong;
+    let whole = j.whole;
+    let ns = j.numbers;
+    if !has_width(w, t, whole) {
         return 10;
     }
-    let v = find_wrong(w, t);
     if v != 0 {
         return v;
     }
-    if same_points(w, t) {
+    if same_points(ns, t) {
         return 14;
     }
     if marks_empty(w, m) {

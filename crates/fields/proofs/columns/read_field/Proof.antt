@@ -1,22 +1,22 @@
-use borrow.Author.Needs.{needs}
+-- `fields::columns::read_field` meets its contract. Assumes nothing.
 use Rattle.page.specs.Section.{fieldOf}
+use borrow.Author.Needs.{needs}
 use Rattle.fields.proofs.columns.read_field.Statement.{statement}
 use Rattle.fields.proofs.columns.read_field.Tie as tie
 
-read-text-field-requires : tie.Need-read-text-field-requires
-read-text-field-requires c κs = search needs
+text-from-requires : tie.Need-text-from-requires
+text-from-requires c κs = search needs
 
 returns : tie.Need-returns
 unfolding fieldOf
-returns c = rw (c .before .if1 .taken) (c .read-text-field .ensures)
+returns c = (c .text-from .ensures .0, rw (c .before .if1 .taken) (c .text-from .ensures .1))
 
-read-number-field-requires : tie.Need-read-number-field-requires
-read-number-field-requires c κs = search needs
+number-from-requires : tie.Need-number-from-requires
+number-from-requires c κs = search needs
 
 returns-2 : tie.Need-returns-2
 unfolding fieldOf
-returns-2 c = rw (c .before .if1 .left) (c .read-number-field .ensures)
+returns-2 c = (c .number-from .ensures .0, rw (c .before .if1 .left) (c .number-from .ensures .1))
 
 pub read-field-spec : {M : Type 1} → statement M
-read-field-spec =
-    tie.close (tie.spec read-text-field-requires returns read-number-field-requires returns-2)
+read-field-spec = tie.close (tie.spec text-from-requires returns number-from-requires returns-2)
