@@ -39,7 +39,7 @@ impl Report {
             None => ["", ""].map(str::to_owned),
         };
         println!(
-            "| {:5} | {mebibytes:3} | {:.1} | {:.1} | {:.2} | {of_subject} | {of_baseline} | {} | {} |",
+            "| {:5} | {mebibytes:3} | {:.2} | {:.2} | {:.2} | {of_subject} | {of_baseline} | {} | {} |",
             call.name(),
             speed(bytes, subject.time),
             speed(bytes, baseline.time),

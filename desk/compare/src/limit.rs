@@ -5,7 +5,7 @@ use face::{all_rows, cells_of, number, At, Library, Refusal, LIMIT};
 use samples::large::{file, with_longer_source, without_spaces, Order, Shape, EMPTY};
 
 use crate::difference::{law, same, Difference};
-use crate::lent::{lend, room};
+use crate::lent::{lend, room, Call};
 use crate::tally::Tally;
 use crate::Pair;
 
@@ -37,24 +37,34 @@ impl Limit<'_> {
         )
     }
 
-    /// The three calls that put out a form, with so much room; each is refused
-    /// by this number, or by none.
+    /// The three calls that put out a form, with so much room.
     fn forms(&mut self, file: &[u8], lent: usize, meant: u32) -> Result<(), Difference> {
         let write = |library: &dyn Library, out: &mut [u8]| library.write(file, out);
         let strip = |library: &dyn Library, out: &mut [u8]| library.strip(file, out);
         let fill = |library: &dyn Library, out: &mut [u8]| library.fill(file, EMPTY, TEXT, out);
-        let calls: [(&str, &crate::lent::Call<'_, u8>); 3] =
+        let calls: [(&str, &Call<'_, u8>); 3] =
             [("write", &write), ("strip", &strip), ("fill", &fill)];
         for (name, run) in calls {
             let call = format!("{name} of {} bytes", file.len());
-            let answer = lend(self.pair, self.tally, &call, lent, run)?;
-            let refusal = answer.err().unwrap_or(Refusal::SOUND);
-            law(
-                refusal == Refusal::placeless(meant),
-                &format_args!("{call}: {meant} is meant, not {}", refusal.number),
-            )?;
+            self.form(&call, lent, meant, run)?;
         }
         Ok(())
+    }
+
+    /// A call that puts out a form: refused by this number, or by none.
+    fn form(
+        &mut self,
+        call: &str,
+        lent: usize,
+        meant: u32,
+        run: &Call<'_, u8>,
+    ) -> Result<(), Difference> {
+        let answer = lend(self.pair, self.tally, &call, lent, run)?;
+        let refusal = answer.err().unwrap_or(Refusal::SOUND);
+        law(
+            refusal == Refusal::placeless(meant),
+            &format_args!("{call}: {meant} is meant, not {}", refusal.number),
+        )
     }
 
     fn full_file(&mut self) -> Result<(), Difference> {
@@ -116,12 +126,7 @@ impl Limit<'_> {
             self.check(&longer, number::SOUND)?;
             let run = |library: &dyn Library, out: &mut [u8]| library.write(&longer, out);
             let call = format!("write of a form of {} bytes", LIMIT + more);
-            let answer = lend(self.pair, self.tally, &call, LIMIT + 9, &run)?;
-            let refusal = answer.err().unwrap_or(Refusal::SOUND);
-            law(
-                refusal == Refusal::placeless(meant),
-                &format_args!("{call}: {meant} is meant, not {}", refusal.number),
-            )?;
+            self.form(&call, LIMIT + 9, meant, &run)?;
         }
         Ok(())
     }

@@ -4,14 +4,7 @@ mod common;
 
 use std::fs;
 
-use common::{cases, examples, run_in, Folder, SMALL};
-
-const DAMAGED: &str = "\
-damaged.x10: section 1, line 4: 11 not a text
-     9 | rec; 7; 1; \"School day
-       |            ^^^^^^^^^^^
-       = its quotes do not pair: one is missing or too many
-";
+use common::{cases, examples, run_in, Folder, DAMAGED, SMALL};
 
 #[test]
 fn a_sound_file() {

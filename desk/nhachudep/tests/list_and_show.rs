@@ -2,14 +2,7 @@
 
 mod common;
 
-use common::{examples, run_in, Folder, SMALL};
-
-const TOLD: &str = "\
-damaged.x10: section 1, line 4: 11 not a text
-     9 | rec; 7; 1; \"School day
-       |            ^^^^^^^^^^^
-       = its quotes do not pair: one is missing or too many
-";
+use common::{examples, run_in, Folder, DAMAGED, SMALL};
 
 #[test]
 fn a_listing_has_every_section() {
@@ -26,7 +19,7 @@ section  number  table                  records  place  length  verdict
       1     290  MENGE_TAGESART               0    107     131  line 4: 11 not a text
       2     485  MENGE_BASIS_VERSIONEN        1    238     114  sound
 ",
-        TOLD,
+        DAMAGED,
     );
 }
 
@@ -144,7 +137,7 @@ MENGE_BASIS_VERSIONEN (485), section 2
 record  BASIS_VERSION    BASIS_VERSION_TEXT
      1              7    \"Winter\"
 ",
-        TOLD,
+        DAMAGED,
     );
 }
 

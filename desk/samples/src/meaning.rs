@@ -13,7 +13,7 @@ use crate::random::Random;
 use crate::texts;
 
 /// What a record refers to is drawn before it.
-const PARENTS_FIRST: [&Table; 8] = [
+pub const PARENTS_FIRST: [&Table; 8] = [
     &VERSIONS,
     &VALIDITY,
     &DAY_TYPES,

@@ -2,16 +2,7 @@
 
 use face::LIMIT;
 use reader::{check, list, write, Answer};
-use samples::large::{file, Order, Shape, EMPTY};
-
-const SOUND: [Shape; 6] = [
-    Shape::Network(Order::Rising),
-    Shape::Network(Order::Shuffled),
-    Shape::Calendar(Order::Rising),
-    Shape::Calendar(Order::Shuffled),
-    Shape::Eight(Order::Rising),
-    Shape::Eight(Order::Shuffled),
-];
+use samples::large::{file, Order, Shape, EMPTY, SOUND};
 
 #[test]
 fn large_files_are_sound() {

@@ -22,6 +22,14 @@ end; 2
 eof; 1
 ";
 
+/// What is told of `examples/damaged.x10`.
+pub const DAMAGED: &str = "\
+damaged.x10: section 1, line 4: 11 not a text
+     9 | rec; 7; 1; \"School day
+       |            ^^^^^^^^^^^
+       = its quotes do not pair: one is missing or too many
+";
+
 /// What a run put out, and its exit code.
 pub struct Run {
     pub code: i32,
