@@ -4,6 +4,7 @@ mod change;
 mod file;
 mod record;
 mod section;
+mod standing;
 
 pub use answer::fill_checked;
 pub use answer::strip;
