@@ -71,7 +71,7 @@ closed-of c w x e = by (record-text w) refl (rw x at e)
     by none q z = absurd (let y : _≡_ {A = ℕ} 11 0 = rw q at z in omega arith)
     by (some u) q z = closed u q (size u (leb (length u) (c .hi)) refl (rw q at z))
 
-closed-is : {size : ℕ} {w : Bytes} → Closed size w → w ≡ quoted (own-bytes (record-text w))
+pub closed-is : {size : ℕ} {w : Bytes} → Closed size w → w ≡ quoted (own-bytes (record-text w))
 unfolding record-text
 closed-is {size} {w} (closed u e h) = text-quoted w u e ∙ sym (ap (λ (o : Option Bytes). quoted (own-bytes o)) e)
 
@@ -114,17 +114,6 @@ module _ (strip : Bool) (f m i : ℕ) (t : Bytes) (c : Column) (w : Bytes) where
         by true true z = refl
         by true false z = absurd (let q : _≡_ {A = ℕ} 0 1 = cc in omega arith)
         by false d z = absurd (let q : _≡_ {A = ℕ} 0 1 = cc in omega arith)
-
-    pub field-copied : c .text ≡ true → (b : Bool) → b ≡ (strip && eqb m i) → b ≡ false → field-number (fieldOf c w) ≡ 0
-        → w ≡ datum-text (datum-by strip f t m i c w)
-    unfolding datum-by changed-datum datum-text datumOf strip-datum owner-of
-    field-copied x b e y z = closed-is (closed-of c w x z) ∙ rw (ne-eqb f i n, x) (by strip (eqb m i) (sym e ∙ y))
-      where
-        by : (s d : Bool) → (s && d) ≡ false
-            → quoted (own-bytes (record-text w)) ≡ datum-text (pick s (strip-datum (words (pick d O.Suggestion O.Operator) (own-bytes (record-text w)))) (words (pick d O.Suggestion O.Operator) (own-bytes (record-text w))))
-        by true true q = absurd (let q : _≡_ {A = ℕ} 0 1 = cc in omega arith)
-        by true false q = refl
-        by false d q = refl
 
 -- column by column
 

@@ -1,5 +1,6 @@
 pub mod PartLaws
 pub mod FieldLaws
+pub mod StandLaws
 pub mod SectionLaws
 pub mod SoundLaws
 pub mod RoomLaws

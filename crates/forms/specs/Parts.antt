@@ -1,13 +1,16 @@
 -- The marks and the fields of one changed record, column by column; i counts them from 1.
+use mathlib.Core.Path.{_≡_}
 use mathlib.Core.Bool.{Bool, true, false, not, _&&_, _||_}
 use mathlib.Core.List.{List, [], _∷_, _++_}
 use Prim.Native.Nat.{ℕ, suc}
 use lib.Dec.{eqb}
-use Rattle.page.specs.Bytes.{Bytes, bytes, pick}
+use lib.ListN.{length, getD}
+use Rattle.page.specs.Bytes.{Bytes, bytes, pick, trim}
+use Rattle.page.specs.Fields.{fields}
 use Rattle.page.specs.Tables.{Named}
 use Rattle.page.specs.Marks.{owner-of}
 use Rattle.page.specs.Records.{Datum, datumOf}
-use Rattle.page.specs.Form.{datum-text, mark-line}
+use Rattle.page.specs.Form.{separated, datum-text, mark-line}
 use Rattle.page.specs.declared.Column.{Column}
 use Rattle.forms.specs.Changed.{changed-datum}
 
@@ -31,3 +34,21 @@ fields-form strip f t m i [] ws = []
 fields-form strip f t m i (c ∷ cs) [] = []
 fields-form strip f t m i (c ∷ cs) (w ∷ ws) =
     (bytes "; " ++ datum-text (datum-by strip f t m i (c .column) w)) ++ fields-form strip f t m (suc i) cs ws
+
+-- does a field that passed its column's rules stand as it is written? A text does, and a number without a minus or a leading zero
+unfoldable pub stands : Bytes → Bool
+stands w = pick (eqb (getD w 0 0) 45) false (pick (eqb (getD w 0 0) 48) (eqb (length w) 1) true)
+
+unfoldable pub all-stand : List Bytes → Bool
+all-stand [] = true
+all-stand (w ∷ ws) = stands w && all-stand ws
+
+-- one space, and a field that stands as it is written
+pub record Spaced (g : Bytes) : Type 0 where
+  pub is : g ≡ 32 ∷ trim g
+  pub field : stands (trim g) ≡ true
+
+-- all that stands after a record's first `;` stands as it is written
+pub record Whole (w : Bytes) : Type 0 where
+  pub is : separated (fields w) ≡ 59 ∷ w
+  pub each : all-stand (fields w) ≡ true

@@ -5,6 +5,7 @@ mod file;
 mod filling;
 mod record;
 mod section;
+mod standing;
 
 pub use answer::fill;
 pub use answer::strip;

@@ -1,6 +1,6 @@
 // One record of the written file: its marks, and its line.
 ghost use mathlib.Core.Path.{_≡_};
-ghost use mathlib.Core.Bool.{_&&_};
+ghost use mathlib.Core.Bool.{true, _&&_};
 ghost use Prim.Native.Nat.{_+_, _<_, _≤_, _^_};
 ghost use lib.Dec.{eqb};
 ghost use lib.ListN.{length};
@@ -11,8 +11,10 @@ ghost use Rattle.page.specs.Records.{valuesOf};
 ghost use Rattle.page.specs.Form.{datum-text, record-form};
 ghost use Rattle.output.specs.Put.{Put};
 ghost use Rattle.forms.specs.Changed.{changed-values};
-ghost use Rattle.forms.specs.Parts.{marked-by, mark-by, marks-form, datum-by, fields-form};
+ghost use Rattle.forms.specs.Parts.{marked-by, mark-by, marks-form, datum-by, fields-form, Whole};
 use crate::change::Change;
+use crate::standing::all_written;
+use crate::standing::is_written;
 use output::put_bytes;
 use output::put_decimal;
 use output::put_line_end;
@@ -51,12 +53,25 @@ fn put_mark_of(out: &mut [u8], at: usize, t: usize, k: usize, m: u64, change: Ch
     at
 }
 
+// Is nothing marked: does no mark wait, and is no field filled?
+fn is_plain(m: u64, change: Change) -> bool
+    ensures { λ r. ⌜ r ≡ (eqb m 0 && eqb (change .field) 0) ⌝ }
+{
+    if m == 0 {
+        return change.field == 0;
+    }
+    false
+}
+
 // "marks stand directly before their record"
 fn put_marks(out: &mut [u8], at: usize, t: usize, m: u64, change: Change) -> usize
     requires { ⌜ at + length (marks-form (change .strip) (change .field) m 1 (standing t)) + 64 < 2 ^ 62 ⌝ }
     ensures { λ r.
         ⌜ Put (now (out .entry)) at (marks-form (change .strip) (change .field) m 1 (standing t)) (now (out .exit)) r ⌝ }
 {
+    if is_plain(m, change) {
+        return at;
+    }
     let n = find_width(t);
     let mut o = at;
     let mut k = 0;
@@ -78,7 +93,7 @@ fn is_stripped(strip: bool, m: u64, k: usize) -> bool
     false
 }
 
-// "Numbers without leading zeros, texts quoted": a text that is not changed is copied as it stands.
+// "Numbers without leading zeros, texts quoted": what is not changed is copied where it stands so.
 fn put_field(
     out: &mut [u8],
     at: usize,
@@ -100,14 +115,17 @@ fn put_field(
     if change.field == k + 1 {
         return put_quoted(out, at, text);
     }
-    let column = find_column(t, k);
-    if !column.text {
+    if is_stripped(change.strip, m, k) {
+        let column = find_column(t, k);
+        if column.text {
+            return put_bytes(out, at, b"\"\"");
+        }
         return put_decimal(out, at, fields::amount_of(f));
     }
-    if is_stripped(change.strip, m, k) {
-        return put_bytes(out, at, b"\"\"");
+    if is_written(f) {
+        return put_bytes(out, at, f);
     }
-    put_bytes(out, at, f)
+    put_decimal(out, at, fields::amount_of(f))
 }
 
 // "One space after each separating `;`": w is what stands after the record's first `;`.
@@ -141,6 +159,16 @@ fn put_fields(
     o
 }
 
+// Does a whole record stand as it is written, with no mark?
+fn is_kept(w: &[u8], m: u64, change: Change) -> bool
+    ensures { λ r. ⌜ (r ≡ true → (m ≡ 0) × (change .field ≡ 0) × Whole (now (w .entry))) ⌝ }
+{
+    if is_plain(m, change) {
+        return all_written(w);
+    }
+    false
+}
+
 // A record that passed its rules, with the field of the mark that waits for it (0: none).
 pub fn put_record(
     out: &mut [u8],
@@ -160,6 +188,11 @@ pub fn put_record(
         ⌜ Put (now (out .entry)) at
         (record-form (changed-values (change .strip) (change .field) (now (text .entry)) (valuesOf m 1 (standing t) (fields (now (w .entry)))))) (now (out .exit)) r ⌝ }
 {
+    if is_kept(w, m, change) {
+        let a = put_bytes(out, at, b"rec;");
+        let b = put_bytes(out, a, w);
+        return put_line_end(out, b);
+    }
     let a = put_marks(out, at, t, m, change);
     let b = put_bytes(out, a, b"rec");
     let c = put_fields(out, b, w, t, m, change, text);

@@ -1,8 +1,9 @@
 use Rattle.page.specs.Tables.{standing, width}
 use Rattle.page.proofs.TableLaws.{width-le}
-use Rattle.output.proofs.PutLaws.{Todo, begin, next-by, at-end, same}
+use Rattle.output.proofs.PutLaws.{Todo, begin, next-by, at-end, same, put-as, put-none}
 use Rattle.forms.specs.Parts.{marks-form}
 use Rattle.forms.proofs.FieldLaws.{marks-more, marks-end}
+use Rattle.forms.proofs.StandLaws.{marks-plain}
 use borrow.Author.Needs.{needs}
 use Prim.Native.Nat.{ℕ, suc, _+_, _-_, _*_, _<_, _≤_}
 use mathlib.Core.Path.{_≡_, refl, ap, sym, _∙_}
@@ -13,10 +14,6 @@ use borrow.Author.Tests.{lt-ltb, le-ltb, le-leb, lt-leb, eq-eqb, ne-eqb}
 use lib.ListN.{length, getD, take, drop}
 use Rattle.forms.proofs.record.put_marks.Statement.{statement}
 use Rattle.forms.proofs.record.put_marks.Tie as tie
-use Rattle.forms.proofs.record.put_marks.Reads as reads
-use Rattle.forms.proofs.record.put_marks.Lts as lts
-use Rattle.forms.proofs.record.put_mark_of.Reads as put-mark-of-reads
-use Rattle.page.proofs.tables.find_width.Reads as find-width-reads
 
 abbrev Inv-loop : tie.InvT-loop
 Inv-loop out₀ at t m change n o₀ k₀ out o k =
@@ -24,6 +21,14 @@ Inv-loop out₀ at t m change n o₀ k₀ out o k =
 
 abbrev μ-loop : tie.MeasureT-loop
 μ-loop out₀ at t m change n o₀ k₀ out o k = n - k
+
+is-plain-requires : tie.Need-is-plain-requires Inv-loop μ-loop
+is-plain-requires c κs = search needs
+
+returns : tie.Need-returns Inv-loop μ-loop
+returns c =
+    let a = c .before .before .before .args in
+    put-as (marks-plain (a .change .strip) (a .change .field) (a .m) (standing (a .t)) (c .before .is-plain .result) (c .before .is-plain .ensures) (c .if1 .taken)) put-none
 
 find-width-requires : tie.Need-find-width-requires Inv-loop μ-loop
 find-width-requires c κs = search needs
@@ -34,7 +39,7 @@ loop-holds c =
 
 put-mark-of-requires : tie.Need-put-mark-of-requires Inv-loop μ-loop
 put-mark-of-requires c κs =
-    (omega (arith, width-le (c .before .before .before .before .before .args .t), c .before .before .before .find-width .ensures), omega (arith, c .before .before .loop .inv .1 .next))
+    (omega (arith, width-le (c .before .before .before .before .before .before .before .args .t), c .before .before .before .find-width .ensures), omega (arith, c .before .before .loop .inv .1 .next))
 
 add-k : tie.Need-add-k Inv-loop μ-loop
 add-k c = search needs
@@ -44,7 +49,7 @@ loop-less c = search needs
 
 loop-again : tie.Need-loop-again Inv-loop μ-loop
 loop-again c =
-    let a = c .before .before .before .before .before .before .before .before .args in
+    let a = c .before .before .before .before .before .before .before .before .before .before .args in
     let l = c .before .before .before .before .before .loop in
     let h : l .k < width (a .t) = omega (arith, c .before .before .before .before .before .before .find-width .ensures, c .before .before .before .before .loop-test .taken) in
     (omega arith, next-by (marks-more (a .change .strip) (a .change .field) (a .m) (a .t) (l .k) h) (l .inv .1) (c .before .before .put-mark-of .ensures))
@@ -53,9 +58,9 @@ same-length : tie.Need-same-length Inv-loop μ-loop
 same-length c =
     same (c .before .loop .inv .1)
 
-returns : tie.Need-returns Inv-loop μ-loop
-returns c =
-    let a = c .before .before .before .before .args in
+returns-2 : tie.Need-returns-2 Inv-loop μ-loop
+returns-2 c =
+    let a = c .before .before .before .before .before .before .args in
     let l = c .before .loop in
     let h : width (a .t) ≤ l .k = omega (arith, c .before .before .find-width .ensures, c .loop-test .left) in
     at-end (marks-end (a .change .strip) (a .change .field) (a .m) (a .t) (l .k) h) (l .inv .1)
@@ -66,6 +71,8 @@ put-marks-spec =
     (tie.spec
     Inv-loop
     μ-loop
+    is-plain-requires
+    returns
     find-width-requires
     loop-holds
     put-mark-of-requires
@@ -73,4 +80,4 @@ put-marks-spec =
     loop-less
     loop-again
     same-length
-    returns)
+    returns-2)

@@ -1,0 +1,56 @@
+// What stands in a record as it is written, so that it can be copied. A record's fields passed the rules of their columns.
+ghost use mathlib.Core.Path.{_≡_};
+ghost use mathlib.Core.Bool.{true};
+ghost use Rattle.forms.specs.Parts.{stands, Spaced, Whole};
+
+// "Numbers without leading zeros": one with a minus is a zero.
+pub fn is_written(f: &[u8]) -> bool
+    ensures { λ r. ⌜ r ≡ stands (now (f .entry)) ⌝ }
+{
+    if f.len() == 0 {
+        return true;
+    }
+    let b = f[0];
+    if b == 45 {
+        return false;
+    }
+    if b != 48 {
+        return true;
+    }
+    f.len() == 1
+}
+
+// What stands between two `;`: "One space after each separating `;`, none elsewhere outside texts".
+fn is_spaced(g: &[u8]) -> bool
+    ensures { λ r. ⌜ (r ≡ true → Spaced (now (g .entry))) ⌝ }
+{
+    if g.len() < 2 {
+        return false;
+    }
+    let last = g.len() - 1;
+    if g[0] != 32 {
+        return false;
+    }
+    if g[1] == 32 {
+        return false;
+    }
+    if g[last] == 32 {
+        return false;
+    }
+    is_written(&g[1..])
+}
+
+// w is what stands after the record's first `;`.
+pub fn all_written(w: &[u8]) -> bool
+    ensures { λ r. ⌜ (r ≡ true → Whole (now (w .entry))) ⌝ }
+{
+    let mut p = 0;
+    while p <= w.len() {
+        let e = lines::field_end(w, p);
+        if !is_spaced(&w[p..e]) {
+            return false;
+        }
+        p = e + 1;
+    }
+    true
+}
