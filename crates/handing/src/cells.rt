@@ -14,7 +14,7 @@ ghost use Rattle.output.specs.Put.{Put};
 use page::Owner;
 use page::Text;
 use page::Value;
-use page::tables::find_column;
+use page::tables::find_kinds;
 use page::tables::find_width;
 
 fn put_three(cells: &mut [u64], o: usize, kind: u64, a: u64, b: u64) -> usize
@@ -62,8 +62,8 @@ fn read_value(w: &[u8], p: usize, e: usize, at: usize, m: u64, t: usize, k: usiz
     let sp = lines::trim_in(w, p, e);
     let a = sp.from;
     let b = sp.to;
-    let column = find_column(t, k);
-    if column.text {
+    let kinds = find_kinds(t);
+    if kinds[k] {
         return Value::Words(Text {
             from: at + (a + 1),
             to: at + sections::one_less(b),

@@ -51,6 +51,11 @@ module _ (t k : ℕ) (h : k < width t) (f : Bytes) (r fs : List Bytes) (e : fs �
   pub wrong-more : v ≡ 0 → first-wrong (drop k (standing t)) fs ≡ first-wrong (drop (k + 1) (standing t)) r
   wrong-more n = wrong-step ∙ rw (eq-eqb v 0 n)
 
+-- a field's reading asks its column for kind and bounds alone
+pub column-read : (c d : Column) (f : Bytes) → d .text ≡ c .text → d .lo ≡ c .lo → d .hi ≡ c .hi → fieldOf d f ≡ fieldOf c f
+unfolding fieldOf
+column-read c d f a b e = rw (a, b, e)
+
 -- the last of the four columns of the two points
 pub points-small : (t : ℕ) → points-from t ≤ 3
 unfolding points-from

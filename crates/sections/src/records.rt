@@ -7,9 +7,12 @@ ghost use Rattle.page.specs.Fields.{fields};
 ghost use Rattle.page.specs.Tables.{width};
 ghost use Rattle.page.specs.Section.{field-number, amount-at, empty-marked, rec-verdict};
 ghost use Rattle.sections.specs.Judging.{number-of, Judged, points-equal};
+use page::Column;
 use page::Field;
 use page::tables::WIDEST;
-use page::tables::find_column;
+use page::tables::find_highs;
+use page::tables::find_kinds;
+use page::tables::find_lows;
 use page::tables::find_points;
 use page::tables::find_width;
 
@@ -43,11 +46,14 @@ fn number_of(f: Field) -> u64
     }
 }
 
-// "each field from the left (11 or 12, then 13)"
+// "each field from the left (11 or 12, then 13)": of a column this asks for kind and bounds alone.
 fn judge_fields(w: &[u8], t: usize) -> Judgement
     ensures { λ r. ⌜ Judged t (fields (now (w .entry))) (r .wrong) (r .whole) (r .numbers) ⌝ }
 {
     let n = find_width(t);
+    let kinds = find_kinds(t);
+    let lows = find_lows(t);
+    let highs = find_highs(t);
     let mut ns = [0; WIDEST];
     let mut k = 0;
     let mut at = 0;
@@ -59,7 +65,16 @@ fn judge_fields(w: &[u8], t: usize) -> Judgement
                 numbers: ns,
             };
         }
-        let r = fields::read_field(w, at, find_column(t, k));
+        let column = Column {
+            text: kinds[k],
+            lo: lows[k],
+            hi: highs[k],
+            size: 0,
+            primary: false,
+            second: false,
+            fillable: false,
+        };
+        let r = fields::read_field(w, at, column);
         let f = r.field;
         let e = r.end;
         let v = refusal_of(f);

@@ -19,8 +19,8 @@ trim-in-requires c κs =
     let h : a .k < length (fields (a .w .now)) = omega (arith, p .2, p .3) in
     field-in (a .w .now) (a .k) (a .p) (a .e) (p .0) (p .1) h
 
-find-column-requires : tie.Need-find-column-requires
-find-column-requires c κs = search needs
+find-kinds-requires : tie.Need-find-kinds-requires
+find-kinds-requires c κs = search needs
 
 add-t13 : tie.Need-add-t13
 add-t13 c =
@@ -68,7 +68,7 @@ returns c =
     let i = span-within (a .w .now) (a .k) (a .p) (a .e) (p .0) (p .1) h (x .result) (x .ensures) in
     let y = span-is (a .w .now) (a .k) (a .p) (a .e) (p .0) (p .1) h (x .result) (x .ensures) in
     let z : a .k + 1 - 1 ≡ a .k = omega arith in
-    rw (z, sym (c .before .before .before .find-column .ensures), c .before .before .if1 .taken, c .before .one-less .ensures, c .owner-of .ensures, sym y)
+    rw (z, sym (c .before .before .before .find-kinds .ensures (a .k) (omega (arith, p .3, width-le (a .t)))), c .before .before .if1 .taken, c .before .one-less .ensures, c .owner-of .ensures, sym y)
 
 sub-amount-of : tie.Need-sub-amount-of
 sub-amount-of c =
@@ -110,14 +110,14 @@ returns-2 c =
     let i = span-within (a .w .now) (a .k) (a .p) (a .e) (p .0) (p .1) h (x .result) (x .ensures) in
     let y = span-holds (a .w .now) (a .k) (a .p) (a .e) (p .0) (p .1) h (x .result) (x .ensures) in
     let z : a .k + 1 - 1 ≡ a .k = omega arith in
-    rw (z, sym (c .before .before .before .find-column .ensures), c .before .before .if1 .left, c .amount-of .ensures, y)
+    rw (z, sym (c .before .before .before .find-kinds .ensures (a .k) (omega (arith, p .3, width-le (a .t)))), c .before .before .if1 .left, c .amount-of .ensures, y)
 
 pub read-value-spec : {M : Type 1} → statement M
 read-value-spec =
     tie.close
     (tie.spec
     trim-in-requires
-    find-column-requires
+    find-kinds-requires
     add-t13
     add-t14
     one-less-requires
