@@ -7,7 +7,8 @@ use native.Mathlib.Numerals.{add-one}
 use native.Mathlib.Omega.{arith}
 use borrow.Author.Tests.{eq-eqb, ne-eqb, eqb-true}
 use lib.Dec.{eqb}
-use lib.ListN.{length, getD, take, drop}
+use lib.ListN.{length, getD, take, drop, length-drop}
+use lib.Seq.{length-take-le}
 use Rattle.page.specs.Bytes.{Bytes, pick}
 use Rattle.page.specs.Lines.{lines, content, rest}
 use Rattle.page.specs.Fields.{fields}
@@ -21,11 +22,11 @@ use Rattle.page.specs.Answers.{refusal, sound}
 use Rattle.page.specs.File.{row-of, rowOf, rowsOf, first-unsound}
 use Rattle.page.specs.declared.Row.{Row}
 use Rattle.page.specs.declared.Refusal.{Refusal}
-use Rattle.page.proofs.LineLaws.{line-size}
+use Rattle.page.proofs.LineLaws.{line-size, joined-lines}
 use Rattle.page.proofs.CutLaws.{no-section, sections-from, sections-table, sections-end}
 use Rattle.demands.proofs.Sections.{sections-begin}
 use Rattle.sections.specs.Walk.{section-size, section-from, Settled}
-use Rattle.sections.proofs.WalkLaws.{walk-here, first-begins}
+use Rattle.sections.proofs.WalkLaws.{section-within, walk-here, first-begins}
 use Rattle.keys.proofs.SoundLaws.{Sound, sound-section}
 
 -- the first unsound section, at a section's place
@@ -43,6 +44,18 @@ module _ (s : Bytes) (at i : ℕ) (latin : Bool) (h : at < length s) (z : Settle
 pub unsound-end : (s : Bytes) (at i : ℕ) (latin : Bool) → length s ≤ at → first-unsound i (map (rowOf latin) (sections-from s at)) ≡ sound
 unfolding first-unsound
 unsound-end s at i latin h = rw (sections-end s at h)
+
+-- a row tells where its section ends
+pub row-end : (latin : Bool) (s : Bytes) (at : ℕ) (row : Row) → at < length s → row ≡ rowOf latin (section-from s at)
+    → (at + row .length ≡ at + section-size (drop at s)) × (at < at + row .length) × (at + row .length ≤ length s)
+unfolding rowOf row-of section-from
+row-end latin s at row h q =
+    let w = section-within s at h in
+    let n : section-size (drop at s) ≤ length (drop at s) = omega (arith, length-drop at s) in
+    let l : row .length ≡ section-size (drop at s) =
+    ap (λ (r : Row). r .length) q
+    ∙ rw (joined-lines (take (section-size (drop at s)) (drop at s))) (length-take-le (section-size (drop at s)) (drop at s) n) in
+    (omega arith, omega arith, omega arith)
 
 -- where none is unsound, each is sound
 

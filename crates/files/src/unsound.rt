@@ -12,7 +12,7 @@ pub fn first_unsound(s: &[u8], latin: bool) -> Refusal
     let mut at = sections::find_section(s, 0);
     while at < s.len() {
         let row = sections::read_section(s, at, latin);
-        let e = sections::section_end(s, at);
+        let e = at + row.length;
         at = sections::find_section(s, e);
         let verdict = row.verdict;
         let line = row.line;

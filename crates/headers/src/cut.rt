@@ -10,11 +10,10 @@ use lines::Cursor;
 fn begins_part(l: &[u8]) -> bool
     ensures { λ r. ⌜ r ≡ (begins-table (now (l .entry)) || begins-end (now (l .entry))) ⌝ }
 {
-    let k = lines::command_of(lines::content_of(l));
-    if k == 8 {
+    if lines::begins_table(l) {
         return true;
     }
-    k == 14
+    lines::begins_end(l)
 }
 
 // "The header is every line before the first `tbl` or `eof` line": how many bytes it has.

@@ -137,9 +137,9 @@ four-first (x ∷ y ∷ []) h = absurd (omega arith)
 four-first (x ∷ y ∷ z ∷ []) h = absurd (omega arith)
 four-first (x ∷ y ∷ z ∷ v ∷ w) h = refl
 
-pub set-command : (c : Bytes) → Set c → getD c 1 0 < 256 → getD c 2 0 < 256
+pub set-known : (c : Bytes) → Set c → getD c 1 0 < 256 → getD c 2 0 < 256
     → command c ≡ find-key Mod known (key-of (getD c 0 0) (getD c 1 0) (getD c 2 0))
-set-command c s kb kc =
+set-known c s kb kc =
     let e : c ≡ getD c 0 0 ∷ getD c 1 0 ∷ getD c 2 0 ∷ 59 ∷ drop 4 c =
     four-first c (s .long) ∙ ap (λ (x : ℕ). getD c 0 0 ∷ getD c 1 0 ∷ getD c 2 0 ∷ x ∷ drop 4 c) (s .after) in
     ap command e ∙ three-command (getD c 0 0) (getD c 1 0) (getD c 2 0) (drop 4 c) (s .first) (s .second) (s .third) kb kc

@@ -95,12 +95,20 @@ fn seek_command(c: &[u8]) -> u32
     MISSING
 }
 
+// The command of a content that is set.
+fn set_command(c: &[u8]) -> u32
+    requires { ⌜ Set (now c) ⌝ }
+    ensures { λ r. ⌜ r ≡ command (now (c .entry)) ⌝ }
+{
+    by_key(pack(c[0], c[1], c[2]))
+}
+
 // "The command is what stands before the first `;`, spaces trimmed."
 pub fn command_of(c: &[u8]) -> u32
     ensures { λ r. ⌜ r ≡ command (now (c .entry)) ⌝ }
 {
     if is_set(c) {
-        return by_key(pack(c[0], c[1], c[2]));
+        return set_command(c);
     }
     seek_command(c)
 }
@@ -119,11 +127,19 @@ pub fn is_clean(c: &[u8], latin: bool) -> bool
 pub fn begins_table(l: &[u8]) -> bool
     ensures { λ r. ⌜ r ≡ begins-table (now (l .entry)) ⌝ }
 {
-    command_of(content_of(l)) == TBL
+    let c = content_of(l);
+    if is_set(c) {
+        return set_command(c) == TBL;
+    }
+    seek_command(c) == TBL
 }
 
 pub fn begins_end(l: &[u8]) -> bool
     ensures { λ r. ⌜ r ≡ begins-end (now (l .entry)) ⌝ }
 {
-    command_of(content_of(l)) == EOF
+    let c = content_of(l);
+    if is_set(c) {
+        return set_command(c) == EOF;
+    }
+    seek_command(c) == EOF
 }

@@ -1,5 +1,5 @@
 -- `files::unsound::first_unsound` meets its contract. Assumes nothing.
-use Rattle.files.proofs.WalkLaws.{unsound-here, unsound-more, unsound-end}
+use Rattle.files.proofs.WalkLaws.{row-end, unsound-here, unsound-more, unsound-end}
 use Rattle.sections.specs.Walk.{Settled}
 use Rattle.page.proofs.CutLaws.{sections-from, sections-all}
 use Rattle.page.specs.File.{rowOf, first-unsound}
@@ -33,11 +33,16 @@ loop-holds c =
 read-section-requires : tie.Need-read-section-requires Inv-loop μ-loop
 read-section-requires c κs = search needs
 
-section-end-requires : tie.Need-section-end-requires Inv-loop μ-loop
-section-end-requires c κs = search needs
+add-e : tie.Need-add-e Inv-loop μ-loop
+add-e c =
+    let a = c .before .before .before .before .before .before .args in
+    let x = row-end (a .latin) (a .s .now) (c .before .before .before .loop .at) (c .before .read-section .result) (c .before .before .loop-test .taken) (c .before .read-section .ensures) in
+    search needs
 
 find-section-requires-2 : tie.Need-find-section-requires-2 Inv-loop μ-loop
-find-section-requires-2 c κs = search needs
+find-section-requires-2 c κs =
+    let a = c .before .before .before .before .before .before .args in
+    row-end (a .latin) (a .s .now) (c .before .before .before .loop .at) (c .before .read-section .result) (c .before .before .loop-test .taken) (c .before .read-section .ensures) .2
 
 returns : tie.Need-returns Inv-loop μ-loop
 returns c =
@@ -50,21 +55,24 @@ add-i c = search needs
 
 loop-less : tie.Need-loop-less Inv-loop μ-loop
 loop-less c =
+    let a = c .before .before .before .before .before .before .before .before .args in
+    let r = c .before .before .before .read-section in
     let x = c .before .find-section2 .ensures in
-    let e = c .before .before .section-end .ensures in
+    let e = row-end (a .latin) (a .s .now) (c .before .before .before .before .before .loop .at) (r .result) (c .before .before .before .before .loop-test .taken) (r .ensures) in
     omega arith
 
 loop-again : tie.Need-loop-again Inv-loop μ-loop
 loop-again c =
     let a = c .before .before .before .before .before .before .before .before .args in
     let l = c .before .before .before .before .before .loop in
+    let r = c .before .before .before .read-section in
     let x = c .before .find-section2 .ensures in
-    let e = c .before .before .section-end in (
+    let e = row-end (a .latin) (a .s .now) (l .at) (r .result) (c .before .before .before .before .loop-test .taken) (r .ensures) in (
       x .within,
-      omega (arith, x .after, e .ensures .1),
+      omega (arith, x .after, e .1),
       x .settled,
       ap (λ (xs : List Section). first-unsound (l .i + 1) (map (rowOf (a .latin)) xs)) (x .same)
-          ∙ sym (unsound-more (a .s .now) (l .at) (l .i) (a .latin) (c .before .before .before .before .loop-test .taken) (l .inv .2) (c .before .before .before .read-section .result) (c .before .before .before .read-section .ensures) (c .if1 .left) (e .result) (e .ensures .0))
+          ∙ sym (unsound-more (a .s .now) (l .at) (l .i) (a .latin) (c .before .before .before .before .loop-test .taken) (l .inv .2) (r .result) (r .ensures) (c .if1 .left) (l .at + r .result .length) (e .0))
           ∙ l .inv .3,
     )
 
@@ -83,7 +91,7 @@ first-unsound-spec =
     find-section-requires
     loop-holds
     read-section-requires
-    section-end-requires
+    add-e
     find-section-requires-2
     returns
     add-i

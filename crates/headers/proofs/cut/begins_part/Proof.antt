@@ -1,26 +1,20 @@
 -- `headers::cut::begins_part` meets its contract. Assumes nothing.
-use mathlib.Core.Path.{sym}
-use borrow.Author.Tests.{ne-eqb}
+use mathlib.Core.Path.{sym, _∙_}
 use borrow.Author.Needs.{needs}
-use Rattle.page.specs.Cut.{begins-table, begins-end}
 use Rattle.headers.proofs.cut.begins_part.Statement.{statement}
 use Rattle.headers.proofs.cut.begins_part.Tie as tie
 
-content-of-requires : tie.Need-content-of-requires
-content-of-requires c κs = search needs
-
-command-of-requires : tie.Need-command-of-requires
-command-of-requires c κs = search needs
+begins-table-requires : tie.Need-begins-table-requires
+begins-table-requires c κs = search needs
 
 returns : tie.Need-returns
-unfolding begins-table begins-end
-returns c =
-    rw (sym (c .before .before .content-of .ensures), sym (c .before .command-of .ensures), c .if1 .taken)
+returns c = rw (sym (c .before .begins-table .ensures) ∙ c .if1 .taken)
+
+begins-end-requires : tie.Need-begins-end-requires
+begins-end-requires c κs = search needs
 
 returns-2 : tie.Need-returns-2
-unfolding begins-table begins-end
-returns-2 c =
-    rw (sym (c .before .before .content-of .ensures), sym (c .before .command-of .ensures), ne-eqb _ 8 (c .if1 .left))
+returns-2 c = rw (sym (c .before .before .begins-table .ensures) ∙ c .before .if1 .left) (c .begins-end .ensures)
 
 pub begins-part-spec : {M : Type 1} → statement M
-begins-part-spec = tie.close (tie.spec content-of-requires command-of-requires returns returns-2)
+begins-part-spec = tie.close (tie.spec begins-table-requires returns begins-end-requires returns-2)
