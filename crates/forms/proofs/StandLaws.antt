@@ -1,6 +1,6 @@
 -- What stands in a record as it is written is copied: "Numbers without leading zeros, texts quoted". Assumes nothing.
 use mathlib.Core.Path.{_≡_, refl, ap, sym, _∙_}
-use mathlib.Core.Bool.{Bool, true, false, not, _&&_, false≢true}
+use mathlib.Core.Bool.{Bool, true, false, not, _&&_, _||_, false≢true}
 use mathlib.Core.List.{List, [], _∷_, _++_, append-nil, append-assoc}
 use Prim.Native.Nat.{ℕ, zero, suc, _+_, _-_, _*_, _/_, _%_, _<_, _≤_}
 use native.Mathlib.Nat.{add-zero}
@@ -17,18 +17,18 @@ use Rattle.page.specs.Marks.{owner-of}
 use Rattle.page.specs.Section.{record-text, number-field, fieldOf, field-number, first-of, first-wrong, amount}
 use Rattle.page.specs.Records.{number, words, own-bytes, datumOf, valuesOf}
 use Rattle.page.specs.Model.{strip-datum}
-use Rattle.page.specs.Form.{line-end, separated, decimal-in, decimal, quoted, datum-text, record-form}
+use Rattle.page.specs.Form.{line-end, separated, decimal-in, decimal, doubled, quoted, datum-text, record-form}
 use Rattle.page.specs.declared.Owner.{Owner}
 use Rattle.page.specs.declared.Owner.the-variants as O
 use Rattle.page.specs.declared.Column.{Column}
 use Rattle.page.proofs.TestLaws.{and-left, and-right}
 use Rattle.page.proofs.ScanLaws.{until-hit, until-more, keep-stop}
 use Rattle.page.proofs.FieldLaws.{from, from-more, from-end, from-all}
-use Rattle.output.proofs.FormLaws.{decimal-few}
+use Rattle.output.proofs.FormLaws.{decimal-few, decimal-length}
 use Rattle.forms.specs.Changed.{changed-datum, changed-values}
-use Rattle.forms.specs.Parts.{marked-by, mark-by, marks-form, datum-by, fields-form, stands, all-stand, Spaced, Whole}
+use Rattle.forms.specs.Parts.{marked-by, mark-by, marks-form, datum-by, fields-form, bare, stands, all-stand, Spaced, Whole}
 use Rattle.forms.proofs.PartLaws.{record-is}
-use Rattle.forms.proofs.FieldLaws.{closed-of, closed-is, closed-short, text-narrow}
+use Rattle.forms.proofs.FieldLaws.{closed-of, closed-is, closed-short, text-narrow, field-amount}
 
 -- digits without a leading zero are what is written of their value
 
@@ -66,6 +66,158 @@ decimal-one k b l u =
     let e : 48 + (0 * 10 + (b - 48)) ≡ b = omega arith in
     sym (decimal-few k (0 * 10 + (b - 48)) (omega arith)) ∙ ap (λ (x : ℕ). x ∷ []) e
 
+-- without leading zeros
+
+bare-other : (b : ℕ) (ds : Bytes) → (b ≡ 48 → ⊥) → (b ≡ 45 → ⊥) → bare (b ∷ ds) ≡ b ∷ ds
+unfolding bare
+bare-other b [] x y = refl
+bare-other b (c ∷ ds) x y = rw (ne-eqb b 48 x, ne-eqb b 45 y)
+
+bare-skip : (b c : ℕ) (ds : Bytes) → (eqb b 48 || eqb b 45) ≡ true → bare (b ∷ c ∷ ds) ≡ bare (c ∷ ds)
+unfolding bare
+bare-skip b c ds e = rw e
+
+bare-short : (w : Bytes) → length w ≤ 1 → bare w ≡ w
+unfolding bare
+bare-short [] h = refl
+bare-short (b ∷ []) h = refl
+bare-short (b ∷ c ∷ ds) h = absurd (omega arith)
+
+empty-zero : (b : ℕ) → b ≡ 48 → (eqb b 48 || eqb b 45) ≡ true
+empty-zero b e = rw (eq-eqb b 48 e)
+
+empty-minus : (b : ℕ) → b ≡ 45 → (eqb b 48 || eqb b 45) ≡ true
+empty-minus b e = rw (ne-eqb b 48 (λ (z : b ≡ 48). omega arith), eq-eqb b 45 e)
+
+-- at a place
+module _ (w : Bytes) (i : ℕ) where
+  pub bare-here : i < length w → (eqb (getD w i 0) 48 || eqb (getD w i 0) 45) ≡ false → bare (drop i w) ≡ drop i w
+  bare-here h e =
+      let d = drop-cons w i 0 h in
+      let x : getD w i 0 ≡ 48 → ⊥ = λ (z : getD w i 0 ≡ 48). false≢true (sym e ∙ empty-zero (getD w i 0) z) in
+      let y : getD w i 0 ≡ 45 → ⊥ = λ (z : getD w i 0 ≡ 45). false≢true (sym e ∙ empty-minus (getD w i 0) z) in
+      ap bare d ∙ bare-other (getD w i 0) (drop (suc i) w) x y ∙ sym d
+
+  pub bare-next : i + 1 < length w → (eqb (getD w i 0) 48 || eqb (getD w i 0) 45) ≡ true → bare (drop i w) ≡ bare (drop (i + 1) w)
+  bare-next h e =
+      let d = drop-cons w i 0 (omega arith) in
+      let n = drop-cons w (suc i) 0 (omega arith) in
+      rw add-one
+      (ap bare d ∙ ap (λ (l : Bytes). bare (getD w i 0 ∷ l)) n ∙ bare-skip (getD w i 0) (getD w (suc i) 0) (drop (suc (suc i)) w) e ∙ ap bare (sym n))
+
+  pub bare-last : length w ≤ i + 1 → bare (drop i w) ≡ drop i w
+  bare-last h = bare-short (drop i w) (simp length-drop (omega arith))
+
+digits-bare : (w : Bytes) → 1 ≤ length w → length w ≤ 18 → all digit w ≡ true → decimal-in 19 (value 0 w) ≡ bare w
+unfolding all value bare
+digits-bare [] h u e = absurd (omega arith)
+digits-bare (b ∷ []) h u e =
+    let d : digit b ≡ true = and-left (digit b) true e in
+    decimal-one 19 b (digit-low b d) (digit-high b d)
+digits-bare (b ∷ c ∷ ds) h u e =
+    let d : digit b ≡ true = and-left (digit b) (all digit (c ∷ ds)) e in
+    let r : all digit (c ∷ ds) ≡ true = and-right (digit b) (all digit (c ∷ ds)) e in
+    by (eqb b 48) refl (digit-low b d) (digit-high b d) r (digits-bare (c ∷ ds) (omega arith) (omega arith) r)
+  where
+    positive : 48 ≤ b → (b ≡ 48 → ⊥) → 1 ≤ 0 * 10 + (b - 48)
+    positive l z = omega arith
+
+    k : ℕ
+    k = 18 - length ds
+
+    by : (q : Bool) → eqb b 48 ≡ q → 48 ≤ b → b ≤ 57 → all digit (c ∷ ds) ≡ true → decimal-in 19 (value 0 (c ∷ ds)) ≡ bare (c ∷ ds)
+        → decimal-in 19 (value (0 * 10 + (b - 48)) (c ∷ ds)) ≡ bare (b ∷ c ∷ ds)
+    by true x l m r ih =
+        let y : b ≡ 48 = eqb-true b 48 x in
+        let n : 0 * 10 + (b - 48) ≡ 0 = omega arith in
+        ap (λ (v : ℕ). decimal-in 19 (value v (c ∷ ds))) n ∙ ih ∙ sym (bare-skip b c ds (empty-zero b y))
+    by false x l m r ih =
+        let z : b ≡ 48 → ⊥ = eqb-false b 48 x in
+        let j : 19 ≡ k + length (c ∷ ds) = omega arith in
+        ap (λ (i : ℕ). decimal-in i (value (0 * 10 + (b - 48)) (c ∷ ds))) j
+        ∙ decimal-on k (0 * 10 + (b - 48)) (c ∷ ds) (positive l z) r
+        ∙ ap (λ (x : Bytes). x ++ (c ∷ ds)) (decimal-one k b l m)
+        ∙ sym (bare-other b (c ∷ ds) z (λ (y : b ≡ 45). omega arith))
+
+-- 1 to 18 digits
+digits-are : (w : Bytes) → digits w ≡ true → (1 ≤ length w) × (length w ≤ 18) × (all digit w ≡ true)
+unfolding digits
+digits-are w e =
+    let n = length w in
+    let a = and-left (leb 1 n && leb n 18) (all digit w) e in
+    (leb-true 1 n (and-left (leb 1 n) (leb n 18) a), leb-true n 18 (and-right (leb 1 n) (leb n 18) a), and-right (leb 1 n && leb n 18) (all digit w) e)
+
+number-written : (w : Bytes) → digits w ≡ true → bare w ≡ decimal (value 0 w)
+unfolding decimal
+number-written w e = let a = digits-are w e in sym (digits-bare w (a .0) (a .1) (a .2))
+
+-- "`-0` being 0"
+minus-written : (b : ℕ) (ds : Bytes) → b ≡ 45 → digits ds ≡ true → value 0 ds ≡ 0 → bare (b ∷ ds) ≡ decimal 0
+minus-written b [] x e v = absurd (let a = digits-are [] e .0 in omega arith)
+minus-written b (c ∷ ds) x e v = bare-skip b c ds (empty-minus b x) ∙ number-written (c ∷ ds) e ∙ ap decimal v
+
+-- a field that passed its column's rules
+
+module _ (lo hi : ℕ) where
+  unsigned : (w : Bytes) → eqb (getD w 0 0) 45 ≡ false → field-number (number-field lo hi (numberOf w)) ≡ 0 → bare w ≡ decimal (amount (numberOf w))
+  unfolding number-field field-number numberOf
+  unsigned w x z = by (digits w) refl
+    where
+      by : (d : Bool) → digits w ≡ d → bare w ≡ decimal (amount (numberOf w))
+      by true e = rw (x, e) (number-written w e)
+      by false e = absurd (let q : _≡_ {A = ℕ} 12 0 = rw (x, e) at z in omega arith)
+
+  signed : (b : ℕ) (ds : Bytes) → eqb b 45 ≡ true → field-number (number-field lo hi (numberOf (b ∷ ds))) ≡ 0
+      → bare (b ∷ ds) ≡ decimal (amount (numberOf (b ∷ ds)))
+  unfolding number-field field-number numberOf
+  signed b ds x z = by (digits ds) (eqb (value 0 ds) 0) refl refl
+    where
+      by : (d v : Bool) → digits ds ≡ d → eqb (value 0 ds) 0 ≡ v → bare (b ∷ ds) ≡ decimal (amount (numberOf (b ∷ ds)))
+      by true true e y = rw (x, e, y) (minus-written b ds (eqb-true b 45 x) e (eqb-true (value 0 ds) 0 y))
+      by true false e y = absurd (let q : _≡_ {A = ℕ} 13 0 = rw (x, e, y) at z in omega arith)
+      by false v e y = absurd (let q : _≡_ {A = ℕ} 12 0 = rw (x, e) at z in omega arith)
+
+  number-bare : (w : Bytes) → field-number (number-field lo hi (numberOf w)) ≡ 0 → bare w ≡ decimal (amount (numberOf w))
+  number-bare [] z = unsigned [] refl z
+  number-bare (b ∷ ds) z = by (eqb b 45) refl
+    where
+      by : (q : Bool) → eqb b 45 ≡ q → bare (b ∷ ds) ≡ decimal (amount (numberOf (b ∷ ds)))
+      by true x = signed b ds x z
+      by false x = unsigned (b ∷ ds) x z
+
+module _ (c : Column) (w : Bytes) (ok : field-number (fieldOf c w) ≡ 0) where
+  amount-bare : c .text ≡ false → bare w ≡ decimal (amount (numberOf w))
+  unfolding fieldOf
+  amount-bare x =
+      let z : field-number (number-field (c .lo) (c .hi) (numberOf w)) ≡ 0 = rw x at ok in
+      number-bare (c .lo) (c .hi) w z
+
+  text-bare : c .text ≡ true → bare w ≡ quoted (own-bytes (record-text w))
+  unfolding quoted
+  text-bare x =
+      ap bare (closed-is (closed-of c w x ok))
+      ∙ bare-other 34 (doubled (own-bytes (record-text w)) ++ (34 ∷ [])) (λ (e : 34 ≡ 48). omega arith) (λ (e : 34 ≡ 45). omega arith)
+
+  pub field-bare : (o : Owner) → bare w ≡ datum-text (datumOf o c w)
+  unfolding datum-text datumOf
+  field-bare o = by (c .text) refl
+    where
+      by : (q : Bool) → c .text ≡ q → bare w ≡ datum-text (datumOf o c w)
+      by true x = text-bare x ∙ rw x
+      by false x = amount-bare x ∙ rw x
+
+pub bare-length : (t k : ℕ) (w : Bytes) → field-number (fieldOf (column-at t k) w) ≡ 0 → length (bare w) ≤ 82
+bare-length t k w ok = by (column-at t k .text) refl
+  where
+    by : (q : Bool) → column-at t k .text ≡ q → length (bare w) ≤ 82
+    by true x =
+        let n = text-narrow t k x in
+        let h = closed-of (column-at t k) w x ok in
+        rw (text-bare (column-at t k) w ok x ∙ sym (closed-is h)) (omega (arith, closed-short h))
+    by false x = rw (amount-bare (column-at t k) w ok x) (omega (arith, decimal-length (amount (numberOf w))))
+
+-- what stands without a minus and a leading zero is bare
+
 lead-none : (b c : ℕ) (ds : Bytes) → stands (b ∷ c ∷ ds) ≡ true → b ≡ 48 → ⊥
 unfolding stands
 lead-none b c ds e q =
@@ -73,84 +225,14 @@ lead-none b c ds e q =
     let y : eqb (suc (suc (length ds))) 1 ≡ false = ne-eqb (suc (suc (length ds))) 1 (λ (z : suc (suc (length ds)) ≡ 1). omega arith) in
     false≢true (rw (x, eq-eqb b 48 q, y) at e)
 
-digits-written : (w : Bytes) → digits w ≡ true → stands w ≡ true → decimal (value 0 w) ≡ w
-unfolding decimal digits all value
-digits-written [] e s = absurd (false≢true e)
-digits-written (b ∷ []) e s =
-    let a = and-right (leb 1 1 && leb 1 18) (digit b && true) e in
-    let d : digit b ≡ true = and-left (digit b) true a in
-    decimal-one 19 b (digit-low b d) (digit-high b d)
-digits-written (b ∷ c ∷ ds) e s =
-    let n = length (b ∷ c ∷ ds) in
-    let a = and-right (leb 1 n && leb n 18) (digit b && all digit (c ∷ ds)) e in
-    let m : n ≤ 18 = leb-true n 18 (and-right (leb 1 n) (leb n 18) (and-left (leb 1 n && leb n 18) (digit b && all digit (c ∷ ds)) e)) in
-    let d : digit b ≡ true = and-left (digit b) (all digit (c ∷ ds)) a in
-    let z : b ≡ 48 → ⊥ = lead-none b c ds s in
-    let l : 48 ≤ b = digit-low b d in
-    let u : b ≤ 57 = digit-high b d in
-    let k = 18 - length ds in
-    let j : 19 ≡ k + length (c ∷ ds) = omega arith in
-    let p : 1 ≤ 0 * 10 + (b - 48) = positive b l z in
-    ap (λ (i : ℕ). decimal-in i (value (0 * 10 + (b - 48)) (c ∷ ds))) j
-    ∙ decimal-on k (0 * 10 + (b - 48)) (c ∷ ds) p (and-right (digit b) (all digit (c ∷ ds)) a)
-    ∙ ap (λ (x : Bytes). x ++ (c ∷ ds)) (decimal-one k b l u)
-  where
-    positive : (b : ℕ) → 48 ≤ b → (b ≡ 48 → ⊥) → 1 ≤ 0 * 10 + (b - 48)
-    positive b l z = omega arith
-
--- a field that passed its column's rules
-
 minus-none : (w : Bytes) → stands w ≡ true → getD w 0 0 ≡ 45 → ⊥
 unfolding stands
 minus-none w e q = false≢true (rw (eq-eqb (getD w 0 0) 45 q) at e)
 
-module _ (c : Column) (w : Bytes) (ok : field-number (fieldOf c w) ≡ 0) where
-  number-plain : c .text ≡ false → stands w ≡ true → (digits w ≡ true) × (amount (numberOf w) ≡ value 0 w)
-  unfolding fieldOf number-field field-number numberOf
-  number-plain x s = by (digits w) refl
-    where
-      n : eqb (getD w 0 0) 45 ≡ false
-      n = ne-eqb (getD w 0 0) 45 (minus-none w s)
-
-      by : (q : Bool) → digits w ≡ q → (digits w ≡ true) × (amount (numberOf w) ≡ value 0 w)
-      by true e = (e, rw (n, e))
-      by false e = absurd (let y : _≡_ {A = ℕ} 12 0 = rw (x, n, e) at ok in omega arith)
-
-  text-stands : c .text ≡ true → stands w ≡ true
-  unfolding stands quoted
-  text-stands x = ap stands (closed-is (closed-of c w x ok))
-
-  -- what does not stand so is a number
-  pub number-other : stands w ≡ false → c .text ≡ false
-  number-other s = by (c .text) refl
-    where
-      by : (q : Bool) → c .text ≡ q → c .text ≡ false
-      by true x = absurd (false≢true (sym s ∙ text-stands x))
-      by false x = x
-
-  pub field-standing : (o : Owner) → stands w ≡ true → w ≡ datum-text (datumOf o c w)
-  unfolding datum-text datumOf
-  field-standing o s = by (c .text) refl
-    where
-      by : (q : Bool) → c .text ≡ q → w ≡ datum-text (datumOf o c w)
-      by true x = closed-is (closed-of c w x ok) ∙ rw x
-      by false x =
-          let d = number-plain x s in
-          sym (digits-written w (d .0) s) ∙ ap decimal (sym (d .1)) ∙ rw x
-
-pub field-short : (t k : ℕ) (w : Bytes) → field-number (fieldOf (column-at t k) w) ≡ 0 → stands w ≡ true → length w ≤ 82
-unfolding digits
-field-short t k w ok s = by (column-at t k .text) refl
-  where
-    by : (q : Bool) → column-at t k .text ≡ q → length w ≤ 82
-    by true x =
-        let n = text-narrow t k x in
-        let h = closed-short (closed-of (column-at t k) w x ok) in
-        omega arith
-    by false x =
-        let d = number-plain (column-at t k) w ok x s .0 in
-        let h : length w ≤ 18 = leb-true (length w) 18 (and-right (leb 1 (length w)) (leb (length w) 18) (and-left (leb 1 (length w) && leb (length w) 18) (all digit w) d)) in
-        omega arith
+stands-bare : (w : Bytes) → stands w ≡ true → bare w ≡ w
+stands-bare [] s = bare-short [] (omega arith)
+stands-bare (b ∷ []) s = bare-short (b ∷ []) (omega arith)
+stands-bare (b ∷ c ∷ ds) s = bare-other b (c ∷ ds) (lead-none b c ds s) (minus-none (b ∷ c ∷ ds) s)
 
 -- a value that is neither filled nor stripped
 module _ (strip : Bool) (f m i : ℕ) (t : Bytes) (c : Column) (w : Bytes) (n : f ≡ i → ⊥) where
@@ -172,9 +254,13 @@ module _ (strip : Bool) (f m i : ℕ) (t : Bytes) (c : Column) (w : Bytes) (n : 
       by true false false z = refl
       by false d x z = refl
 
-  pub field-kept : field-number (fieldOf c w) ≡ 0 → (b : Bool) → b ≡ (strip && eqb m i) → b ≡ false → stands w ≡ true
-      → w ≡ datum-text (datum-by strip f t m i c w)
-  field-kept ok b e y s = field-standing c w ok (owner-of m i) s ∙ ap datum-text (datum-kept b e y)
+  pub field-kept : field-number (fieldOf c w) ≡ 0 → (b : Bool) → b ≡ (strip && eqb m i) → b ≡ false
+      → bare w ≡ datum-text (datum-by strip f t m i c w)
+  field-kept ok b e y = field-bare c w ok (owner-of m i) ∙ ap datum-text (datum-kept b e y)
+
+  -- a number is not stripped
+  pub number-kept : field-number (fieldOf c w) ≡ 0 → c .text ≡ false → bare w ≡ datum-text (datum-by strip f t m i c w)
+  number-kept ok x = amount-bare c w ok x ∙ field-amount strip f m i t c w n x (amount (numberOf w)) refl
 
 -- nothing is marked where no mark waits and no field is filled
 
@@ -294,7 +380,7 @@ module _ (strip : Bool) (x : Bytes) where
   value-kept : (i : ℕ) (c : Column) (w : Bytes) → field-number (fieldOf c w) ≡ 0 → stands w ≡ true → w ≡ datum-text (datum-by strip 0 x 0 (suc i) c w)
   value-kept i c w ok s =
       let n : 0 ≡ suc i → ⊥ = λ (e : 0 ≡ suc i). omega arith in
-      field-kept strip 0 0 (suc i) x c w n ok false (none strip (ne-eqb 0 (suc i) n)) refl s
+      sym (stands-bare w s) ∙ field-kept strip 0 0 (suc i) x c w n ok false (none strip (ne-eqb 0 (suc i) n)) refl
     where
       none : (b : Bool) → eqb 0 (suc i) ≡ false → false ≡ (b && eqb 0 (suc i))
       none true e = sym e

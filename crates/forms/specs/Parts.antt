@@ -35,6 +35,12 @@ fields-form strip f t m i (c ∷ cs) [] = []
 fields-form strip f t m i (c ∷ cs) (w ∷ ws) =
     (bytes "; " ++ datum-text (datum-by strip f t m i (c .column) w)) ++ fields-form strip f t m (suc i) cs ws
 
+-- a number without its minus and its leading zeros, and a text whole
+unfoldable pub bare : Bytes → Bytes
+bare [] = []
+bare (b ∷ []) = b ∷ []
+bare (b ∷ c ∷ ds) = pick (eqb b 48 || eqb b 45) (bare (c ∷ ds)) (b ∷ c ∷ ds)
+
 -- does a field that passed its column's rules stand as it is written? A text does, and a number without a minus or a leading zero
 unfoldable pub stands : Bytes → Bool
 stands w = pick (eqb (getD w 0 0) 45) false (pick (eqb (getD w 0 0) 48) (eqb (length w) 1) true)

@@ -14,9 +14,8 @@ ghost use Rattle.forms.specs.Changed.{changed-values};
 ghost use Rattle.forms.specs.Parts.{marked-by, mark-by, marks-form, datum-by, fields-form, Whole};
 use crate::change::Change;
 use crate::standing::all_written;
-use crate::standing::is_written;
+use crate::standing::skip_zeros;
 use output::put_bytes;
-use output::put_decimal;
 use output::put_line_end;
 use output::put_mark;
 use output::put_quoted;
@@ -93,7 +92,7 @@ fn is_stripped(strip: bool, m: u64, k: usize) -> bool
     false
 }
 
-// "Numbers without leading zeros, texts quoted": what is not changed is copied where it stands so.
+// "Numbers without leading zeros, texts quoted": a text that is not changed is copied as it stands, and so are a number's digits.
 fn put_field(
     out: &mut [u8],
     at: usize,
@@ -120,12 +119,9 @@ fn put_field(
         if column.text {
             return put_bytes(out, at, b"\"\"");
         }
-        return put_decimal(out, at, fields::amount_of(f));
+        return put_bytes(out, at, skip_zeros(f));
     }
-    if is_written(f) {
-        return put_bytes(out, at, f);
-    }
-    put_decimal(out, at, fields::amount_of(f))
+    put_bytes(out, at, skip_zeros(f))
 }
 
 // "One space after each separating `;`": w is what stands after the record's first `;`.

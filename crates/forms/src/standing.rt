@@ -1,10 +1,21 @@
 // What stands in a record as it is written, so that it can be copied. A record's fields passed the rules of their columns.
 ghost use mathlib.Core.Path.{_≡_};
-ghost use mathlib.Core.Bool.{true};
-ghost use Rattle.forms.specs.Parts.{stands, Spaced, Whole};
+ghost use mathlib.Core.Bool.{true, _||_};
+ghost use lib.Dec.{eqb};
+ghost use Rattle.forms.specs.Parts.{bare, stands, Spaced, Whole};
+
+// A byte that is not written at the front of a number: "`-0` being 0", "without leading zeros".
+fn is_left_out(b: u8) -> bool
+    ensures { λ r. ⌜ r ≡ (eqb b 48 || eqb b 45) ⌝ }
+{
+    if b == 48 {
+        return true;
+    }
+    b == 45
+}
 
 // "Numbers without leading zeros": one with a minus is a zero.
-pub fn is_written(f: &[u8]) -> bool
+fn is_written(f: &[u8]) -> bool
     ensures { λ r. ⌜ r ≡ stands (now (f .entry)) ⌝ }
 {
     if f.len() == 0 {
@@ -18,6 +29,20 @@ pub fn is_written(f: &[u8]) -> bool
         return true;
     }
     f.len() == 1
+}
+
+// A field as it is written: of a number what follows its minus and its leading zeros, and a text whole.
+pub fn skip_zeros(f: &[u8]) -> &[u8]
+    ensures { λ r. ⌜ now r ≡ bare (now (f .entry)) ⌝ }
+{
+    let mut i = 0;
+    while i + 1 < f.len() {
+        if !is_left_out(f[i]) {
+            return &f[i..];
+        }
+        i += 1;
+    }
+    &f[i..]
 }
 
 // What stands between two `;`: "One space after each separating `;`, none elsewhere outside texts".

@@ -1,11 +1,11 @@
 use borrow.Author.Needs.{needs}
 use mathlib.Core.Path.{_≡_, ap, sym, _∙_}
 use native.Mathlib.Omega.{arith}
-use Rattle.page.specs.Tables.{column-at}
+use lib.ListN.{length}
 use Rattle.page.specs.declared.Column.{Column}
 use Rattle.output.proofs.PutLaws.{put-as}
-use Rattle.forms.proofs.FieldLaws.{field-filled, field-amount, field-stripped}
-use Rattle.forms.proofs.StandLaws.{field-kept, field-short, number-other}
+use Rattle.forms.proofs.FieldLaws.{field-filled, field-stripped}
+use Rattle.forms.proofs.StandLaws.{field-kept, number-kept, bare-length}
 use Rattle.forms.proofs.record.put_field.Statement.{statement}
 use Rattle.forms.proofs.record.put_field.Tie as tie
 
@@ -42,11 +42,15 @@ returns-2 c =
     let x = sym (ap (λ (y : Column). y .text) (c .before .before .before .before .before .before .find-column .ensures)) ∙ c .before .before .before .before .before .if3 .taken in
     put-as (field-stripped _ _ _ _ _ _ _ (c .before .before .before .before .before .before .before .before .before .if1 .left) x _ (c .before .before .before .before .before .before .before .before .is-stripped .ensures) (c .before .before .before .before .before .before .before .if2 .taken)) (c .before .before .put-bytes .ensures)
 
-amount-of-requires : tie.Need-amount-of-requires
-amount-of-requires c κs = search needs
+skip-zeros-requires : tie.Need-skip-zeros-requires
+skip-zeros-requires c κs = search needs
 
-put-decimal-requires : tie.Need-put-decimal-requires
-put-decimal-requires c κs = search needs
+put-bytes-requires-2 : tie.Need-put-bytes-requires-2
+put-bytes-requires-2 c κs =
+    let a = c .before .before .before .before .before .before .before .before .before .before .before .args in
+    let q = c .before .before .before .before .before .before .before .before .before .before .before .pre in
+    let n = bare-length (a .t) (a .k) (a .f .now) (q .3) in
+    omega (arith, ap length (c .skip-zeros .ensures), q .1)
 
 same-length-3 : tie.Need-same-length-3
 same-length-3 c = search needs
@@ -54,39 +58,24 @@ same-length-3 c = search needs
 returns-3 : tie.Need-returns-3
 returns-3 c =
     let x = sym (ap (λ (y : Column). y .text) (c .before .before .before .before .before .before .find-column .ensures)) ∙ c .before .before .before .before .before .if3 .left in
-    put-as (field-amount _ _ _ _ _ _ _ (c .before .before .before .before .before .before .before .before .before .if1 .left) x _ (c .before .before .before .amount-of .ensures)) (c .before .before .put-decimal .ensures)
+    put-as (c .before .before .before .skip-zeros .ensures ∙ number-kept _ _ _ _ _ _ _ (c .before .before .before .before .before .before .before .before .before .if1 .left) (c .before .before .before .before .before .before .before .before .before .before .before .before .before .before .pre .3) x) (c .before .before .put-bytes2 .ensures)
 
-is-written-requires : tie.Need-is-written-requires
-is-written-requires c κs = search needs
+skip-zeros-requires-2 : tie.Need-skip-zeros-requires-2
+skip-zeros-requires-2 c κs = search needs
 
-put-bytes-requires-2 : tie.Need-put-bytes-requires-2
-put-bytes-requires-2 c κs =
-    let a = c .before .before .before .before .before .before .before .before .before .before .args in
-    let q = c .before .before .before .before .before .before .before .before .before .before .pre in
-    let n = field-short (a .t) (a .k) (a .f .now) (q .3) (sym (c .before .before .is-written .ensures) ∙ c .before .if4 .taken) in
-    omega (arith, q .1)
+put-bytes-requires-3 : tie.Need-put-bytes-requires-3
+put-bytes-requires-3 c κs =
+    let a = c .before .before .before .before .before .before .before .before .before .args in
+    let q = c .before .before .before .before .before .before .before .before .before .pre in
+    let n = bare-length (a .t) (a .k) (a .f .now) (q .3) in
+    omega (arith, ap length (c .skip-zeros2 .ensures), q .1)
 
 same-length-4 : tie.Need-same-length-4
 same-length-4 c = search needs
 
 returns-4 : tie.Need-returns-4
 returns-4 c =
-    put-as (field-kept _ _ _ _ _ _ _ (c .before .before .before .before .before .before .before .before .if1 .left) (c .before .before .before .before .before .before .before .before .before .before .before .before .before .pre .3) _ (c .before .before .before .before .before .before .before .is-stripped .ensures) (c .before .before .before .before .before .before .if2 .left) (sym (c .before .before .before .before .before .is-written .ensures) ∙ c .before .before .before .before .if4 .taken)) (c .before .before .put-bytes2 .ensures)
-
-amount-of-requires-2 : tie.Need-amount-of-requires-2
-amount-of-requires-2 c κs = search needs
-
-put-decimal-requires-2 : tie.Need-put-decimal-requires-2
-put-decimal-requires-2 c κs = search needs
-
-same-length-5 : tie.Need-same-length-5
-same-length-5 c = search needs
-
-returns-5 : tie.Need-returns-5
-returns-5 c =
-    let a = c .before .before .before .before .before .before .before .before .before .before .before .before .before .before .args in
-    let x = number-other (column-at (a .t) (a .k)) (a .f .now) (c .before .before .before .before .before .before .before .before .before .before .before .before .before .before .pre .3) (sym (c .before .before .before .before .before .before .is-written .ensures) ∙ c .before .before .before .before .before .if4 .left) in
-    put-as (field-amount _ _ _ _ _ _ _ (c .before .before .before .before .before .before .before .before .before .if1 .left) x _ (c .before .before .before .amount-of2 .ensures)) (c .before .before .put-decimal2 .ensures)
+    put-as (c .before .before .before .skip-zeros2 .ensures ∙ field-kept _ _ _ _ _ _ _ (c .before .before .before .before .before .before .before .if1 .left) (c .before .before .before .before .before .before .before .before .before .before .before .before .pre .3) _ (c .before .before .before .before .before .before .is-stripped .ensures) (c .before .before .before .before .before .if2 .left)) (c .before .before .put-bytes3 .ensures)
 
 pub put-field-spec : {M : Type 1} → statement M
 put-field-spec =
@@ -102,15 +91,11 @@ put-field-spec =
     put-bytes-requires
     same-length-2
     returns-2
-    amount-of-requires
-    put-decimal-requires
+    skip-zeros-requires
+    put-bytes-requires-2
     same-length-3
     returns-3
-    is-written-requires
-    put-bytes-requires-2
+    skip-zeros-requires-2
+    put-bytes-requires-3
     same-length-4
-    returns-4
-    amount-of-requires-2
-    put-decimal-requires-2
-    same-length-5
-    returns-5)
+    returns-4)
