@@ -1,7 +1,7 @@
 -- Bits that are set stay set: what a table of bits says of the hashes put there. Assumes nothing.
 use Prim.Native.Nat.{ℕ, _+_, _*_, _/_, _%_, _<_, _≤_, min, max}
 use mathlib.Core.Path.{_≡_, refl, ap, sym, _∙_}
-use mathlib.Core.Bool.{Bool, true, false}
+use mathlib.Core.Bool.{Bool, true, false, false≢true}
 use mathlib.Core.List.{List}
 use mathlib.Core.Logic.{_⊎_, ⊎-elim}
 use native.Mathlib.Omega.{arith}
@@ -12,7 +12,7 @@ use lib.Seq.{getD-set-same, getD-set-other}
 use lib.Dec.{eqb}
 use lib.Arith.{bin-ind}
 use lib.Bits.{bitAnd, bitOr, and-step, or-step, and-zero-r, and-self, or-comm}
-use Rattle.files.specs.Bits.{In, Touched, Has, Added, lane-of, bits-of}
+use Rattle.files.specs.Bits.{In, Touched, Has, Added, Probed, lane-of}
 
 -- m lies in x, so it lies in x with more bits
 and-more : (m x y : ℕ) → bitAnd x m ≡ m → bitAnd (bitOr x y) m ≡ m
@@ -59,15 +59,29 @@ lane-lt h n p =
     let q : x * n ≤ 255 * n = mul-le-mul-right n b in
     div-lt-iff-lt-mul (let z : 0 < 256 = omega arith in z) .1 (omega arith)
 
-pub added :
-    (t₀ t₁ t : List ℕ) (h m : ℕ) (a b r : Bool) → m ≡ bits-of h → Touched t₀ (h % 16384) m a t₁ → Touched t₁ (h / 16384 % 16384) m b t
-    → (r ≡ false → (a ≡ false) ⊎ (b ≡ false)) → Added t₀ h r t
-unfolding Has
-added t₀ t₁ t h m a b r e p q f =
-    record {
-      keeps = λ g u. (q .keeps _ _ (p .keeps _ _ (u .0)), q .keeps _ _ (p .keeps _ _ (u .1)));
-      holds = rw (← e) (q .keeps _ _ (p .holds), q .holds);
-      fresh = λ n u.
-          let v = rw (← e) at u in
-          ⊎-elim (λ x. p .fresh x (v .0)) (λ y. q .fresh y (p .keeps _ _ (v .1))) (f n);
-    }
+module _ (n h m : ℕ) where
+  pub added :
+      (t₀ t₁ t : List ℕ) (a b r : Bool) → Touched t₀ (h % n) m a t₁ → Touched t₁ (h / 16384 % n) m b t → (r ≡ false → (a ≡ false) ⊎ (b ≡ false))
+      → Added t₀ n h m r t
+  unfolding Has
+  added t₀ t₁ t a b r p q f =
+      record {
+        keeps = λ g k u. (q .keeps _ _ (p .keeps _ _ (u .0)), q .keeps _ _ (p .keeps _ _ (u .1)));
+        holds = (q .keeps _ _ (p .holds), q .holds);
+        fresh = λ x u. ⊎-elim (λ y. p .fresh y (u .0)) (λ y. q .fresh y (p .keeps _ _ (u .1))) (f x);
+      }
+
+  pub probed-first : (t : List ℕ) → (bitAnd (getD t (h % n) 0) m ≡ m → ⊥) → Probed t n h m false
+  unfolding Has In
+  probed-first t d = record { holds = λ e. absurd (false≢true e); absent = λ e u. d (u .0) }
+
+  pub probed : (t : List ℕ) → bitAnd (getD t (h % n) 0) m ≡ m → Probed t n h m (eqb (bitAnd (getD t (h / 16384 % n) 0) m) m)
+  unfolding Has In
+  probed t d = record { holds = λ e. (d, eqb-true _ _ e); absent = λ e u. eqb-false _ _ e (u .1) }
+
+  -- the bits, by another name
+  pub added-as : (k : ℕ) (t₀ t : List ℕ) (r : Bool) → m ≡ k → Added t₀ n h m r t → Added t₀ n h k r t
+  added-as k t₀ t r e a = rw e at a
+
+  pub probed-as : (k : ℕ) (t : List ℕ) (r : Bool) → m ≡ k → Probed t n h m r → Probed t n h k r
+  probed-as k t r e a = rw e at a

@@ -1,7 +1,7 @@
--- A table of bits that hashes are put into. Which bits a hash has matters to no proof.
+-- Tables of bits that hashes are put into. Which bits a hash has matters to no proof.
 use Prim.Native.Nat.{ℕ, _+_, _*_, _/_, _%_, _^_}
 use mathlib.Core.Path.{_≡_}
-use mathlib.Core.Bool.{Bool, false}
+use mathlib.Core.Bool.{Bool, true, false}
 use mathlib.Core.List.{List}
 use lib.ListN.{getD}
 use lib.Bits.{bitAnd, bitOr}
@@ -9,9 +9,12 @@ use lib.Bits.{bitAnd, bitOr}
 abbrev bit : ℕ → ℕ
 bit p = 1 * 2 ^ p % 18446744073709551616
 
--- four bits of a word
-unfoldable pub bits-of : ℕ → ℕ
-bits-of h = bitOr (bitOr (bitOr (bit (h / 268435456 % 64)) (bit (h / 17179869184 % 64))) (bit (h / 1099511627776 % 64))) (bit (h / 70368744177664 % 64))
+-- two bits of a word, and four
+unfoldable pub two-of : ℕ → ℕ
+two-of h = bitOr (bit (h / 268435456 % 64)) (bit (h / 17179869184 % 64))
+
+unfoldable pub four-of : ℕ → ℕ
+four-of h = bitOr (bitOr (two-of h) (bit (h / 1099511627776 % 64))) (bit (h / 70368744177664 % 64))
 
 -- in which of n rounds a hash is looked at
 unfoldable pub lane-of : ℕ → ℕ → ℕ
@@ -27,12 +30,17 @@ pub record Touched (t₀ : List ℕ) (i m : ℕ) (r : Bool) (t : List ℕ) : Typ
   pub holds : In t i m
   pub fresh : r ≡ false → In t₀ i m → ⊥
 
--- all bits of a hash are set
-unfoldable pub Has : List ℕ → ℕ → Type 0
-Has t h = In t (h % 16384) (bits-of h) × In t (h / 16384 % 16384) (bits-of h)
+-- the bits m are set in the two words of a hash, of n words
+unfoldable pub Has : List ℕ → ℕ → ℕ → ℕ → Type 0
+Has t n h m = In t (h % n) m × In t (h / 16384 % n) m
 
--- the bits of a hash were set; r: they were before
-pub record Added (t₀ : List ℕ) (h : ℕ) (r : Bool) (t : List ℕ) : Type 0 where
-  pub keeps : (g : ℕ) → Has t₀ g → Has t g
-  pub holds : Has t h
-  pub fresh : r ≡ false → Has t₀ h → ⊥
+-- they were set; r: they were before
+pub record Added (t₀ : List ℕ) (n h m : ℕ) (r : Bool) (t : List ℕ) : Type 0 where
+  pub keeps : (g k : ℕ) → Has t₀ n g k → Has t n g k
+  pub holds : Has t n h m
+  pub fresh : r ≡ false → Has t₀ n h m → ⊥
+
+-- r: they are set
+pub record Probed (t : List ℕ) (n h m : ℕ) (r : Bool) : Type 0 where
+  pub holds : r ≡ true → Has t n h m
+  pub absent : r ≡ false → Has t n h m → ⊥

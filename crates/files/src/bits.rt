@@ -1,12 +1,10 @@
-// A table of bits that hashes are put into: a hash whose bits are not all set was never put there.
+// Tables of bits that hashes are put into: a hash whose bits are not all set was never put there.
 ghost use mathlib.Core.Path.{_≡_};
-ghost use Prim.Native.Nat.{_<_, _^_};
+ghost use Prim.Native.Nat.{_<_, _≤_, _^_};
 ghost use lib.ListN.{length};
-ghost use Rattle.files.specs.Bits.{bits-of, lane-of, Touched, Added};
+ghost use Rattle.files.specs.Bits.{two-of, four-of, lane-of, Touched, Added, Probed};
 
-pub const WORDS: usize = 16384;
-
-// In which of n rounds a hash is looked at: each round has a table of its own, that it fills sparsely.
+// In which of n rounds a hash is looked at.
 pub fn find_lane(h: u64, n: u64) -> u64
     requires { ⌜ n < 2 ^ 32 ⌝ }
     ensures { λ r. ⌜ r ≡ lane-of h n ⌝ }
@@ -14,13 +12,16 @@ pub fn find_lane(h: u64, n: u64) -> u64
     h / 1125899906842624 % 256 * n / 256
 }
 
-fn choose_bits(h: u64) -> u64
-    ensures { λ r. ⌜ r ≡ bits-of h ⌝ }
+fn choose_two(h: u64) -> u64
+    ensures { λ r. ⌜ r ≡ two-of h ⌝ }
 {
-    1 << h / 268435456 % 64
-        | 1 << h / 17179869184 % 64
-        | 1 << h / 1099511627776 % 64
-        | 1 << h / 70368744177664 % 64
+    1 << h / 268435456 % 64 | 1 << h / 17179869184 % 64
+}
+
+fn choose_four(h: u64) -> u64
+    ensures { λ r. ⌜ r ≡ four-of h ⌝ }
+{
+    choose_two(h) | 1 << h / 1099511627776 % 64 | 1 << h / 70368744177664 % 64
 }
 
 // Sets the bits m of word i. Were they all set?
@@ -33,16 +34,46 @@ fn set_bits(t: &mut [u64], i: usize, m: u64) -> bool
     old & m == m
 }
 
-// Sets the bits of a hash, in two words. Were they all set?
-pub fn put_hash(t: &mut [u64], h: u64) -> bool
-    requires { ⌜ length (now t) ≡ 16384 ⌝ }
-    ensures { λ r. ⌜ Added (now (t .entry)) h r (now (t .exit)) ⌝ }
+// Sets the bits m in the two words of a hash, of n words. Were they all set?
+fn put_bits(t: &mut [u64], n: u64, h: u64, m: u64) -> bool
+    requires { ⌜ (0 < n) × (n ≤ length (now t)) ⌝ }
+    ensures { λ r. ⌜ Added (now (t .entry)) n h m r (now (t .exit)) ⌝ }
 {
-    let m = choose_bits(h);
-    let a = set_bits(t, (h % 16384) as usize, m);
-    let b = set_bits(t, (h / 16384 % 16384) as usize, m);
+    let a = set_bits(t, (h % n) as usize, m);
+    let b = set_bits(t, (h / 16384 % n) as usize, m);
     if a {
         return b;
     }
     false
+}
+
+// For a table that is to be crowded: few bits a hash.
+pub fn put_two(t: &mut [u64], n: u64, h: u64) -> bool
+    requires { ⌜ (0 < n) × (n ≤ length (now t)) ⌝ }
+    ensures { λ r. ⌜ Added (now (t .entry)) n h (two-of h) r (now (t .exit)) ⌝ }
+{
+    let m = choose_two(h);
+    put_bits(t, n, h, m)
+}
+
+// For a table that stays sparse.
+pub fn put_four(t: &mut [u64], n: u64, h: u64) -> bool
+    requires { ⌜ (0 < n) × (n ≤ length (now t)) ⌝ }
+    ensures { λ r. ⌜ Added (now (t .entry)) n h (four-of h) r (now (t .exit)) ⌝ }
+{
+    let m = choose_four(h);
+    put_bits(t, n, h, m)
+}
+
+pub fn has_four(t: &[u64], n: u64, h: u64) -> bool
+    requires { ⌜ (0 < n) × (n ≤ length (now t)) ⌝ }
+    ensures { λ r. ⌜ Probed (now (t .entry)) n h (four-of h) r ⌝ }
+{
+    let m = choose_four(h);
+    let a = t[(h % n) as usize] & m;
+    if a != m {
+        return false;
+    }
+    let b = t[(h / 16384 % n) as usize] & m;
+    b == m
 }

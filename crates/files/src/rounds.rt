@@ -2,12 +2,14 @@
 ghost use mathlib.Core.Path.{_≡_};
 ghost use mathlib.Core.List.{[]};
 ghost use Prim.Native.Nat.{_<_, _^_};
+ghost use lib.ListN.{length};
 ghost use Rattle.page.specs.Lines.{lines};
 ghost use Rattle.files.specs.Scan.{again, first-line};
-ghost use Rattle.files.specs.Rounds.{hash-of, Round};
-use crate::bits::WORDS;
+ghost use Rattle.files.specs.Rounds.{hash-of, Round, Doubted, Settled};
 use crate::bits::find_lane;
-use crate::bits::put_hash;
+use crate::bits::has_four;
+use crate::bits::put_four;
+use crate::bits::put_two;
 use crate::scan::is_again;
 use crate::scan::is_record;
 use lines::Cursor;
@@ -19,13 +21,47 @@ fn hash_line(l: &[u8], choice: u64) -> u64
     keys::hash_key(keys::read_chosen(lines::rest_of(c), choice))
 }
 
-// The first line before `last`, of those in round r of n, whose key stands before it; or `last`. A record whose bits were not all set
-// is new; only the others are searched for.
-fn sift_round(w: &[u8], choice: u64, r: u64, n: u64, last: usize) -> usize
-    requires { ⌜ n < 2 ^ 32 ⌝ }
-    ensures { λ e. ⌜ Round choice (lines (now (w .entry))) r n last e ⌝ }
+// One pass over the records of round r of n before line `last`: each whose bits were not all set is new, the others are put among the
+// doubtful ones.
+fn mark_doubts(
+    w: &[u8],
+    choice: u64,
+    r: u64,
+    n: u64,
+    last: usize,
+    t: &mut [u64],
+    doubts: &mut [u64],
+)
+    requires { ⌜ (n < 2 ^ 32) × (length (now t) ≡ 20480) × (length (now doubts) ≡ 4096) ⌝ }
+    ensures { λ _. ⌜ Doubted choice (lines (now (w .entry))) r n last (now (doubts .exit)) ⌝ }
 {
-    let mut t = [0; WORDS];
+    let mut at: usize = 0;
+    let mut i: usize = 0;
+    while at < w.len() {
+        if i == last {
+            return;
+        }
+        let here = at;
+        let l = Cursor { at: here }.line(w);
+        let e = l.span.to;
+        at = e;
+        i += 1;
+        let h = hash_line(&w[here..e], choice);
+        if find_lane(h, n) == r {
+            if is_record(&w[here..e]) {
+                if put_two(t, 20480, h) {
+                    put_four(doubts, 4096, h);
+                }
+            }
+        }
+    }
+}
+
+// One more pass, over the doubtful records alone: they leave most bits clear, and only those whose bits were all set are searched for.
+fn settle_doubts(w: &[u8], choice: u64, last: usize, doubts: &[u64], t: &mut [u64]) -> usize
+    requires { ⌜ (length (now doubts) ≡ 4096) × (length (now t) ≡ 20480) ⌝ }
+    ensures { λ e. ⌜ Settled choice (lines (now (w .entry))) (now (doubts .entry)) last e ⌝ }
+{
     let mut at: usize = 0;
     let mut i: usize = 0;
     while at < w.len() {
@@ -39,9 +75,9 @@ fn sift_round(w: &[u8], choice: u64, r: u64, n: u64, last: usize) -> usize
         at = e;
         i += 1;
         let h = hash_line(&w[here..e], choice);
-        if find_lane(h, n) == r {
+        if has_four(doubts, 4096, h) {
             if is_record(&w[here..e]) {
-                if put_hash(&mut t, h) {
+                if put_four(t, 20480, h) {
                     if is_again(w, here, e, choice) {
                         return k;
                     }
@@ -52,12 +88,43 @@ fn sift_round(w: &[u8], choice: u64, r: u64, n: u64, last: usize) -> usize
     last
 }
 
-// About 35,000 records a round: so few leave most bits clear.
-fn count_rounds(size: usize) -> u64
+fn wipe(t: &mut [u64]) {
+    let mut i: usize = 0;
+    while i < t.len() {
+        t[i] = 0;
+        i += 1;
+    }
+}
+
+// The first line before `last`, of those in round r of n, whose key stands before it; or `last`.
+fn sift_round(w: &[u8], choice: u64, r: u64, n: u64, last: usize) -> usize
+    requires { ⌜ n < 2 ^ 32 ⌝ }
+    ensures { λ e. ⌜ Round choice (lines (now (w .entry))) r n last e ⌝ }
+{
+    let mut t = [0; 20480];
+    let mut doubts = [0; 4096];
+    mark_doubts(w, choice, r, n, last, &mut t, &mut doubts);
+    wipe(&mut t);
+    settle_doubts(w, choice, last, &doubts, &mut t)
+}
+
+fn count_lines(w: &[u8]) -> usize {
+    let mut c = Cursor { at: 0 };
+    let mut n: usize = 0;
+    while c.at < w.len() {
+        let l = c.line(w);
+        c = l.next;
+        n += 1;
+    }
+    n
+}
+
+// Of 400,000 records about 30,000 are doubtful, and hardly one of these is searched for.
+fn count_rounds(n: usize) -> u64
     ensures { λ r. ⌜ (0 < r) × (r < 2 ^ 32) ⌝ }
 {
-    if size < 384000000 {
-        return (size / 1500000) as u64 + 1;
+    if n < 100000000 {
+        return (n / 400000) as u64 + 1;
     }
     256
 }
@@ -67,7 +134,7 @@ pub fn find_repeat(w: &[u8], choice: u64) -> usize
     ensures { λ r. ⌜ r ≡ first-line (again choice) [] 0 (lines (now (w .entry))) ⌝ }
 {
     let size = w.len();
-    let rounds = count_rounds(size);
+    let rounds = count_rounds(count_lines(w));
     let mut last = size;
     let mut r: u64 = 0;
     while r < rounds {
