@@ -25,6 +25,20 @@ pub struct Table {
     pub second: &'static [usize],
     /// "Only these may be marked": the field, from 1.
     pub markable: Option<usize>,
+    /// In the order of their numbers.
+    pub references: &'static [Reference],
+}
+
+/// "References go to the named table's primary key": by these fields, from 1.
+#[derive(Debug, PartialEq, Eq)]
+pub struct Reference {
+    pub fields: &'static [usize],
+    /// The number of the table.
+    pub to: u32,
+}
+
+const fn to(table: u32, fields: &'static [usize]) -> Reference {
+    Reference { fields, to: table }
 }
 
 const fn num(name: &'static str, low: u64, high: u64, written: usize) -> Column {
@@ -55,6 +69,7 @@ pub static VERSIONS: Table = Table {
     primary: &[1],
     second: &[],
     markable: Some(2),
+    references: &[],
 };
 
 pub static VALIDITY: Table = Table {
@@ -64,6 +79,7 @@ pub static VALIDITY: Table = Table {
     primary: &[1],
     second: &[],
     markable: None,
+    references: &[to(485, &[2])],
 };
 
 pub static CALENDAR: Table = Table {
@@ -78,6 +94,7 @@ pub static CALENDAR: Table = Table {
     primary: &[1, 2],
     second: &[],
     markable: Some(3),
+    references: &[to(485, &[1]), to(290, &[1, 4])],
 };
 
 pub static DAY_TYPES: Table = Table {
@@ -87,6 +104,7 @@ pub static DAY_TYPES: Table = Table {
     primary: &[1, 2],
     second: &[],
     markable: Some(3),
+    references: &[to(485, &[1])],
 };
 
 pub static POINT_TYPES: Table = Table {
@@ -101,6 +119,7 @@ pub static POINT_TYPES: Table = Table {
     primary: &[1, 2],
     second: &[1, 3],
     markable: Some(4),
+    references: &[to(485, &[1])],
 };
 
 pub static TRIP_TYPES: Table = Table {
@@ -110,6 +129,7 @@ pub static TRIP_TYPES: Table = Table {
     primary: &[1, 2],
     second: &[1, 3],
     markable: None,
+    references: &[to(485, &[1])],
 };
 
 pub static LINKS: Table = Table {
@@ -127,6 +147,7 @@ pub static LINKS: Table = Table {
     primary: &[1, 2, 3, 4, 5, 6],
     second: &[],
     markable: None,
+    references: &[to(485, &[1]), to(998, &[1, 3]), to(998, &[1, 5])],
 };
 
 pub static TIMES: Table = Table {
@@ -145,6 +166,7 @@ pub static TIMES: Table = Table {
     primary: &[1, 2, 3, 4, 5, 6, 7],
     second: &[],
     markable: None,
+    references: &[to(485, &[1]), to(225, &[1, 2, 4, 5, 6, 7])],
 };
 
 pub static ALL: [&Table; 8] = [
@@ -199,11 +221,19 @@ mod tests {
     }
 
     #[test]
-    fn keys_and_marks_name_columns() {
+    fn keys_references_and_marks_name_columns() {
         for table in ALL {
             let fields = table.primary.iter().chain(table.second);
             for &field in fields.chain(&table.markable) {
                 assert!((1..=table.columns.len()).contains(&field));
+            }
+            for reference in table.references {
+                let parent = numbered(reference.to).unwrap();
+                assert_eq!(reference.fields.len(), parent.primary.len());
+                for (&field, &key) in reference.fields.iter().zip(parent.primary) {
+                    let kinds = [&table.columns[field - 1], &parent.columns[key - 1]];
+                    assert!(kinds.iter().all(|column| !column.is_text()));
+                }
             }
             if let Some(field) = table.markable {
                 assert_eq!(table.columns[field - 1].kind, Kind::Text { size: 40 });

@@ -11,7 +11,7 @@ pub use plain::Plain;
 
 /// What the tool runs on, and what is compared and measured.
 pub fn chosen() -> &'static dyn Library {
-    &Plain
+    &Linked
 }
 
 /// What the chosen one is compared with: the independent reader.

@@ -1,38 +1,51 @@
-//! The proved library, as far as it stands behind the face.
+//! The proved library behind the face.
 
-use face::{At, Header, Refusal, Row, Value};
+use face::{At, Header, Library, Refusal, Row, Value};
 
 pub struct Linked;
 
-impl Linked {
-    pub fn check(&self, file: &[u8]) -> Refusal {
+impl Library for Linked {
+    fn name(&self) -> &'static str {
+        "vdv"
+    }
+
+    fn check(&self, file: &[u8]) -> Refusal {
         vdv::check(file).err().unwrap_or(Refusal::SOUND)
     }
 
-    pub fn header(&self, file: &[u8]) -> Result<Header, Refusal> {
+    fn header(&self, file: &[u8]) -> Result<Header, Refusal> {
         vdv::header(file)
     }
 
-    pub fn section(&self, file: &[u8], section: usize) -> Result<Row, Refusal> {
+    fn section(&self, file: &[u8], section: usize) -> Result<Row, Refusal> {
         vdv::section(file, section)
     }
 
-    pub fn list(&self, file: &[u8], rows: &mut [Row]) -> Refusal {
+    fn list(&self, file: &[u8], rows: &mut [Row]) -> Refusal {
         vdv::list(file, rows).unwrap_or_else(|refusal| refusal)
     }
 
-    pub fn value(&self, file: &[u8], at: At) -> Result<Value, Refusal> {
+    fn value(&self, file: &[u8], at: At) -> Result<Value, Refusal> {
         vdv::value(file, at)
     }
-    pub fn text(&self, file: &[u8], at: At, out: &mut [u8]) -> Result<usize, Refusal> {
+
+    fn text(&self, file: &[u8], at: At, out: &mut [u8]) -> Result<usize, Refusal> {
         vdv::text(file, at, out)
     }
 
-    pub fn write(&self, file: &[u8], out: &mut [u8]) -> Result<usize, Refusal> {
+    fn table(&self, file: &[u8], section: usize, cells: &mut [u64]) -> Result<usize, Refusal> {
+        vdv::table(file, section, cells)
+    }
+
+    fn write(&self, file: &[u8], out: &mut [u8]) -> Result<usize, Refusal> {
         vdv::write(file, out)
     }
 
-    pub fn strip(&self, file: &[u8], out: &mut [u8]) -> Result<usize, Refusal> {
+    fn fill(&self, file: &[u8], at: At, text: &[u8], out: &mut [u8]) -> Result<usize, Refusal> {
+        vdv::fill(file, at, text, out)
+    }
+
+    fn strip(&self, file: &[u8], out: &mut [u8]) -> Result<usize, Refusal> {
         vdv::strip(file, out)
     }
 }

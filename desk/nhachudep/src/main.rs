@@ -13,6 +13,7 @@ mod outlets;
 mod output;
 mod picture;
 mod pointing;
+mod references;
 mod refusals;
 mod terminal;
 mod trouble;

@@ -8,6 +8,7 @@ use face::{all_rows, number, tables, Library, Refusal};
 use crate::latin::{shown, width};
 use crate::lines::{command, first_with, header_lines, line_from, lines_of, Shown};
 use crate::pointing::Line;
+use crate::references::Lost;
 use crate::refusals::Part;
 use crate::terminal::{Paint, Tone};
 
@@ -24,8 +25,10 @@ impl Picture {
     pub fn of(library: &dyn Library, file: &[u8], refusal: Refusal) -> Picture {
         let mut notes = Vec::new();
         let found = line_of(library, file, refusal);
+        let lost = Lost::of(library, file, refusal);
         let line = found.map(|found| {
-            let line = read_line(library, file, refusal, found.content);
+            let mut line = read_line(library, file, refusal, found.content);
+            line.lost = lost.as_ref().map_or(&[], |lost| lost.reference.fields);
             if line.has_odd_quotes() {
                 notes.push("its quotes do not pair: one is missing or too many".to_owned());
             }
@@ -38,6 +41,7 @@ impl Picture {
             Part::Section => missing_end(library, file, refusal),
             Part::Nothing => None,
         });
+        notes.extend(lost.map(|lost| lost.sentence()));
         Picture { line, notes }
     }
 
@@ -81,6 +85,7 @@ fn read_line<'f>(
         number: refusal.number,
         table: row.ok().and_then(|row| tables::numbered(row.table)),
         latin: library.header(file).is_ok_and(|header| header.latin),
+        lost: &[],
     }
 }
 

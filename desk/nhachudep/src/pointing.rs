@@ -15,6 +15,8 @@ pub struct Line<'a> {
     pub table: Option<&'static Table>,
     /// Whether the file's character set is ISO8859-1.
     pub latin: bool,
+    /// Fields, from 1, by which the record refers to none.
+    pub lost: &'static [usize],
 }
 
 impl Line<'_> {
@@ -33,8 +35,9 @@ impl Line<'_> {
             number::RANGE => self.first_odd(|column, value| !fits(column, value)),
             number::MARK => self.mark(),
             number::SAME_POINTS => return self.points(),
-            number::PRIMARY_KEY => return self.key(|table| table.primary),
-            number::SECOND_KEY => return self.key(|table| table.second),
+            number::PRIMARY_KEY => return self.named(self.table.map(|table| table.primary)),
+            number::SECOND_KEY => return self.named(self.table.map(|table| table.second)),
+            number::REFERENCE => return self.named(Some(self.lost)),
             _ => None,
         };
         found.into_iter().filter(|part| !part.is_empty()).collect()
@@ -118,9 +121,10 @@ impl Line<'_> {
         self.fields(first..first + 4)
     }
 
-    fn key(&self, of: impl Fn(&Table) -> &'static [usize]) -> Vec<Range<usize>> {
-        let named = self.table.map(of).unwrap_or_default();
-        self.fields(named.iter().map(|field| field - 1))
+    /// Fields of the record by their numbers, from 1.
+    fn named(&self, numbers: Option<&[usize]>) -> Vec<Range<usize>> {
+        let numbers = numbers.unwrap_or_default();
+        self.fields(numbers.iter().map(|field| field - 1))
     }
 }
 
@@ -173,6 +177,7 @@ mod tests {
             number,
             table: tables::numbered(table),
             latin: false,
+            lost: &[1, 3],
         };
         line.parts()
             .into_iter()
@@ -239,7 +244,7 @@ mod tests {
             (b"rec; 7; 1; \"a\"", 18, 290, &[b"7", b"1"]),
             (b"rec; 7; 1; \"HP\"; \"\"", 19, 998, &[b"7", b"\"HP\""]),
             (link, 14, 225, &[b"1", b"5", b"1", b"5"]),
-            (link, 20, 225, &[]),
+            (link, 20, 225, &[b"7", b"1"]),
         ]);
     }
 
@@ -251,6 +256,7 @@ mod tests {
                 number,
                 table: None,
                 latin: false,
+                lost: &[],
             }
             .has_odd_quotes()
         };

@@ -125,6 +125,38 @@ fn control_bytes_are_visible_and_letters_are_letters() {
     );
 }
 
+/// The reference is named that finds nothing, and its fields are marked.
+#[test]
+fn a_lost_reference() {
+    let folder = Folder::new("check-reference");
+    let tables = "tbl; MENGE_TAGESART\n\
+        atr; BASIS_VERSION; TAGESART_NR; TAGESART_TEXT\n\
+        frm; num[9.0]; num[3.0]; char[40]\n\
+        rec; 7; 1; \"Schultag\"\n\
+        end; 1\n\
+        tbl; FIRMENKALENDER\n\
+        atr; BASIS_VERSION; BETRIEBSTAG; BETRIEBSTAG_TEXT; TAGESART_NR\n\
+        frm; num[9.0]; num[8.0]; char[40]; num[3.0]\n\
+        rec; 7; 20250106; \"\"; 1\n\
+        com; \"a week later\"\n\
+        rec; 8; 20250113; \"\"; 1\n\
+        end; 2\n\
+        eof; 3\n";
+    let file = SMALL.replace("eof; 1\n", tables);
+    folder.put("day.x10", &file);
+    folder.run(&["check", "day.x10"]).expect(
+        1,
+        "",
+        "day.x10: section 3, line 6: 20 a reference finds no record\n    \
+         23 | rec; 8; 20250113; \"\"; 1\n       |      ^                ^\n       \
+         = no record of MENGE_TAGESART has BASIS_VERSION 8, TAGESART_NR 1\n",
+    );
+    folder.put("version.x10", file.replace("rec; 8; 2025", "rec; 9; 2025"));
+    let refused = folder.run(&["check", "version.x10"]);
+    let note = "\n       = no record of MENGE_BASIS_VERSIONEN has BASIS_VERSION 9\n";
+    assert!(refused.err.ends_with(note), "{}", refused.err);
+}
+
 #[test]
 fn a_file_over_the_limit() {
     let folder = Folder::new("check-limit");
@@ -181,6 +213,9 @@ fn every_case() {
     for (told, expected) in told.iter().zip(&expected) {
         assert!(told.starts_with(expected), "{told}\n{expected}");
     }
+    let lost = told.iter().filter(|line| line.contains(": 20 ")).count();
+    let named = run.err.matches("\n       = no record of ").count();
+    assert!(lost > 0 && lost == named, "{lost} {named}");
     assert!(!run.err.contains('\x1b'));
     assert_eq!(run.text().lines().count(), names.len() - expected.len());
 }

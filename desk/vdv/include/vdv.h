@@ -1,7 +1,7 @@
 /* The proved library for VDV 451 planning files, for C programs.
  *
- * A file is lent by a pointer and a count of bytes; the pointer is not null,
- * also where the count is 0. What is lent to be written to overlaps nothing
+ * A file or a text is lent by a pointer and a count of bytes; the pointer is not
+ * null, also where the count is 0. What is lent to be written to overlaps nothing
  * else that is lent. There are no other conditions, and no call keeps anything
  * of what it is lent. Sections, records and fields count from 1.
  *
@@ -118,8 +118,19 @@ vdv_value_answer vdv_value(const uint8_t *file, size_t length, size_t section, s
 vdv_length_answer vdv_text(const uint8_t *file, size_t length, size_t section, size_t record, size_t field,
                            uint8_t *out, size_t room);
 
+/* Every value of a section into lent cells, three a value in the order of the
+ * records: its kind as in enum vdv_kind, then a number's amount and 0, or a
+ * text's first place and the place after it. Refused as its values are, then 21.
+ * The length counts cells. */
+vdv_length_answer vdv_table(const uint8_t *file, size_t length, size_t section, uint64_t *cells, size_t room);
+
 /* The written form: the file's verdict, then 21. */
 vdv_length_answer vdv_write(const uint8_t *file, size_t length, uint8_t *out, size_t room);
+
+/* The written form with one more suggestion: the file's verdict, 24, 23, 22, for
+ * the text 11 if it is empty, 4, 13 if it is over 40 bytes, then 21. */
+vdv_length_answer vdv_fill(const uint8_t *file, size_t length, size_t section, size_t record, size_t field,
+                           const uint8_t *text, size_t size, uint8_t *out, size_t room);
 
 /* The written form without suggestions. */
 vdv_length_answer vdv_strip(const uint8_t *file, size_t length, uint8_t *out, size_t room);

@@ -10,7 +10,11 @@ void *module_vdv_value(vdv_value_answer *answer, const uint8_t *file, size_t len
                        size_t field);
 void *module_vdv_text(vdv_length_answer *answer, const uint8_t *file, size_t length, size_t section, size_t record,
                       size_t field, uint8_t *out, size_t room);
+void *module_vdv_table(vdv_length_answer *answer, const uint8_t *file, size_t length, size_t section, uint64_t *cells,
+                       size_t room);
 void *module_vdv_write(vdv_length_answer *answer, const uint8_t *file, size_t length, uint8_t *out, size_t room);
+void *module_vdv_fill(vdv_length_answer *answer, const uint8_t *file, size_t length, size_t section, size_t record,
+                      size_t field, const uint8_t *text, size_t size, uint8_t *out, size_t room);
 void *module_vdv_strip(vdv_length_answer *answer, const uint8_t *file, size_t length, uint8_t *out, size_t room);
 
 vdv_refusal vdv_check(const uint8_t *file, size_t length)
@@ -56,10 +60,25 @@ vdv_length_answer vdv_text(const uint8_t *file, size_t length, size_t section, s
     return answer;
 }
 
+vdv_length_answer vdv_table(const uint8_t *file, size_t length, size_t section, uint64_t *cells, size_t room)
+{
+    vdv_length_answer answer;
+    module_vdv_table(&answer, file, length, section, cells, room);
+    return answer;
+}
+
 vdv_length_answer vdv_write(const uint8_t *file, size_t length, uint8_t *out, size_t room)
 {
     vdv_length_answer answer;
     module_vdv_write(&answer, file, length, out, room);
+    return answer;
+}
+
+vdv_length_answer vdv_fill(const uint8_t *file, size_t length, size_t section, size_t record, size_t field,
+                           const uint8_t *text, size_t size, uint8_t *out, size_t room)
+{
+    vdv_length_answer answer;
+    module_vdv_fill(&answer, file, length, section, record, field, text, size, out, room);
     return answer;
 }
 

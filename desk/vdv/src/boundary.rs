@@ -74,7 +74,25 @@ extern "C" {
         out: *mut u8,
         room: usize,
     ) -> LengthAnswer;
+    pub fn vdv_table(
+        file: *const u8,
+        length: usize,
+        section: usize,
+        cells: *mut u64,
+        room: usize,
+    ) -> LengthAnswer;
     pub fn vdv_write(file: *const u8, length: usize, out: *mut u8, room: usize) -> LengthAnswer;
+    pub fn vdv_fill(
+        file: *const u8,
+        length: usize,
+        section: usize,
+        record: usize,
+        field: usize,
+        text: *const u8,
+        size: usize,
+        out: *mut u8,
+        room: usize,
+    ) -> LengthAnswer;
     pub fn vdv_strip(file: *const u8, length: usize, out: *mut u8, room: usize) -> LengthAnswer;
 }
 

@@ -24,7 +24,7 @@
 
 mod boundary;
 
-pub use face::{number, At, Date, Header, Owner, Refusal, Row, Span, Time, Value};
+pub use face::{number, value_in, At, Date, Header, Owner, Refusal, Row, Span, Time, Value, CELLS};
 
 use boundary::{HeaderAnswer, ValueAnswer};
 
@@ -43,6 +43,15 @@ pub fn check(file: &[u8]) -> Result<(), Refusal> {
 }
 
 /// The header's values, or 1 or 2.
+///
+/// ```
+/// let file = b"mod; YYYY/MM/DD; HH:MM:SS; free\n\
+///     src; \"Desk\"; \"2024/02/01\"; \"06:00:00\"\n\
+///     chs; \"ISO8859-1\"\nver; \"1\"\nifv; \"1.0\"\n";
+/// let header = vdv::header(file).unwrap();
+/// assert_eq!(header.source.of(file), b"Desk");
+/// assert_eq!((header.date.month, header.latin, header.dve), (2, true, None));
+/// ```
 pub fn header(file: &[u8]) -> Result<Header, Refusal> {
     // SAFETY: as in `check`.
     let answer = unsafe { boundary::vdv_header(file.as_ptr(), file.len()) };
@@ -50,6 +59,16 @@ pub fn header(file: &[u8]) -> Result<Header, Refusal> {
 }
 
 /// One section's row, or the first of 1, 2 and 24.
+///
+/// ```
+/// let file = b"mod; DD.MM.YYYY; HH:MM:SS; free\n\
+///     src; \"\"; \"01.02.2024\"; \"06:00:00\"\n\
+///     chs; \"ASCII\"\nver; \"1\"\nifv; \"1.0\"\n\
+///     tbl; MENGE_TAGESART\n";
+/// let row = vdv::section(file, 1).unwrap();
+/// assert_eq!((row.table, row.verdict, row.line), (290, vdv::number::ORDER, 1));
+/// assert_eq!(vdv::section(file, 2).unwrap_err().number, vdv::number::NO_SUCH);
+/// ```
 pub fn section(file: &[u8], section: usize) -> Result<Row, Refusal> {
     // SAFETY: as in `check`.
     let answer = unsafe { boundary::vdv_section(file.as_ptr(), file.len(), section) };
@@ -98,6 +117,22 @@ pub fn value(file: &[u8], at: At) -> Result<Value, Refusal> {
 /// A text's own bytes into lent room, doubled quotes undone: refused as its
 /// value is, then 11 for a number, then 21. A refused call leaves lent room as
 /// it was; so it is for every call below.
+///
+/// ```
+/// let file = b"mod; DD.MM.YYYY; HH:MM:SS; free\n\
+///     src; \"\"; \"01.02.2024\"; \"06:00:00\"\n\
+///     chs; \"ASCII\"\nver; \"1\"\nifv; \"1.0\"\n\
+///     tbl; MENGE_BASIS_VERSIONEN\n\
+///     atr; BASIS_VERSION; BASIS_VERSION_TEXT\n\
+///     frm; num[9.0]; char[40]\n\
+///     rec; 7; \"Bake \"\"1\"\"\"\n\
+///     end; 1\n";
+/// let mut out = [0; 40];
+/// let length = vdv::text(file, vdv::At::new(1, 1, 2), &mut out).unwrap();
+/// assert_eq!(&out[..length], b"Bake \"1\"");
+/// let refusal = vdv::text(file, vdv::At::new(1, 1, 1), &mut out).unwrap_err();
+/// assert_eq!(refusal.number, vdv::number::NOT_A_TEXT);
+/// ```
 pub fn text(file: &[u8], at: At, out: &mut [u8]) -> Result<usize, Refusal> {
     // SAFETY: as in `check`; `out` is borrowed alone.
     let answer = unsafe {
@@ -109,6 +144,43 @@ pub fn text(file: &[u8], at: At, out: &mut [u8]) -> Result<usize, Refusal> {
             at.field,
             out.as_mut_ptr(),
             out.len(),
+        )
+    };
+    unless_refused(answer.length, answer.refusal)
+}
+
+/// Every value of a section into lent cells, [`CELLS`] a value in the order of
+/// the records; [`value_in`] reads them back. Refused as its values are, then
+/// 21. Answers how many cells are written.
+///
+/// ```
+/// use vdv::{value_in, Value, CELLS};
+///
+/// let file = b"mod; DD.MM.YYYY; HH:MM:SS; free\n\
+///     src; \"\"; \"01.02.2024\"; \"06:00:00\"\n\
+///     chs; \"ASCII\"\nver; \"1\"\nifv; \"1.0\"\n\
+///     tbl; BASIS_VER_GUELTIGKEIT\n\
+///     atr; VER_GUELTIGKEIT; BASIS_VERSION\n\
+///     frm; num[8.0]; num[9.0]\n\
+///     rec; 20240101; 7\n\
+///     end; 1\n";
+/// let row = vdv::section(file, 1).unwrap();
+/// let mut cells = vec![0; row.records * 2 * CELLS];
+/// assert_eq!(vdv::table(file, 1, &mut cells), Ok(cells.len()));
+/// let values: Vec<_> = cells.chunks(CELLS).filter_map(value_in).collect();
+/// assert_eq!(values, [Value::Number(20240101), Value::Number(7)]);
+/// let refusal = vdv::table(file, 2, &mut cells).unwrap_err();
+/// assert_eq!(refusal.number, vdv::number::NO_SUCH);
+/// ```
+pub fn table(file: &[u8], section: usize, cells: &mut [u64]) -> Result<usize, Refusal> {
+    // SAFETY: as in `text`.
+    let answer = unsafe {
+        boundary::vdv_table(
+            file.as_ptr(),
+            file.len(),
+            section,
+            cells.as_mut_ptr(),
+            cells.len(),
         )
     };
     unless_refused(answer.length, answer.refusal)
@@ -128,7 +200,64 @@ pub fn write(file: &[u8], out: &mut [u8]) -> Result<usize, Refusal> {
     unless_refused(answer.length, answer.refusal)
 }
 
-/// The written form without suggestions.
+/// The written form with one more suggestion into lent room: the file's
+/// verdict, 24, 23, 22, for the text 11 if it is empty, 4, 13 if it is over 40
+/// bytes, then 21.
+///
+/// ```
+/// let file = b"mod; DD.MM.YYYY; HH:MM:SS; free\n\
+///     src; \"Desk\"; \"01.02.2024\"; \"06:00:00\"\n\
+///     chs; \"ASCII\"\nver; \"1\"\nifv; \"1.0\"\n\
+///     tbl; MENGE_BASIS_VERSIONEN\n\
+///     atr; BASIS_VERSION; BASIS_VERSION_TEXT\n\
+///     frm; num[9.0]; char[40]\n\
+///     rec; 7; \"\"\n\
+///     end; 1\n\
+///     eof; 1\n";
+/// let at = vdv::At::new(1, 1, 2);
+/// let mut form = vec![0; 1024];
+/// let length = vdv::fill(file, at, b"Winter", &mut form).unwrap();
+/// let form = &form[..length];
+/// let lines = b"com; \"SUGGESTED 2\"\nrec; 7; \"Winter\"\n";
+/// assert!(form.windows(lines.len()).any(|part| part == lines));
+/// let refusal = vdv::fill(form, at, b"Sommer", &mut [0; 1024]).unwrap_err();
+/// assert_eq!(refusal.number, vdv::number::NOT_EMPTY);
+/// ```
+pub fn fill(file: &[u8], at: At, text: &[u8], out: &mut [u8]) -> Result<usize, Refusal> {
+    // SAFETY: as in `text`; the text is a slice too.
+    let answer = unsafe {
+        boundary::vdv_fill(
+            file.as_ptr(),
+            file.len(),
+            at.section,
+            at.record,
+            at.field,
+            text.as_ptr(),
+            text.len(),
+            out.as_mut_ptr(),
+            out.len(),
+        )
+    };
+    unless_refused(answer.length, answer.refusal)
+}
+
+/// The written form without suggestions into lent room.
+///
+/// ```
+/// let file = b"mod; DD.MM.YYYY; HH:MM:SS; free\n\
+///     src; \"Desk\"; \"01.02.2024\"; \"06:00:00\"\n\
+///     chs; \"ASCII\"\nver; \"1\"\nifv; \"1.0\"\n\
+///     tbl; MENGE_BASIS_VERSIONEN\n\
+///     atr; BASIS_VERSION; BASIS_VERSION_TEXT\n\
+///     frm; num[9.0]; char[40]\n\
+///     com; \"SUGGESTED 2\"\n\
+///     rec; 7; \"Winter\"\n\
+///     end; 1\n\
+///     eof; 1\n";
+/// let mut form = vec![0; 1024];
+/// let length = vdv::strip(file, &mut form).unwrap();
+/// assert!(form[..length].ends_with(b"rec; 7; \"\"\nend; 1\neof; 1\n"));
+/// ```
 pub fn strip(file: &[u8], out: &mut [u8]) -> Result<usize, Refusal> {
     // SAFETY: as in `text`.
     let answer =

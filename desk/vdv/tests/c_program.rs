@@ -1,7 +1,7 @@
 //! A C program over `include/vdv.h`, linked with the same archive.
 
 use std::io::Write;
-use std::path::Path;
+use std::path::{Path, PathBuf};
 use std::process::{Command, Stdio};
 
 const FILE: &[u8] = b"mod; DD.MM.YYYY; HH:MM:SS; free\n\
@@ -15,9 +15,9 @@ const FILE: &[u8] = b"mod; DD.MM.YYYY; HH:MM:SS; free\n\
     end; 1\n\
     eof; 1\n";
 
-fn compiled() -> std::path::PathBuf {
+fn compiled(name: &str) -> PathBuf {
     let here = Path::new(env!("CARGO_MANIFEST_DIR"));
-    let out = Path::new(env!("CARGO_TARGET_TMPDIR")).join("program");
+    let out = Path::new(env!("CARGO_TARGET_TMPDIR")).join(name);
     let status = Command::new("cc")
         .args(["-std=c11", "-Wall", "-Wextra", "-Werror", "-I"])
         .arg(here.join("include"))
@@ -30,7 +30,7 @@ fn compiled() -> std::path::PathBuf {
     out
 }
 
-fn said(program: &Path, file: &[u8]) -> String {
+fn said(program: &Path, file: &[u8]) -> Vec<u8> {
     let mut child = Command::new(program)
         .stdin(Stdio::piped())
         .stdout(Stdio::piped())
@@ -39,23 +39,53 @@ fn said(program: &Path, file: &[u8]) -> String {
     child.stdin.take().unwrap().write_all(file).unwrap();
     let output = child.wait_with_output().unwrap();
     assert!(output.status.success());
-    String::from_utf8(output.stdout).unwrap()
+    output.stdout
+}
+
+/// The file as it is written, with this before and in the record.
+fn form(mark: &str, text: &[u8]) -> Vec<u8> {
+    let head = "mod; DD.MM.YYYY; HH:MM:SS; free\n\
+        src; \"Desk\"; \"01.02.2024\"; \"06:00:59\"\n\
+        chs; \"ISO8859-1\"\nver; \"1\"\nifv; \"1.0\"\nfft; \"plain\"\n\
+        tbl; MENGE_BASIS_VERSIONEN\n\
+        atr; BASIS_VERSION; BASIS_VERSION_TEXT\n\
+        frm; num[9.0]; char[40]\n";
+    let start = format!("{head}{mark}rec; 7; \"");
+    [start.as_bytes(), text, b"\"\nend; 1\neof; 1\n"].concat()
 }
 
 #[test]
 fn c_is_told_the_same() {
-    let program = compiled();
-    let place = FILE.windows(4).position(|four| four == b"tbl;").unwrap();
-    assert_eq!(
-        said(&program, FILE),
-        format!(
-            "check;0;0;0\nheader;0;2024;59;1;1;0;1;plain\nsection;0;485;{place};1\nlist;0;485;1;9\n\
-             value;0;0;7;\nvalue;0;2;0;Winter\nvalue;24;0;0;\n"
-        )
+    let program = compiled("accepted");
+    let place = |part: &[u8]| FILE.windows(part.len()).position(|p| p == part).unwrap();
+    let (table, text) = (place(b"tbl;"), place(b"Winter"));
+    let mark = "com; \"SUGGESTED 2\"\n";
+    let told = format!(
+        "check;0;0;0\nheader;0;2024;59;1;1;0;1;plain\nsection;0;485;{table};1\nlist;0;485;1;9\n\
+         value;0;0;7;\nvalue;0;2;0;Winter\nvalue;24;0;0;\ntext;0;Winter\n\
+         table;0;6;0;7;0;2;{text};{};9\n",
+        text + b"Winter".len()
     );
+    let parts = [
+        told.as_bytes(),
+        b"write;0\n",
+        &form(mark, b"Winter"),
+        b"strip;0\n",
+        &form("", b""),
+        b"fill;0\n",
+        &form(mark, b"S\xfcd"),
+    ];
     assert_eq!(
-        said(&program, b""),
-        "check;2;0;0\nheader;2;0;0;0;0;0;0;\nsection;2;0;0;0\nlist;2;0;0;9\n\
-         value;2;0;0;\nvalue;2;0;0;\nvalue;2;0;0;\n"
+        said(&program, FILE).escape_ascii().to_string(),
+        parts.concat().escape_ascii().to_string()
     );
+}
+
+#[test]
+fn c_is_told_a_refusal() {
+    let program = compiled("refused");
+    let told = "check;2;0;0\nheader;2;0;0;0;0;0;0;\nsection;2;0;0;0\nlist;2;0;0;9\n\
+         value;2;0;0;\nvalue;2;0;0;\nvalue;2;0;0;\ntext;2;\ntable;2;0;0;0;0;0;0;0;9\n\
+         write;2\nstrip;2\nfill;2\n";
+    assert_eq!(String::from_utf8(said(&program, b"")).unwrap(), told);
 }

@@ -1,4 +1,5 @@
-/* Reads a file from standard input and says what the library answers of it. */
+/* Reads a file from standard input and says what each of the library's calls
+ * answers of it. */
 #include <stddef.h>
 #include <stdio.h>
 
@@ -10,8 +11,10 @@ _Static_assert(sizeof(vdv_header_answer) == 176 && offsetof(vdv_header_answer, l
 _Static_assert(offsetof(vdv_header_answer, dve) == 128 && offsetof(vdv_header_answer, fft) == 152, "header");
 _Static_assert(sizeof(vdv_row_answer) == 72 && offsetof(vdv_row_answer, row) == 24, "row answer");
 _Static_assert(sizeof(vdv_value_answer) == 56 && offsetof(vdv_value_answer, amount) == 32, "value");
+_Static_assert(sizeof(vdv_length_answer) == 32 && offsetof(vdv_length_answer, length) == 24, "length");
 
 static uint8_t file[65536];
+static uint8_t out[65536];
 
 static void say_value(size_t length, size_t field)
 {
@@ -19,6 +22,29 @@ static void say_value(size_t length, size_t field)
     printf("value;%u;%u;%llu;", (unsigned)value.number, (unsigned)value.kind, (unsigned long long)value.amount);
     fwrite(file + value.from, 1, value.to - value.from, stdout);
     printf("\n");
+}
+
+static void say_text(size_t length)
+{
+    vdv_length_answer text = vdv_text(file, length, 1, 1, 2, out, sizeof out);
+    printf("text;%u;%.*s\n", (unsigned)text.number, (int)text.length, (const char *)out);
+}
+
+static void say_table(size_t length)
+{
+    uint64_t cells[7] = {0, 0, 0, 0, 0, 0, 9};
+    vdv_length_answer table = vdv_table(file, length, 1, cells, 7);
+    printf("table;%u;%zu", (unsigned)table.number, table.length);
+    for (size_t cell = 0; cell < 7; cell++)
+        printf(";%llu", (unsigned long long)cells[cell]);
+    printf("\n");
+}
+
+/* A form as it was put out, behind its number. */
+static void say_form(const char *name, vdv_length_answer form)
+{
+    printf("%s;%u\n", name, (unsigned)form.number);
+    fwrite(out, 1, form.length, stdout);
 }
 
 int main(void)
@@ -40,5 +66,14 @@ int main(void)
     say_value(length, 1);
     say_value(length, 2);
     say_value(length, 3);
+    say_text(length);
+    say_table(length);
+    say_form("write", vdv_write(file, length, out, sizeof out));
+    vdv_length_answer stripped = vdv_strip(file, length, out, sizeof out);
+    say_form("strip", stripped);
+    for (size_t place = 0; place < stripped.length; place++)
+        file[place] = out[place];
+    const uint8_t text[] = {'S', 0xfc, 'd'};
+    say_form("fill", vdv_fill(file, stripped.length, 1, 1, 2, text, sizeof text, out, sizeof out));
     return 0;
 }
