@@ -22,8 +22,11 @@ trim-in-requires c κs =
 find-kinds-requires : tie.Need-find-kinds-requires
 find-kinds-requires c κs = search needs
 
-add-t13 : tie.Need-add-t13
-add-t13 c =
+array-read-if1 : tie.Need-array-read-if1
+array-read-if1 c = omega (arith, c .before .before .before .pre .3, width-le (c .before .before .before .args .t))
+
+add-t17 : tie.Need-add-t17
+add-t17 c =
     let a = c .before .before .before .before .args in
     let p = c .before .before .before .before .pre in
     let h : a .k < length (fields (a .w .now)) = omega (arith, p .2, p .3) in
@@ -31,8 +34,8 @@ add-t13 c =
     let i = span-within (a .w .now) (a .k) (a .p) (a .e) (p .0) (p .1) h (x .result) (x .ensures) in
     search needs
 
-add-t14 : tie.Need-add-t14
-add-t14 c =
+add-t18 : tie.Need-add-t18
+add-t18 c =
     let a = c .before .before .before .before .args in
     let p = c .before .before .before .before .pre in
     let h : a .k < length (fields (a .w .now)) = omega (arith, p .2, p .3) in
@@ -43,8 +46,8 @@ add-t14 c =
 one-less-requires : tie.Need-one-less-requires
 one-less-requires c κs = search needs
 
-add-t16 : tie.Need-add-t16
-add-t16 c =
+add-t20 : tie.Need-add-t20
+add-t20 c =
     let a = c .before .before .before .before .before .args in
     let p = c .before .before .before .before .before .pre in
     let h : a .k < length (fields (a .w .now)) = omega (arith, p .2, p .3) in
@@ -118,10 +121,11 @@ read-value-spec =
     (tie.spec
     trim-in-requires
     find-kinds-requires
-    add-t13
-    add-t14
+    array-read-if1
+    add-t17
+    add-t18
     one-less-requires
-    add-t16
+    add-t20
     add-owner-of
     owner-of-requires
     returns
