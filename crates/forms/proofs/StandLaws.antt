@@ -6,10 +6,10 @@ use Prim.Native.Nat.{ℕ, zero, suc, _+_, _-_, _*_, _/_, _%_, _<_, _≤_}
 use native.Mathlib.Nat.{add-zero}
 use native.Mathlib.Numerals.{add-one}
 use native.Mathlib.Omega.{arith}
-use borrow.Author.Tests.{eq-eqb, ne-eqb, eqb-true, eqb-false, le-ltb, leb-true}
-use lib.Dec.{eqb, leb}
+use borrow.Author.Tests.{eq-eqb, ne-eqb, eqb-true, eqb-false, le-ltb, leb-true, ltb-true, ltb-false}
+use lib.Dec.{eqb, leb, ltb}
 use lib.ListN.{length, getD, take, drop, take-append-drop, length-append, length-drop, drop-of-length-le}
-use lib.Seq.{drop-cons, drop-drop, getD-drop, take-all}
+use lib.Seq.{drop-cons, drop-drop, getD-drop, getD-take, length-take-le, take-all}
 use Rattle.page.specs.Bytes.{Bytes, bytes, pick, all, until, keep, space, no-space, trim}
 use Rattle.page.specs.Fields.{parts-here, inside-after, field-size, fields, digit, digits, value, numberOf}
 use Rattle.page.specs.Tables.{Named, column-at}
@@ -23,16 +23,16 @@ use Rattle.page.specs.declared.Owner.the-variants as O
 use Rattle.page.specs.declared.Column.{Column}
 use Rattle.page.proofs.TestLaws.{and-left, and-right}
 use Rattle.page.proofs.ScanLaws.{until-hit, until-more, keep-stop}
-use Rattle.page.proofs.FieldLaws.{from, from-more, from-end, from-all}
+use Rattle.page.proofs.FieldLaws.{field-more, field-le, from, from-more, from-end, from-all}
 use Rattle.output.proofs.FormLaws.{decimal-few, decimal-length}
 use Rattle.forms.specs.Changed.{changed-datum, changed-values}
-use Rattle.forms.specs.Parts.{marked-by, mark-by, marks-form, datum-by, fields-form, bare, stands, all-stand, Spaced, Whole}
+use Rattle.forms.specs.Parts.{marked-by, mark-by, marks-form, datum-by, fields-form, bare, stands, all-stand, Spaced, Ends, Whole}
 use Rattle.forms.proofs.PartLaws.{record-is}
 use Rattle.forms.proofs.FieldLaws.{closed-of, closed-is, closed-short, text-narrow, field-amount}
 
 -- digits without a leading zero are what is written of their value
 
-digit-low : (b : ℕ) → digit b ≡ true → 48 ≤ b
+pub digit-low : (b : ℕ) → digit b ≡ true → 48 ≤ b
 unfolding digit
 digit-low b e = leb-true 48 b (and-left (leb 48 b) (leb b 57) e)
 
@@ -298,6 +298,69 @@ spaced-of g n a b z s =
       is = drop-cons g 0 0 (omega arith) ∙ ap (λ (x : ℕ). x ∷ drop 1 g) a ∙ ap (λ (x : Bytes). 32 ∷ x) (sym t);
       field = ap stands t ∙ s;
     }
+
+-- a number that begins with no zero
+
+stands-first : (w : Bytes) → (getD w 0 0 ≡ 45 → ⊥) → (getD w 0 0 ≡ 48 → ⊥) → stands w ≡ true
+unfolding stands
+stands-first w x y = rw (ne-eqb (getD w 0 0) 45 x, ne-eqb (getD w 0 0) 48 y)
+
+-- a byte that is neither a quote nor a `;`
+pub plain-more : (w : Bytes) (i : ℕ) → i < length w → (getD w i 0 ≡ 59 → ⊥) → (getD w i 0 ≡ 34 → ⊥)
+    → field-size false (drop i w) ≡ suc (field-size false (drop (i + 1) w))
+plain-more w i h x y = field-more false w i false h (ne-eqb (getD w i 0) 59 x) (rw (ne-eqb (getD w i 0) 34 y))
+
+pub digit-more : (w : Bytes) (i : ℕ) → i < length w → digit (getD w i 0) ≡ true → field-size false (drop i w) ≡ suc (field-size false (drop (i + 1) w))
+digit-more w i h d =
+    let l : 48 ≤ getD w i 0 = digit-low (getD w i 0) d in
+    let u : getD w i 0 ≤ 57 = digit-high (getD w i 0) d in
+    plain-more w i h (λ (e : getD w i 0 ≡ 59). omega arith) (λ (e : getD w i 0 ≡ 34). omega arith)
+
+module _ (w : Bytes) (p r : ℕ) (h : p + 2 ≤ length w) (a : getD w p 0 ≡ 32) (z : getD w (p + 1) 0 ≡ 48 → ⊥) (d : digit (getD w (p + 1) 0) ≡ true)
+    (q : r ≡ p + 2 + field-size false (drop (p + 2) w)) (m : p + 2 < r → 48 ≤ getD w (r - 1) 0) where
+  number-size : r ≡ p + field-size false (drop p w)
+  number-size =
+      let x = plain-more w p (omega arith) (λ (e : getD w p 0 ≡ 59). omega arith) (λ (e : getD w p 0 ≡ 34). omega arith) in
+      let y = digit-more w (p + 1) (omega arith) d in
+      let n : p + 1 + 1 ≡ p + 2 = omega arith in
+      let k : field-size false (drop (p + 1 + 1) w) ≡ field-size false (drop (p + 2) w) = ap (λ (j : ℕ). field-size false (drop j w)) n in
+      omega arith
+
+  number-in : r ≤ length w
+  number-in = omega (arith, field-le false (drop (p + 2) w), length-drop (p + 2) w)
+
+  last-digit : 48 ≤ getD w (r - 1) 0
+  last-digit = by (ltb (p + 2) r) refl
+    where
+      by : (b : Bool) → ltb (p + 2) r ≡ b → 48 ≤ getD w (r - 1) 0
+      by true e = m (ltb-true (p + 2) r e)
+      by false e =
+          let l : r ≤ p + 2 = ltb-false (p + 2) r e in
+          let n : r - 1 ≡ p + 1 = omega arith in
+          rw n (digit-low (getD w (p + 1) 0) d)
+
+  at-place : (j k : ℕ) → j < r - p → p + j ≡ k → getD (take (r - p) (drop p w)) j 0 ≡ getD w k 0
+  at-place j k l e = getD-take (r - p) (drop p w) j 0 l ∙ getD-drop p w j 0 ∙ ap (λ (i : ℕ). getD w i 0) e
+
+  pub number-ends : Ends w p r
+  number-ends =
+      let n : length (take (r - p) (drop p w)) ≡ r - p = length-take-le (r - p) (drop p w) (omega (arith, length-drop p w, number-in)) in
+      let low : 48 ≤ getD w (p + 1) 0 = digit-low (getD w (p + 1) 0) d in
+      let one : getD (take (r - p) (drop p w)) 1 0 ≡ getD w (p + 1) 0 = at-place 1 (p + 1) (omega arith) refl in
+      let end : getD (take (r - p) (drop p w)) (length (take (r - p) (drop p w)) - 1) 0 ≡ getD w (r - 1) 0 =
+      ap (λ (k : ℕ). getD (take (r - p) (drop p w)) (k - 1) 0) n ∙ at-place (r - p - 1) (r - 1) (omega arith) (omega arith) in
+      let last : 48 ≤ getD w (r - 1) 0 = last-digit in
+      let first : getD (drop 1 (take (r - p) (drop p w))) 0 0 ≡ getD w (p + 1) 0 = getD-drop 1 (take (r - p) (drop p w)) 0 0 ∙ one in
+      record {
+        size = number-size;
+        spaced =
+            spaced-of (take (r - p) (drop p w)) (omega arith) (at-place 0 p (omega arith) (omega arith) ∙ a)
+            (λ (e : getD (take (r - p) (drop p w)) 1 0 ≡ 32). omega arith)
+            (λ (e : getD (take (r - p) (drop p w)) (length (take (r - p) (drop p w)) - 1) 0 ≡ 32). omega arith)
+            (stands-first (drop 1 (take (r - p) (drop p w)))
+            (λ (e : getD (drop 1 (take (r - p) (drop p w))) 0 0 ≡ 45). omega arith)
+            (λ (e : getD (drop 1 (take (r - p) (drop p w))) 0 0 ≡ 48). z (sym first ∙ e)));
+      }
 
 -- all that is left after a place, where a `;` stands before it
 pub record Left (w : Bytes) (p : ℕ) : Type 0 where

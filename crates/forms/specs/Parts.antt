@@ -2,11 +2,11 @@
 use mathlib.Core.Path.{_≡_}
 use mathlib.Core.Bool.{Bool, true, false, not, _&&_, _||_}
 use mathlib.Core.List.{List, [], _∷_, _++_}
-use Prim.Native.Nat.{ℕ, suc}
+use Prim.Native.Nat.{ℕ, suc, _+_, _-_}
 use lib.Dec.{eqb}
-use lib.ListN.{length, getD}
+use lib.ListN.{length, getD, take, drop}
 use Rattle.page.specs.Bytes.{Bytes, bytes, pick, trim}
-use Rattle.page.specs.Fields.{fields}
+use Rattle.page.specs.Fields.{field-size, fields}
 use Rattle.page.specs.Tables.{Named}
 use Rattle.page.specs.Marks.{owner-of}
 use Rattle.page.specs.Records.{Datum, datumOf}
@@ -53,6 +53,11 @@ all-stand (w ∷ ws) = stands w && all-stand ws
 pub record Spaced (g : Bytes) : Type 0 where
   pub is : g ≡ 32 ∷ trim g
   pub field : stands (trim g) ≡ true
+
+-- the field at p, outside texts, ends at e and is such a field
+pub record Ends (w : Bytes) (p e : ℕ) : Type 0 where
+  pub size : e ≡ p + field-size false (drop p w)
+  pub spaced : Spaced (take (e - p) (drop p w))
 
 -- all that stands after a record's first `;` stands as it is written
 pub record Whole (w : Bytes) : Type 0 where

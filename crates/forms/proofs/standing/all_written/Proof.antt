@@ -4,7 +4,6 @@ use mathlib.Core.Path.{_≡_, refl}
 use mathlib.Core.Bool.{false≢true}
 use mathlib.Core.List.{_∷_}
 use native.Mathlib.Omega.{arith}
-use borrow.Author.Tests.{not-false}
 use lib.ListN.{length, drop}
 use Rattle.page.proofs.FieldLaws.{end-in}
 use Rattle.forms.specs.Parts.{Whole}
@@ -21,64 +20,41 @@ abbrev μ-loop : tie.MeasureT-loop
 loop-holds : tie.Need-loop-holds Inv-loop μ-loop
 loop-holds c = (omega arith, (λ h. refl), left-all (c .before .args .w .now))
 
-field-end-requires : tie.Need-field-end-requires Inv-loop μ-loop
-field-end-requires c κs = search needs
-
-sub-is-spaced : tie.Need-sub-is-spaced Inv-loop μ-loop
-sub-is-spaced c =
-    let w = c .before .before .before .before .args .w .now in
-    let l = c .before .before .loop in
-    let e = c .field-end in
-    let h = end-in w (l .p) (e .result) (c .before .loop-test .taken) (e .ensures) in
-    omega arith
-
-part-is-spaced-start : tie.Need-part-is-spaced-start Inv-loop μ-loop
-part-is-spaced-start c =
-    let w = c .before .before .before .before .args .w .now in
-    let l = c .before .before .loop in
-    let e = c .field-end in
-    let h = end-in w (l .p) (e .result) (c .before .loop-test .taken) (e .ensures) in
-    search needs
-
-part-is-spaced-end : tie.Need-part-is-spaced-end Inv-loop μ-loop
-part-is-spaced-end c =
-    let w = c .before .before .before .before .args .w .now in
-    let l = c .before .before .loop in
-    let e = c .field-end in
-    let h = end-in w (l .p) (e .result) (c .before .loop-test .taken) (e .ensures) in
-    search needs
-
-is-spaced-requires : tie.Need-is-spaced-requires Inv-loop μ-loop
-is-spaced-requires c κs = search needs
+written-end-requires : tie.Need-written-end-requires Inv-loop μ-loop
+written-end-requires c κs = search needs
 
 returns : tie.Need-returns Inv-loop μ-loop
 returns c = λ e. absurd (false≢true e)
 
 add-p : tie.Need-add-p Inv-loop μ-loop
 add-p c =
-    let w = c .before .before .before .before .before .before .before .args .w .now in
-    let l = c .before .before .before .before .before .loop in
-    let e = c .before .before .before .field-end in
-    let h = end-in w (l .p) (e .result) (c .before .before .before .before .loop-test .taken) (e .ensures) in
+    let w = c .before .before .before .before .before .args .w .now in
+    let l = c .before .before .before .loop in
+    let e = c .before .written-end in
+    let t = c .before .before .loop-test .taken in
+    let x = e .ensures (omega (arith, c .if1 .left)) in
+    let h = end-in w (l .p) (e .result) t (x .size) in
     omega arith
 
 loop-less : tie.Need-loop-less Inv-loop μ-loop
 loop-less c =
-    let w = c .before .before .before .before .before .before .before .args .w .now in
-    let l = c .before .before .before .before .before .loop in
-    let e = c .before .before .before .field-end in
-    let h = end-in w (l .p) (e .result) (c .before .before .before .before .loop-test .taken) (e .ensures) in
+    let w = c .before .before .before .before .before .args .w .now in
+    let l = c .before .before .before .loop in
+    let e = c .before .written-end in
+    let t = c .before .before .loop-test .taken in
+    let x = e .ensures (omega (arith, c .if1 .left)) in
+    let h = end-in w (l .p) (e .result) t (x .size) in
     omega arith
 
 loop-again : tie.Need-loop-again Inv-loop μ-loop
 loop-again c =
-    let w = c .before .before .before .before .before .before .before .args .w .now in
-    let l = c .before .before .before .before .before .loop in
-    let e = c .before .before .before .field-end in
-    let t = c .before .before .before .before .loop-test .taken in
-    let h = end-in w (l .p) (e .result) t (e .ensures) in
-    let s = c .before .is-spaced .ensures (not-false _ (c .if1 .left)) in
-    (omega arith, before-next w (l .p) (e .result) t (e .ensures), (λ x. l .inv .2 (left-more w (l .p) (e .result) t (e .ensures) (l .inv .1 t) s x)))
+    let w = c .before .before .before .before .before .args .w .now in
+    let l = c .before .before .before .loop in
+    let e = c .before .written-end in
+    let t = c .before .before .loop-test .taken in
+    let x = e .ensures (omega (arith, c .if1 .left)) in
+    let h = end-in w (l .p) (e .result) t (x .size) in
+    (omega arith, before-next w (l .p) (e .result) t (x .size), (λ y. l .inv .2 (left-more w (l .p) (e .result) t (x .size) (l .inv .1 t) (x .spaced) y)))
 
 returns-2 : tie.Need-returns-2 Inv-loop μ-loop
 returns-2 c =
@@ -91,11 +67,7 @@ all-written-spec =
     Inv-loop
     μ-loop
     loop-holds
-    field-end-requires
-    sub-is-spaced
-    part-is-spaced-start
-    part-is-spaced-end
-    is-spaced-requires
+    written-end-requires
     returns
     add-p
     loop-less
