@@ -4,6 +4,7 @@ mod answer;
 mod children;
 mod follow;
 mod guesses;
+mod hashes;
 mod known;
 mod references;
 mod repeats;
