@@ -18,7 +18,7 @@ use Rattle.files.specs.declared.aims.Aims.{Aims}
 use Rattle.files.specs.declared.seating.Seats.{Seats}
 
 abbrev pub no-aim : Aim
-no-aim = record { target = 0; from = 0; to = 0; key = 0 }
+no-aim = record { refer = 0; target = 0; from = 0; to = 0; key = 0 }
 
 unfoldable pub aim-at : Aims → ℕ → Aim
 aim-at a r = getD (a .all) r no-aim
@@ -33,6 +33,9 @@ lacks s aims t fs k = not (reached s (aim-at aims k) (refer-numbers (reference-a
 
 unfoldable pub lacks-some : Bytes → Aims → ℕ → Bytes → Bool
 lacks-some s aims t l = pick (is-record l) (some (lacks s aims t (fields (rest (content l)))) 0 (length (table-at t .references))) false
+
+abbrev pub lacks-any : Bytes → Aims → ℕ → List Bytes → Bytes → Bool
+lacks-any s aims t before l = lacks-some s aims t l
 
 -- the aim of reference r of table t
 pub record Aimed (s : Bytes) (seats : Seats) (t r : ℕ) (a : Aim) : Type 0 where

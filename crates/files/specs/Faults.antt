@@ -1,7 +1,8 @@
 -- 18, 19 and 20 of one section, by its first line at fault.
+use mathlib.Core.Path.{_≡_}
 use mathlib.Core.Bool.{Bool, true, false, not}
 use mathlib.Core.List.{List, []}
-use Prim.Native.Nat.{ℕ, _-_}
+use Prim.Native.Nat.{ℕ, _-_, _<_}
 use lib.Dec.{eqb}
 use lib.ListN.{length, getD, take, drop}
 use Rattle.page.specs.Bytes.{Bytes, pick}
@@ -9,7 +10,9 @@ use Rattle.page.specs.Lines.{lines, content, rest}
 use Rattle.page.specs.Fields.{fields}
 use Rattle.page.specs.Tables.{table-at, standing}
 use Rattle.page.specs.Records.{valuesOf}
-use Rattle.page.specs.File.{any, by-primary}
+use Rattle.page.specs.Answers.{sound}
+use Rattle.page.specs.File.{any, by-primary, lost, first-record, filedOf}
+use Rattle.page.specs.declared.Refusal.{Refusal}
 use Rattle.keys.specs.Numbers.{key-choice, refer-numbers, reference-at, target-at}
 use Rattle.files.specs.Scan.{is-record, bears, again, first-line, some}
 use Rattle.files.specs.Seating.{seat-at}
@@ -47,3 +50,8 @@ loses-any s r t before l = loses s r t l
 
 unfoldable pub lost-line : Bytes → Seats → Seat → ℕ
 lost-line s r a = first-line (loses-any s r (a .table)) [] 0 (lines (take (a .to - a .from) (drop (a .from) s)))
+
+-- what is found among the first n sections: nothing, or the file's answer
+pub record Looked (s : Bytes) (seats : Seats) (n : ℕ) (r : Refusal) : Type 0 where
+  pub none : r .number ≡ 0 → (r ≡ sound) × ((m : ℕ) → m < n → lost-line s seats (seat-at seats m) ≡ 0)
+  pub some : (r .number ≡ 0 → ⊥) → r ≡ first-record 20 (λ before. lost (filedOf s)) [] (filedOf s)

@@ -11,9 +11,10 @@ use page::tables::TABLES;
 // The most references that a table has.
 pub const MOST: usize = 3;
 
-// A reference's target by its place in the list of tables, the bytes of the target's section, none if it has no section, and the fields
-// of the target's key.
+// A reference's fields, its target by its place in the list of tables, the bytes of the target's section, none if it has no section, and
+// the fields of the target's key.
 pub struct Aim {
+    pub refer: u64,
     pub target: usize,
     pub from: usize,
     pub to: usize,
@@ -39,10 +40,12 @@ fn take_aim(s: &[u8], seats: Seats, t: usize, r: usize) -> Aim
     requires { ⌜ Ready (now s) seats ⌝ }
     ensures { λ x. ⌜ Aimed (now (s .entry)) seats t r x ⌝ }
 {
+    let refer = keys::choose_reference(t, r);
     let u = keys::find_target(t, r);
     let k = find_place(seats, u);
     if k == 0 {
         return Aim {
+            refer: refer,
             target: u,
             from: 0,
             to: 0,
@@ -54,6 +57,7 @@ fn take_aim(s: &[u8], seats: Seats, t: usize, r: usize) -> Aim
     let to = seat.to;
     let key = keys::choose_key(u, false);
     Aim {
+        refer: refer,
         target: u,
         from: from,
         to: to,

@@ -46,7 +46,7 @@ fn place_of(x: u32) -> usize {
 
 // Among the guesses for a hash.
 pub fn finds_guessed(w: &[u8], g: &[u32], h: u64, choice: u64, key: Key) -> Find
-    requires { ⌜ length (now g) ≡ 50176 ⌝ }
+    requires { ⌜ length (now g) ≡ 57344 ⌝ }
     ensures { λ r. ⌜ (r .met ≡ true → any (bears choice (key .k)) (lines (now (w .entry))) ≡ true) ⌝ }
 {
     let bits = find_bits(h);

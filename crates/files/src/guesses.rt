@@ -6,12 +6,12 @@ ghost use Prim.Native.Nat.{_<_, _≤_};
 ghost use lib.ListN.{length};
 
 // A key's entries follow its slot without a turn at the end: the last slot has so much room behind it.
-pub const ROOM: usize = 50176;
+pub const ROOM: usize = 57344;
 
-const SLOTS: u64 = 49152;
+const SLOTS: u64 = 56320;
 
 // Of so many slots.
-pub const MOST_KEYS: usize = 38000;
+pub const MOST_KEYS: usize = 40500;
 
 // Marks begin here, so that no place is taken for one.
 const MARKS: u64 = 2147483648;
@@ -21,7 +21,7 @@ pub const PLACES: usize = 16777216;
 
 // Where a key's entries begin.
 pub fn find_slot(h: u64) -> usize
-    ensures { λ r. ⌜ r < 49152 ⌝ }
+    ensures { λ r. ⌜ r < 56320 ⌝ }
 {
     (h / 17179869184 % SLOTS) as usize
 }
@@ -47,7 +47,7 @@ pub fn wipe(g: &mut [u32]) {
 
 // Marks a key as referred to; 1 if it was not before.
 pub fn note_key(g: &mut [u32], h: u64) -> usize
-    requires { ⌜ length (now g) ≡ 50176 ⌝ }
+    requires { ⌜ length (now g) ≡ 57344 ⌝ }
     ensures { λ r. ⌜ r ≤ 1 ⌝ }
 {
     let mark = find_mark(h);
@@ -75,7 +75,7 @@ fn narrow(at: usize) -> u32
 
 // Puts a record's place where its key is marked.
 pub fn note_place(g: &mut [u32], h: u64, at: usize)
-    requires { ⌜ length (now g) ≡ 50176 ⌝ }
+    requires { ⌜ length (now g) ≡ 57344 ⌝ }
 {
     if PLACES <= at {
         return;

@@ -5,6 +5,7 @@ mod bits;
 mod children;
 mod follow;
 mod guesses;
+mod hashes;
 mod known;
 mod references;
 mod repeats;

@@ -9,11 +9,11 @@ use Rattle.files.proofs.children.guess_from.Statement.{statement}
 use Rattle.files.proofs.children.guess_from.Tie as tie
 
 abbrev Inv-loop : tie.InvT-loop
-Inv-loop s w at t aims known g₀ until next₀ g next =
-    (next ≤ 3) × (length g ≡ 50176)
+Inv-loop s w at aims known g₀ until next₀ g next =
+    (next ≤ 3) × (length g ≡ 57344)
 
 abbrev μ-loop : tie.MeasureT-loop
-μ-loop s w at t aims known g₀ until next₀ g next =
+μ-loop s w at aims known g₀ until next₀ g next =
     3 - next
 
 wipe-requires : tie.Need-wipe-requires Inv-loop μ-loop

@@ -7,24 +7,12 @@ use Rattle.files.proofs.children.note_record.Statement.{statement}
 use Rattle.files.proofs.children.note_record.Tie as tie
 
 abbrev Inv-loop : tie.InvT-loop
-Inv-loop l t known g₀ f new₀ next₀ g new next =
-    (new ≤ next) × (next ≤ 3) × (length g ≡ 50176)
+Inv-loop w at aims known g₀ new₀ next₀ g new next =
+    (new ≤ next) × (next ≤ 3) × (length g ≡ 57344)
 
 abbrev μ-loop : tie.MeasureT-loop
-μ-loop l t known g₀ f new₀ next₀ g new next =
+μ-loop w at aims known g₀ new₀ next₀ g new next =
     3 - next
-
-content-of-requires : tie.Need-content-of-requires Inv-loop μ-loop
-content-of-requires c κs = search needs
-
-command-of-requires : tie.Need-command-of-requires Inv-loop μ-loop
-command-of-requires c κs = search needs
-
-returns : tie.Need-returns Inv-loop μ-loop
-returns c = search needs
-
-rest-of-requires : tie.Need-rest-of-requires Inv-loop μ-loop
-rest-of-requires c κs = search needs
 
 loop-holds : tie.Need-loop-holds Inv-loop μ-loop
 loop-holds c = search needs
@@ -35,14 +23,11 @@ add-next c = search needs
 is-guessed-requires : tie.Need-is-guessed-requires Inv-loop μ-loop
 is-guessed-requires c κs = search needs
 
-read-reference-requires : tie.Need-read-reference-requires Inv-loop μ-loop
-read-reference-requires c κs = search needs
+find-aim-requires : tie.Need-find-aim-requires Inv-loop μ-loop
+find-aim-requires c κs = search needs
 
-find-target-requires : tie.Need-find-target-requires Inv-loop μ-loop
-find-target-requires c κs = search needs
-
-hash-target-requires : tie.Need-hash-target-requires Inv-loop μ-loop
-hash-target-requires c κs = search needs
+hash-reference-requires : tie.Need-hash-reference-requires Inv-loop μ-loop
+hash-reference-requires c κs = search needs
 
 note-key-requires : tie.Need-note-key-requires Inv-loop μ-loop
 note-key-requires c κs = search needs
@@ -55,7 +40,7 @@ loop-less c = search needs
 
 loop-again : tie.Need-loop-again Inv-loop μ-loop
 loop-again c =
-    (search needs, search needs, c .before .before .note-key .kept .0 ∙ c .before .before .before .before .before .before .before .before .before .before .loop .inv .2)
+    (search needs, search needs, c .before .before .note-key .kept .0 ∙ c .before .before .before .before .before .before .before .before .before .loop .inv .2)
 
 loop-less-2 : tie.Need-loop-less-2 Inv-loop μ-loop
 loop-less-2 c = search needs
@@ -66,8 +51,8 @@ loop-again-2 c = search needs
 same-length : tie.Need-same-length Inv-loop μ-loop
 same-length c = search needs
 
-returns-2 : tie.Need-returns-2 Inv-loop μ-loop
-returns-2 c = search needs
+returns : tie.Need-returns Inv-loop μ-loop
+returns c = search needs
 
 pub note-record-spec : {M : Type 1} → statement M
 note-record-spec =
@@ -75,16 +60,11 @@ note-record-spec =
     (tie.spec
     Inv-loop
     μ-loop
-    content-of-requires
-    command-of-requires
-    returns
-    rest-of-requires
     loop-holds
     add-next
     is-guessed-requires
-    read-reference-requires
-    find-target-requires
-    hash-target-requires
+    find-aim-requires
+    hash-reference-requires
     note-key-requires
     add-new
     loop-less
@@ -92,4 +72,4 @@ note-record-spec =
     loop-less-2
     loop-again-2
     same-length
-    returns-2)
+    returns)

@@ -9,11 +9,11 @@ use Rattle.files.proofs.children.note_records.Statement.{statement}
 use Rattle.files.proofs.children.note_records.Tie as tie
 
 abbrev Inv-loop : tie.InvT-loop
-Inv-loop w at t known g₀ count₀ from₀ g count from =
-    (count ≤ 38002) × (length g ≡ 50176)
+Inv-loop w at aims known g₀ count₀ from₀ g count from =
+    (count ≤ 40502) × (length g ≡ 57344)
 
 abbrev μ-loop : tie.MeasureT-loop
-μ-loop w at t known g₀ count₀ from₀ g count from =
+μ-loop w at aims known g₀ count₀ from₀ g count from =
     length w - from
 
 loop-holds : tie.Need-loop-holds Inv-loop μ-loop
@@ -28,21 +28,6 @@ returns c = search needs
 line-requires : tie.Need-line-requires Inv-loop μ-loop
 line-requires c κs = search needs
 
-sub-note-record : tie.Need-sub-note-record Inv-loop μ-loop
-sub-note-record c =
-    let t = handed (c .before .before .before .before .before .before .args .w .now) (c .before .before .before .loop .from) (c .line .result) (c .before .before .loop-test .taken) (c .line .ensures) in
-    omega arith
-
-part-note-record-start : tie.Need-part-note-record-start Inv-loop μ-loop
-part-note-record-start c =
-    let t = handed (c .before .before .before .before .before .before .args .w .now) (c .before .before .before .loop .from) (c .line .result) (c .before .before .loop-test .taken) (c .line .ensures) in
-    search needs
-
-part-note-record-end : tie.Need-part-note-record-end Inv-loop μ-loop
-part-note-record-end c =
-    let t = handed (c .before .before .before .before .before .before .args .w .now) (c .before .before .before .loop .from) (c .line .result) (c .before .before .loop-test .taken) (c .line .ensures) in
-    search needs
-
 note-record-requires : tie.Need-note-record-requires Inv-loop μ-loop
 note-record-requires c κs = search needs
 
@@ -51,12 +36,12 @@ add-count c = search needs
 
 loop-less : tie.Need-loop-less Inv-loop μ-loop
 loop-less c =
-    let t = handed (c .before .before .before .before .before .before .before .before .before .before .before .args .w .now) (c .before .before .before .before .before .before .before .before .loop .from) (c .before .before .before .before .before .line .result) (c .before .before .before .before .before .before .before .loop-test .taken) (c .before .before .before .before .before .line .ensures) in
+    let t = handed (c .before .before .before .before .before .before .before .before .before .before .args .w .now) (c .before .before .before .before .before .before .before .loop .from) (c .before .before .before .before .line .result) (c .before .before .before .before .before .before .loop-test .taken) (c .before .before .before .before .line .ensures) in
     omega arith
 
 loop-again : tie.Need-loop-again Inv-loop μ-loop
 loop-again c =
-    (search needs, c .before .before .note-record .kept .1 .1 .1 .0 ∙ c .before .before .before .before .before .before .before .before .loop .inv .1)
+    (search needs, c .before .before .note-record .kept .1 .1 .1 .1 .0 ∙ c .before .before .before .before .before .before .before .loop .inv .1)
 
 same-length-2 : tie.Need-same-length-2 Inv-loop μ-loop
 same-length-2 c = search needs
@@ -74,9 +59,6 @@ note-records-spec =
     same-length
     returns
     line-requires
-    sub-note-record
-    part-note-record-start
-    part-note-record-end
     note-record-requires
     add-count
     loop-less

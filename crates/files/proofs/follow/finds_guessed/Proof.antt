@@ -8,11 +8,11 @@ use Rattle.files.proofs.follow.finds_guessed.Tie as tie
 
 abbrev Inv-loop : tie.InvT-loop
 Inv-loop w g h choice key bits i₀ i =
-    i ≤ 50176
+    i ≤ 57344
 
 abbrev μ-loop : tie.MeasureT-loop
 μ-loop w g h choice key bits i₀ i =
-    50176 - i
+    57344 - i
 
 find-bits-requires : tie.Need-find-bits-requires Inv-loop μ-loop
 find-bits-requires c κs = search needs

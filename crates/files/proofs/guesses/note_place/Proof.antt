@@ -8,11 +8,11 @@ use Rattle.files.proofs.guesses.note_place.Tie as tie
 
 abbrev Inv-loop : tie.InvT-loop
 Inv-loop g₀ h at mark i₀ g i =
-    (i ≤ 50176) × (length g ≡ 50176)
+    (i ≤ 57344) × (length g ≡ 57344)
 
 abbrev μ-loop : tie.MeasureT-loop
 μ-loop g₀ h at mark i₀ g i =
-    50176 - i
+    57344 - i
 
 returns : tie.Need-returns Inv-loop μ-loop
 returns c = search needs

@@ -14,7 +14,7 @@ use Rattle.files.proofs.references.loses.Tie as tie
 
 abbrev Inv-loop : tie.InvT-loop
 Inv-loop s w at e t aims g₀ f n known₀ r₀ g known r =
-    (r ≤ n) × (some (lacks s aims t (fields f)) r (n - r) ≡ some (lacks s aims t (fields f)) 0 n) × (length g ≡ 50176)
+    (r ≤ n) × (some (lacks s aims t (fields f)) r (n - r) ≡ some (lacks s aims t (fields f)) 0 n) × (length g ≡ 57344)
 
 abbrev μ-loop : tie.MeasureT-loop
 μ-loop s w at e t aims g₀ f n known₀ r₀ g known r =
@@ -60,7 +60,7 @@ reaches-requires c κs =
 
 same-length : tie.Need-same-length Inv-loop μ-loop
 same-length c =
-    c .before .before .before .before .reaches .kept .1 .1 .1 .1 .1 .1 .1 .1 .0 ∙ c .before .before .before .before .before .before .before .before .loop .inv .2 ∙ sym (c .before .before .before .before .before .before .before .before .before .before .before .before .before .before .before .before .before .before .pre .3)
+    c .before .before .before .before .reaches .kept .1 .1 .1 .1 .1 .1 .1 .0 ∙ c .before .before .before .before .before .before .before .before .loop .inv .2 ∙ sym (c .before .before .before .before .before .before .before .before .before .before .before .before .before .before .before .before .before .before .pre .3)
 
 returns-2 : tie.Need-returns-2 Inv-loop μ-loop
 returns-2 c =
@@ -75,7 +75,7 @@ loop-less c = search needs
 
 loop-again : tie.Need-loop-again Inv-loop μ-loop
 loop-again c =
-    (omega arith, sym (some-more _ (c .before .before .before .before .before .before .before .before .before .loop .r) (c .before .before .before .before .before .before .before .before .before .before .count-references .result) (c .before .before .before .before .before .before .before .before .loop-test .taken) (lacks-is (c .before .before .before .before .before .before .before .before .before .before .before .before .before .before .before .before .before .before .before .args .s .now) (c .before .before .before .before .before .before .before .before .before .before .before .before .before .before .before .before .before .before .before .args .aims) (c .before .before .before .before .before .before .before .before .before .before .before .before .before .before .before .before .before .before .before .args .t) _ (c .before .before .before .before .before .before .before .before .before .loop .r) _ (c .before .before .before .before .before .before .before .read-reference .ensures) _ _ (c .before .before .before .before .before .reaches .ensures) (c .before .if2 .left))) ∙ c .before .before .before .before .before .before .before .before .before .loop .inv .1, c .before .before .before .before .before .reaches .kept .1 .1 .1 .1 .1 .1 .1 .1 .0 ∙ c .before .before .before .before .before .before .before .before .before .loop .inv .2)
+    (omega arith, sym (some-more _ (c .before .before .before .before .before .before .before .before .before .loop .r) (c .before .before .before .before .before .before .before .before .before .before .count-references .result) (c .before .before .before .before .before .before .before .before .loop-test .taken) (lacks-is (c .before .before .before .before .before .before .before .before .before .before .before .before .before .before .before .before .before .before .before .args .s .now) (c .before .before .before .before .before .before .before .before .before .before .before .before .before .before .before .before .before .before .before .args .aims) (c .before .before .before .before .before .before .before .before .before .before .before .before .before .before .before .before .before .before .before .args .t) _ (c .before .before .before .before .before .before .before .before .before .loop .r) _ (c .before .before .before .before .before .before .before .read-reference .ensures) _ _ (c .before .before .before .before .before .reaches .ensures) (c .before .if2 .left))) ∙ c .before .before .before .before .before .before .before .before .before .loop .inv .1, c .before .before .before .before .before .reaches .kept .1 .1 .1 .1 .1 .1 .1 .0 ∙ c .before .before .before .before .before .before .before .before .before .loop .inv .2)
 
 same-length-2 : tie.Need-same-length-2 Inv-loop μ-loop
 same-length-2 c =

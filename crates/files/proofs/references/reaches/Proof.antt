@@ -30,14 +30,14 @@ guess-more-requires c κs = search needs
 reaches-late-requires : tie.Need-reaches-late-requires
 reaches-late-requires c κs =
     let b = aim-bounds (c .before .before .before .before .before .before .before .before .before .before .before .before .pre .0) (c .before .before .before .before .before .before .before .before .before .before .before .before .args .r) (c .before .before .before .before .before .before .before .before .before .before .before .before .pre .1) (c .before .before .before .before .before .before .before .before .find-aim .result) (c .before .before .before .before .before .before .before .before .find-aim .ensures) in
-    (b .0, b .1, c .before .before .before .guess-more .kept .1 .1 .1 .1 .1 .1 .1 .0 ∙ c .before .before .before .before .before .before .before .before .before .before .before .before .pre .2)
+    (b .0, b .1, c .before .before .before .guess-more .kept .1 .1 .1 .1 .1 .1 .0 ∙ c .before .before .before .before .before .before .before .before .before .before .before .before .pre .2)
 
 keep-place-requires-2 : tie.Need-keep-place-requires-2
 keep-place-requires-2 c κs = search needs
 
 same-length-2 : tie.Need-same-length-2
 same-length-2 c =
-    c .before .before .before .before .before .guess-more .kept .1 .1 .1 .1 .1 .1 .1 .0
+    c .before .before .before .before .before .guess-more .kept .1 .1 .1 .1 .1 .1 .0
 
 returns-2 : tie.Need-returns-2
 returns-2 c =

@@ -17,8 +17,8 @@ part-finds-guessed-start c = search needs
 part-finds-guessed-end : tie.Need-part-finds-guessed-end
 part-finds-guessed-end c = search needs
 
-hash-target-requires : tie.Need-hash-target-requires
-hash-target-requires c κs = search needs
+hash-reference-requires : tie.Need-hash-reference-requires
+hash-reference-requires c κs = search needs
 
 finds-guessed-requires : tie.Need-finds-guessed-requires
 finds-guessed-requires c κs = search needs
@@ -56,7 +56,7 @@ reaches-soon-spec =
     sub-finds-guessed
     part-finds-guessed-start
     part-finds-guessed-end
-    hash-target-requires
+    hash-reference-requires
     finds-guessed-requires
     returns
     sub-finds-near

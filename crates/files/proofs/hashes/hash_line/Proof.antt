@@ -1,0 +1,65 @@
+-- `files::hashes::hash_line` meets its contract. Assumes nothing.
+use Prim.Native.Nat.{_-_, _≤_}
+use lib.ListN.{length}
+use borrow.Author.Needs.{needs}
+use Rattle.files.proofs.hashes.hash_line.Statement.{statement}
+use Rattle.files.proofs.hashes.hash_line.Tie as tie
+
+abbrev Inv-loop : tie.InvT-loop
+Inv-loop w at choice x₀ i₀ x i =
+    at ≤ i
+
+abbrev μ-loop : tie.MeasureT-loop
+μ-loop w at choice x₀ i₀ x i =
+    length w - i
+
+mul-t8 : tie.Need-mul-t8 Inv-loop μ-loop
+mul-t8 c = search needs
+
+loop-holds : tie.Need-loop-holds Inv-loop μ-loop
+loop-holds c = search needs
+
+shared-slice-read-b : tie.Need-shared-slice-read-b Inv-loop μ-loop
+shared-slice-read-b c = search needs
+
+add-i : tie.Need-add-i Inv-loop μ-loop
+add-i c = search needs
+
+close-field-requires : tie.Need-close-field-requires Inv-loop μ-loop
+close-field-requires c κs = search needs
+
+returns : tie.Need-returns Inv-loop μ-loop
+returns c = search needs
+
+read-byte-requires : tie.Need-read-byte-requires Inv-loop μ-loop
+read-byte-requires c κs = search needs
+
+loop-less : tie.Need-loop-less Inv-loop μ-loop
+loop-less c = search needs
+
+loop-again : tie.Need-loop-again Inv-loop μ-loop
+loop-again c = search needs
+
+close-field-requires-2 : tie.Need-close-field-requires-2 Inv-loop μ-loop
+close-field-requires-2 c κs = search needs
+
+returns-2 : tie.Need-returns-2 Inv-loop μ-loop
+returns-2 c = search needs
+
+pub hash-line-spec : {M : Type 1} → statement M
+hash-line-spec =
+    tie.close
+    (tie.spec
+    Inv-loop
+    μ-loop
+    mul-t8
+    loop-holds
+    shared-slice-read-b
+    add-i
+    close-field-requires
+    returns
+    read-byte-requires
+    loop-less
+    loop-again
+    close-field-requires-2
+    returns-2)
