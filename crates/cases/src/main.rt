@@ -1,7 +1,19 @@
-// Lists each file that an argument names, after its name.
+// For each file that an argument names: its name, its listing, and what writing, filling and stripping make of it.
+mod writing;
+
 use libc::STDOUT_FILENO;
 
-fn list_argument(i: usize) {
+// What is listed, and one byte more.
+const ROOM: usize = 65537;
+
+fn show_file(fd: i32) {
+    let mut space = [0; ROOM];
+    let n = io::read_full(fd, &mut space);
+    listing::print_listing(&space[..n]);
+    writing::print_forms(&space[..n]);
+}
+
+fn show_argument(i: usize) {
     let mut path = io::buffer();
     let length = os::arg(i, &mut path);
     io::write_all(STDOUT_FILENO, &path[..length]);
@@ -11,7 +23,7 @@ fn list_argument(i: usize) {
         os::fail(&path[..length]);
         return;
     }
-    listing::list_descriptor(fd);
+    show_file(fd);
     libc::close(fd);
 }
 
@@ -19,7 +31,7 @@ fn main() {
     let n = os::arg_count();
     let mut i = 1;
     while i < n {
-        list_argument(i);
+        show_argument(i);
         i += 1;
     }
 }

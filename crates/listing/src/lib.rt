@@ -6,12 +6,12 @@ use page::Row;
 // "up to 64 KiB": one more byte tells that there is more.
 const ROOM: usize = 65537;
 
-fn print_number(n: u64) {
+pub fn print_number(n: u64) {
     io::write_all(STDOUT_FILENO, b";");
     io::print_decimal(STDOUT_FILENO, n);
 }
 
-fn end_line() {
+pub fn end_line() {
     io::write_all(STDOUT_FILENO, b"\n");
 }
 

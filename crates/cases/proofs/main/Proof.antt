@@ -10,7 +10,7 @@ use Rattle.cases.proofs.main.Statement.{statement}
 use Rattle.cases.proofs.main.Tie as tie
 use Rattle.cases.proofs.main.Reads as reads
 use Rattle.cases.proofs.main.Lts as lts
-use Rattle.cases.proofs.list_argument.Reads as list-argument-reads
+use Rattle.cases.proofs.show_argument.Reads as show-argument-reads
 use Rattle.os.proofs.arg_count.Reads as arg-count-reads
 
 abbrev Inv-loop : tie.InvT-loop
@@ -25,8 +25,8 @@ arg-count-requires c κs = search needs
 loop-holds : tie.Need-loop-holds Inv-loop μ-loop
 loop-holds c = search needs
 
-list-argument-requires : tie.Need-list-argument-requires Inv-loop μ-loop
-list-argument-requires c κs = search needs
+show-argument-requires : tie.Need-show-argument-requires Inv-loop μ-loop
+show-argument-requires c κs = search needs
 
 add-i : tie.Need-add-i Inv-loop μ-loop
 add-i c = search needs
@@ -48,7 +48,7 @@ main-spec =
     μ-loop
     arg-count-requires
     loop-holds
-    list-argument-requires
+    show-argument-requires
     add-i
     loop-less
     loop-again

@@ -1,0 +1,50 @@
+use borrow.Author.Needs.{needs}
+use Prim.Native.Nat.{ℕ, suc, _+_, _-_, _*_, _<_, _≤_}
+use mathlib.Core.Path.{_≡_, refl, ap, sym, _∙_}
+use mathlib.Core.Logic.{⊎-elim}
+use mathlib.Core.Bool.{Bool, true, false}
+use native.Mathlib.Omega.{arith}
+use borrow.Author.Tests.{lt-ltb, le-ltb, le-leb, lt-leb, eq-eqb, ne-eqb}
+use lib.ListN.{length, getD, take, drop}
+use Rattle.cases.proofs.writing.print_filled_section.Statement.{statement}
+use Rattle.cases.proofs.writing.print_filled_section.Tie as tie
+use Rattle.cases.proofs.writing.print_filled_section.Reads as reads
+use Rattle.cases.proofs.writing.print_filled_section.Lts as lts
+use Rattle.cases.proofs.writing.print_filled_record.Reads as print-filled-record-reads
+
+abbrev Inv-loop : tie.InvT-loop
+Inv-loop s section records record₀ «record» = «record» ≤ records
+
+abbrev μ-loop : tie.MeasureT-loop
+μ-loop s section records record₀ «record» = records - «record»
+
+loop-holds : tie.Need-loop-holds Inv-loop μ-loop
+loop-holds c = search needs
+
+add-record : tie.Need-add-record Inv-loop μ-loop
+add-record c = search needs
+
+print-filled-record-requires : tie.Need-print-filled-record-requires Inv-loop μ-loop
+print-filled-record-requires c κs = search needs
+
+loop-less : tie.Need-loop-less Inv-loop μ-loop
+loop-less c = search needs
+
+loop-again : tie.Need-loop-again Inv-loop μ-loop
+loop-again c = search needs
+
+returns : tie.Need-returns Inv-loop μ-loop
+returns c = search needs
+
+pub print-filled-section-spec : {M : Type 1} → statement M
+print-filled-section-spec =
+    tie.close
+    (tie.spec
+    Inv-loop
+    μ-loop
+    loop-holds
+    add-record
+    print-filled-record-requires
+    loop-less
+    loop-again
+    returns)
