@@ -14,6 +14,7 @@ mod lines;
 mod listing;
 mod marks;
 mod section;
+mod showing;
 mod tables;
 
 pub use answer::{number, Answer, Verdict, LIMIT};
@@ -26,3 +27,4 @@ pub use forms::{fill, strip, write};
 pub use header::{Charset, Date, Header, Time};
 pub use listing::{listing, LISTED};
 pub use section::{Owner, Record, Value};
+pub use showing::forms_shown;

@@ -8,7 +8,7 @@ use std::fs;
 use std::path::PathBuf;
 
 use common::answer;
-use reader::{check, listing, strip, write, Answer};
+use reader::{check, forms_shown, listing, strip, write, Answer};
 
 fn folder() -> PathBuf {
     PathBuf::from(env!("CARGO_MANIFEST_DIR")).join("../../crates/cases")
@@ -87,7 +87,7 @@ fn every_case_has_its_place() {
 }
 
 #[test]
-fn the_expected_output_is_every_name_and_listing() {
+fn the_expected_output_is_every_name_listing_and_form() {
     let cases = cases();
     let names: String = cases.keys().map(|name| format!("{name}\n")).collect();
     assert!(read_text("args") == names, "args names other files");
@@ -95,9 +95,10 @@ fn the_expected_output_is_every_name_and_listing() {
     for (name, file) in &cases {
         expected.extend_from_slice(format!("{name}\n").as_bytes());
         expected.extend_from_slice(&listing(file));
+        expected.extend_from_slice(&forms_shown(file));
     }
     let stdout = fs::read(folder().join("stdout")).unwrap();
-    assert!(stdout == expected, "stdout is not what is listed");
+    assert!(stdout == expected, "stdout is not what the reader shows");
 }
 
 #[test]

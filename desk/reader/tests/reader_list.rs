@@ -7,7 +7,7 @@ use std::path::PathBuf;
 use std::process::{Command, Output, Stdio};
 
 use common::DAMAGED;
-use reader::listing;
+use reader::{forms_shown, listing};
 
 fn program() -> Command {
     Command::new(env!("CARGO_BIN_EXE_reader-list"))
@@ -48,8 +48,13 @@ fn named_files() {
         output.stdout
     };
     assert_eq!(run(&["damaged.x10"]), listing(DAMAGED));
-    let named = run(&["--names", "damaged.x10", "damaged.x10"]);
-    let once = [b"damaged.x10\n", &listing(DAMAGED)[..]].concat();
+    let named = run(&["--cases", "damaged.x10", "damaged.x10"]);
+    let once = [
+        b"damaged.x10\n",
+        &listing(DAMAGED)[..],
+        &forms_shown(DAMAGED)[..],
+    ]
+    .concat();
     assert_eq!(named, once.repeat(2));
 }
 
