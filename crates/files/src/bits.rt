@@ -35,12 +35,13 @@ fn set_bits(t: &mut [u64], i: usize, m: u64) -> bool
 }
 
 // Sets the bits m in the two words of a hash, of n words. Were they all set?
-fn put_bits(t: &mut [u64], n: u64, h: u64, m: u64) -> bool
+fn put_bits(t: &mut [u64], n: usize, h: u64, m: u64) -> bool
     requires { ⌜ (0 < n) × (n ≤ length (now t)) ⌝ }
     ensures { λ r. ⌜ Added (now (t .entry)) n h m r (now (t .exit)) ⌝ }
 {
-    let a = set_bits(t, (h % n) as usize, m);
-    let b = set_bits(t, (h / 16384 % n) as usize, m);
+    let k = n as u64;
+    let a = set_bits(t, (h % k) as usize, m);
+    let b = set_bits(t, (h / 16384 % k) as usize, m);
     if a {
         return b;
     }
@@ -48,7 +49,7 @@ fn put_bits(t: &mut [u64], n: u64, h: u64, m: u64) -> bool
 }
 
 // For a table that is to be crowded: few bits a hash.
-pub fn put_two(t: &mut [u64], n: u64, h: u64) -> bool
+pub fn put_two(t: &mut [u64], n: usize, h: u64) -> bool
     requires { ⌜ (0 < n) × (n ≤ length (now t)) ⌝ }
     ensures { λ r. ⌜ Added (now (t .entry)) n h (two-of h) r (now (t .exit)) ⌝ }
 {
@@ -57,7 +58,7 @@ pub fn put_two(t: &mut [u64], n: u64, h: u64) -> bool
 }
 
 // For a table that stays sparse.
-pub fn put_four(t: &mut [u64], n: u64, h: u64) -> bool
+pub fn put_four(t: &mut [u64], n: usize, h: u64) -> bool
     requires { ⌜ (0 < n) × (n ≤ length (now t)) ⌝ }
     ensures { λ r. ⌜ Added (now (t .entry)) n h (four-of h) r (now (t .exit)) ⌝ }
 {
@@ -65,15 +66,16 @@ pub fn put_four(t: &mut [u64], n: u64, h: u64) -> bool
     put_bits(t, n, h, m)
 }
 
-pub fn has_four(t: &[u64], n: u64, h: u64) -> bool
+pub fn has_four(t: &[u64], n: usize, h: u64) -> bool
     requires { ⌜ (0 < n) × (n ≤ length (now t)) ⌝ }
     ensures { λ r. ⌜ Probed (now (t .entry)) n h (four-of h) r ⌝ }
 {
+    let k = n as u64;
     let m = choose_four(h);
-    let a = t[(h % n) as usize] & m;
+    let a = t[(h % k) as usize] & m;
     if a != m {
         return false;
     }
-    let b = t[(h / 16384 % n) as usize] & m;
+    let b = t[(h / 16384 % k) as usize] & m;
     b == m
 }

@@ -14,6 +14,11 @@ use crate::scan::is_again;
 use crate::scan::is_record;
 use lines::Cursor;
 
+// Words of the table that all records of a round are put into, and of that of the doubtful ones.
+const CROWD: usize = 20480;
+
+const DOUBTS: usize = 4096;
+
 fn hash_line(l: &[u8], choice: u64) -> u64
     ensures { λ r. ⌜ r ≡ hash-of choice (now (l .entry)) ⌝ }
 {
@@ -49,8 +54,8 @@ fn mark_doubts(
         let h = hash_line(&w[here..e], choice);
         if find_lane(h, n) == r {
             if is_record(&w[here..e]) {
-                if put_two(t, 20480, h) {
-                    put_four(doubts, 4096, h);
+                if put_two(t, CROWD, h) {
+                    put_four(doubts, DOUBTS, h);
                 }
             }
         }
@@ -75,9 +80,9 @@ fn settle_doubts(w: &[u8], choice: u64, last: usize, doubts: &[u64], t: &mut [u6
         at = e;
         i += 1;
         let h = hash_line(&w[here..e], choice);
-        if has_four(doubts, 4096, h) {
+        if has_four(doubts, DOUBTS, h) {
             if is_record(&w[here..e]) {
-                if put_four(t, 20480, h) {
+                if put_four(t, CROWD, h) {
                     if is_again(w, here, e, choice) {
                         return k;
                     }
@@ -101,8 +106,8 @@ fn sift_round(w: &[u8], choice: u64, r: u64, n: u64, last: usize) -> usize
     requires { ⌜ n < 2 ^ 32 ⌝ }
     ensures { λ e. ⌜ Round choice (lines (now (w .entry))) r n last e ⌝ }
 {
-    let mut t = [0; 20480];
-    let mut doubts = [0; 4096];
+    let mut t = [0; CROWD];
+    let mut doubts = [0; DOUBTS];
     mark_doubts(w, choice, r, n, last, &mut t, &mut doubts);
     wipe(&mut t);
     settle_doubts(w, choice, last, &doubts, &mut t)
