@@ -34,18 +34,30 @@ fn close_field(x: Walk) -> u64 {
     x.hash
 }
 
-fn add_digit(value: u64, b: u8) -> u64 {
-    let d = widen(b);
-    if d < 48 {
-        return value;
-    }
-    if 57 < d {
-        return value;
-    }
-    value % 1152921504606846976 * 10 + (d - 48)
+// The high bits of a hash choose its slot, and numbers that lie near each other part only in the low ones: so it is mixed once more.
+fn close_line(x: Walk) -> u64 {
+    mix(close_field(x))
 }
 
+fn add_digit(x: Walk, d: u64) -> Walk
+    requires { ⌜ d < 256 ⌝ }
+{
+    Walk {
+        rest: x.rest,
+        hash: x.hash,
+        value: x.value % 1152921504606846976 * 10 + d,
+        inside: x.inside,
+    }
+}
+
+// Most bytes are digits.
 fn read_byte(x: Walk, b: u8) -> Walk {
+    let d = widen(b);
+    if 48 <= d {
+        if d < 58 {
+            return add_digit(x, d - 48);
+        }
+    }
     if b == 34 {
         return Walk {
             rest: x.rest,
@@ -55,12 +67,7 @@ fn read_byte(x: Walk, b: u8) -> Walk {
         };
     }
     if b != 59 {
-        return Walk {
-            rest: x.rest,
-            hash: x.hash,
-            value: add_digit(x.value, b),
-            inside: x.inside,
-        };
+        return x;
     }
     if x.inside {
         return x;
@@ -87,14 +94,14 @@ pub fn hash_line(w: &[u8], at: usize, choice: u64) -> Hashed {
         i += 1;
         if b == 10 {
             return Hashed {
-                hash: close_field(x),
+                hash: close_line(x),
                 next: i,
             };
         }
         x = read_byte(x, b);
     }
     Hashed {
-        hash: close_field(x),
+        hash: close_line(x),
         next: i,
     }
 }

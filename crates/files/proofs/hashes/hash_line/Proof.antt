@@ -25,8 +25,8 @@ shared-slice-read-b c = search needs
 add-i : tie.Need-add-i Inv-loop μ-loop
 add-i c = search needs
 
-close-field-requires : tie.Need-close-field-requires Inv-loop μ-loop
-close-field-requires c κs = search needs
+close-line-requires : tie.Need-close-line-requires Inv-loop μ-loop
+close-line-requires c κs = search needs
 
 returns : tie.Need-returns Inv-loop μ-loop
 returns c = search needs
@@ -40,8 +40,8 @@ loop-less c = search needs
 loop-again : tie.Need-loop-again Inv-loop μ-loop
 loop-again c = search needs
 
-close-field-requires-2 : tie.Need-close-field-requires-2 Inv-loop μ-loop
-close-field-requires-2 c κs = search needs
+close-line-requires-2 : tie.Need-close-line-requires-2 Inv-loop μ-loop
+close-line-requires-2 c κs = search needs
 
 returns-2 : tie.Need-returns-2 Inv-loop μ-loop
 returns-2 c = search needs
@@ -56,10 +56,10 @@ hash-line-spec =
     loop-holds
     shared-slice-read-b
     add-i
-    close-field-requires
+    close-line-requires
     returns
     read-byte-requires
     loop-less
     loop-again
-    close-field-requires-2
+    close-line-requires-2
     returns-2)
