@@ -28,7 +28,7 @@ module _ (a b r : Refusal) (e : r ≡ a) where
   unfolding earlier
   earlier-more n x q = rw (sym e, eq-eqb (r .number) 0 n) q
 
-unsound-sound : (i : ℕ) (rs : List Row) → first-unsound i rs .number ≡ 0 → first-unsound i rs ≡ sound
+pub unsound-sound : (i : ℕ) (rs : List Row) → first-unsound i rs .number ≡ 0 → first-unsound i rs ≡ sound
 unfolding first-unsound
 unsound-sound i [] e = refl
 unsound-sound i (r ∷ rs) e = by (eqb (r .verdict) 0) refl e (unsound-sound (suc i) rs)
