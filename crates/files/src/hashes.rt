@@ -1,6 +1,7 @@
 // A hash of the numbers that a line has in the fields of a choice, in one walk over its bytes. It is for guesses: nothing is checked, and
 // a line that is no record has one too. Records whose numbers are equal have the same, however they are written.
 ghost use Prim.Native.Nat.{_<_};
+use lines::Cursor;
 
 // What is left of the choice, the hash of the fields before, and the field's number as far as it was read.
 struct Walk {
@@ -80,7 +81,7 @@ fn read_byte(x: Walk, b: u8) -> Walk {
     }
 }
 
-// The command is a field that is not chosen.
+// The command is a field that is not chosen. Behind the last chosen field the line is only passed over.
 pub fn hash_line(w: &[u8], at: usize, choice: u64) -> Hashed {
     let mut x = Walk {
         rest: choice % 4611686018427387904 * 4,
@@ -99,6 +100,12 @@ pub fn hash_line(w: &[u8], at: usize, choice: u64) -> Hashed {
             };
         }
         x = read_byte(x, b);
+        if x.rest == 0 {
+            return Hashed {
+                hash: close_line(x),
+                next: Cursor { at: i }.line(w).span.to,
+            };
+        }
     }
     Hashed {
         hash: close_line(x),
