@@ -28,7 +28,7 @@ module _ (a b r : Refusal) (e : r ≡ a) where
   unfolding earlier
   earlier-more n x q = rw (sym e, eq-eqb (r .number) 0 n) q
 
-unsound-sound : (i : ℕ) (rs : List Row) → first-unsound i rs .number ≡ 0 → first-unsound i rs ≡ sound
+pub unsound-sound : (i : ℕ) (rs : List Row) → first-unsound i rs .number ≡ 0 → first-unsound i rs ≡ sound
 unfolding first-unsound
 unsound-sound i [] e = refl
 unsound-sound i (r ∷ rs) e = by (eqb (r .verdict) 0) refl e (unsound-sound (suc i) rs)
@@ -39,32 +39,32 @@ unsound-sound i (r ∷ rs) e = by (eqb (r .verdict) 0) refl e (unsound-sound (su
     by true q e ih = ih e
     by false q e ih = absurd (eqb-false (r .verdict) 0 q e)
 
--- u is the first unsound section
-module _ (s : Bytes) (latin : Bool) (q : latin ≡ latinOf s) (u : Refusal) (x : u ≡ first-unsound 1 (map (rowOf latin) (sections s))) where
-  unsound-is : u ≡ first-unsound 1 (rowsOf s)
-  unfolding rowsOf
-  unsound-is = rw q at x
+pub unsound-found : (s : Bytes) (latin : Bool) → latin ≡ latinOf s → (u : Refusal) → u ≡ first-unsound 1 (map (rowOf latin) (sections s)) → u ≡ first-unsound 1 (rowsOf s)
+unfolding rowsOf
+unsound-found s latin q u x = rw q at x
 
+-- u is the first unsound section
+module _ (s : Bytes) (u : Refusal) (x : u ≡ first-unsound 1 (rowsOf s)) where
   pub sections-unsound : (u .number ≡ 0 → ⊥) → u ≡ section-refusal s
   unfolding section-refusal
-  sections-unsound n = earlier-hit _ _ u unsound-is n
+  sections-unsound n = earlier-hit _ _ u x n
 
   module _ (z : u .number ≡ 0) where
     pub none-unsound : first-unsound 1 (rowsOf s) ≡ sound
-    none-unsound = unsound-sound 1 (rowsOf s) (sym (ap (λ (r : Refusal). r .number) unsound-is) ∙ z)
+    none-unsound = unsound-sound 1 (rowsOf s) (sym (ap (λ (r : Refusal). r .number) x) ∙ z)
 
     module _ (r : Seats) (y : Seating s r) where
       pub sections-again : (r .again ≡ 0 → ⊥) → refusal 17 (r .again) 1 ≡ section-refusal s
       unfolding section-refusal again-refusal
       sections-again n =
           let w : refusal 17 (r .again) 1 ≡ first-again [] 1 (rowsOf s) = rw (ne-eqb (r .again) 0 n) at (y .again) in
-          earlier-more _ _ u unsound-is z (refusal 17 (r .again) 1) (earlier-hit _ _ (refusal 17 (r .again) 1) w (λ e. omega arith))
+          earlier-more _ _ u x z (refusal 17 (r .again) 1) (earlier-hit _ _ (refusal 17 (r .again) 1) w (λ e. omega arith))
 
       pub sections-records : r .again ≡ 0 → (v : Refusal) → v ≡ record-refusal (filedOf s) → v ≡ section-refusal s
       unfolding section-refusal again-refusal
       sections-records n v e =
           let w : sound ≡ first-again [] 1 (rowsOf s) = rw (eq-eqb (r .again) 0 n) at (y .again) in
-          earlier-more _ _ u unsound-is z v (earlier-more _ _ sound w refl v e)
+          earlier-more _ _ u x z v (earlier-more _ _ sound w refl v e)
 
 -- h is the header's refusal, and f what the trailer is found to be
 module _ (s : Bytes) (h : Refusal) (x : h ≡ header-refusal s) where

@@ -3,7 +3,8 @@ use mathlib.Core.Path.{_≡_}
 use mathlib.Core.Bool.{Bool, false, not}
 use mathlib.Core.List.{List}
 use Prim.Native.Nat.{ℕ, _-_, _<_, _≤_}
-use lib.ListN.{length, getD, take, drop}
+use lib.Dec.{eqb}
+use lib.ListN.{length, take, drop}
 use Rattle.page.specs.Bytes.{Bytes, pick}
 use Rattle.page.specs.Lines.{lines, content, rest}
 use Rattle.page.specs.Fields.{fields}
@@ -17,11 +18,8 @@ use Rattle.files.specs.declared.aims.Aim.{Aim}
 use Rattle.files.specs.declared.aims.Aims.{Aims}
 use Rattle.files.specs.declared.seating.Seats.{Seats}
 
-abbrev pub no-aim : Aim
-no-aim = record { refer = 0; target = 0; from = 0; to = 0; key = 0 }
-
 unfoldable pub aim-at : Aims → ℕ → Aim
-aim-at a r = getD (a .all) r no-aim
+aim-at a r = pick (eqb r 0) (a .first) (pick (eqb r 1) (a .second) (a .third))
 
 -- a record in the bytes of an aim has the key k
 unfoldable pub reached : Bytes → Aim → List ℕ → Bool

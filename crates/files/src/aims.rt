@@ -21,8 +21,11 @@ pub struct Aim {
     pub key: u64,
 }
 
+// Each has its own field, not a place in an array, so that what a loop needs of them stays in the machine's registers.
 pub struct Aims {
-    pub all: [Aim; MOST],
+    pub first: Aim,
+    pub second: Aim,
+    pub third: Aim,
 }
 
 // The section of a table, from 1, or 0.
@@ -72,13 +75,22 @@ pub fn take_aims(s: &[u8], seats: Seats, t: usize) -> Aims
     let a = take_aim(s, seats, t, 0);
     let b = take_aim(s, seats, t, 1);
     let c = take_aim(s, seats, t, 2);
-    Aims { all: [a, b, c] }
+    Aims {
+        first: a,
+        second: b,
+        third: c,
+    }
 }
 
 pub fn find_aim(aims: Aims, r: usize) -> Aim
     requires { ⌜ r < 3 ⌝ }
     ensures { λ x. ⌜ x ≡ aim-at aims r ⌝ }
 {
-    let all = aims.all;
-    all[r]
+    if r == 0 {
+        return aims.first;
+    }
+    if r == 1 {
+        return aims.second;
+    }
+    aims.third
 }

@@ -1,6 +1,8 @@
 // "The file gives the first of 1, 2, 3, the first unsound section in file order, 17, 18, 19, 20."
 ghost use mathlib.Core.Path.{_≡_};
-ghost use Rattle.page.specs.File.{filedOf, record-refusal, section-refusal, file-refusal, checkOf};
+ghost use mathlib.Core.Bool.{true};
+ghost use Rattle.page.specs.Answers.{sound};
+ghost use Rattle.page.specs.File.{filedOf, rowsOf, first-unsound, record-refusal, section-refusal, file-refusal, checkOf};
 ghost use Rattle.files.specs.Seating.{Ready};
 use crate::references::first_lost;
 use crate::repeats::first_repeat;
@@ -26,11 +28,27 @@ fn check_records(s: &[u8], seats: Seats) -> Refusal
     first_lost(s, seats)
 }
 
+// `known`: every section has been read and is sound, so that none is read again.
+fn find_unsound(s: &[u8], known: bool) -> Refusal
+    requires { ⌜ (known ≡ true → first-unsound 1 (rowsOf (now s)) ≡ sound) ⌝ }
+    ensures { λ r. ⌜ r ≡ first-unsound 1 (rowsOf (now (s .entry))) ⌝ }
+{
+    if known {
+        return Refusal {
+            number: 0,
+            section: 0,
+            line: 0,
+        };
+    }
+    first_unsound(s, headers::read_charset(s))
+}
+
 // The sections', 17, and the records'.
-fn check_sections(s: &[u8]) -> Refusal
+fn check_sections(s: &[u8], known: bool) -> Refusal
+    requires { ⌜ (known ≡ true → first-unsound 1 (rowsOf (now s)) ≡ sound) ⌝ }
     ensures { λ r. ⌜ r ≡ section-refusal (now (s .entry)) ⌝ }
 {
-    let unsound = first_unsound(s, headers::read_charset(s));
+    let unsound = find_unsound(s, known);
     if unsound.number != 0 {
         return unsound;
     }
@@ -46,7 +64,9 @@ fn check_sections(s: &[u8]) -> Refusal
     check_records(s, seats)
 }
 
-pub fn check_file(s: &[u8]) -> Refusal
+// The file's answer for whoever has read its sections.
+pub fn check_known(s: &[u8], known: bool) -> Refusal
+    requires { ⌜ (known ≡ true → first-unsound 1 (rowsOf (now s)) ≡ sound) ⌝ }
     ensures { λ r. ⌜ r ≡ file-refusal (now (s .entry)) ⌝ }
 {
     let header = headers::refuse_header(s);
@@ -63,7 +83,13 @@ pub fn check_file(s: &[u8]) -> Refusal
             line: line,
         };
     }
-    check_sections(s)
+    check_sections(s, known)
+}
+
+pub fn check_file(s: &[u8]) -> Refusal
+    ensures { λ r. ⌜ r ≡ file-refusal (now (s .entry)) ⌝ }
+{
+    check_known(s, false)
 }
 
 pub fn check(s: &[u8]) -> Checked

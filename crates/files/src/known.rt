@@ -1,70 +1,86 @@
-// What is known of a table's references while its records are read.
-use crate::aims::MOST;
+// What is known of a table's references while its records are read. Each has its own field, not a place in an array, so that what is
+// known stays in the machine's registers.
 
 // Of each reference, where it found its last record, and whether it is guessed; and where in the section the guesses end.
 pub struct Known {
-    pub at: [usize; MOST],
-    pub guessed: [bool; MOST],
+    pub first: usize,
+    pub second: usize,
+    pub third: usize,
+    pub first_guessed: bool,
+    pub second_guessed: bool,
+    pub third_guessed: bool,
     pub until: usize,
 }
 
 pub fn nothing_known() -> Known {
     Known {
-        at: [0; MOST],
-        guessed: [false; MOST],
+        first: 0,
+        second: 0,
+        third: 0,
+        first_guessed: false,
+        second_guessed: false,
+        third_guessed: false,
         until: 0,
     }
 }
 
 pub fn last_place(k: Known, r: usize) -> usize {
-    let all = k.at;
-    if r < MOST {
-        return all[r];
+    if r == 0 {
+        return k.first;
     }
-    0
+    if r == 1 {
+        return k.second;
+    }
+    k.third
+}
+
+fn put_place(here: bool, new: usize, old: usize) -> usize {
+    if here { new } else { old }
 }
 
 pub fn keep_place(k: Known, r: usize, at: usize) -> Known {
-    let mut all = k.at;
-    let guessed = k.guessed;
-    if r < MOST {
-        all[r] = at;
-    }
     Known {
-        at: all,
-        guessed: guessed,
+        first: put_place(r == 0, at, k.first),
+        second: put_place(r == 1, at, k.second),
+        third: put_place(r == 2, at, k.third),
+        first_guessed: k.first_guessed,
+        second_guessed: k.second_guessed,
+        third_guessed: k.third_guessed,
         until: k.until,
     }
 }
 
 pub fn is_guessed(k: Known, r: usize) -> bool {
-    let all = k.guessed;
-    if r < MOST {
-        return all[r];
+    if r == 0 {
+        return k.first_guessed;
     }
-    false
+    if r == 1 {
+        return k.second_guessed;
+    }
+    k.third_guessed
 }
 
 // From now on with guesses for a reference.
 pub fn let_guess(k: Known, r: usize) -> Known {
-    let at = k.at;
-    let mut all = k.guessed;
-    if r < MOST {
-        all[r] = true;
-    }
     Known {
-        at: at,
-        guessed: all,
+        first: k.first,
+        second: k.second,
+        third: k.third,
+        first_guessed: r == 0 || k.first_guessed,
+        second_guessed: r == 1 || k.second_guessed,
+        third_guessed: r == 2 || k.third_guessed,
         until: k.until,
     }
 }
 
 pub fn keep_end(k: Known, until: usize) -> Known {
-    let at = k.at;
-    let guessed = k.guessed;
     Known {
-        at: at,
-        guessed: guessed,
+        first: k.first,
+        second: k.second,
+        third: k.third,
+        first_guessed: k.first_guessed,
+        second_guessed: k.second_guessed,
+        third_guessed: k.third_guessed,
         until: until,
     }
 }

@@ -16,6 +16,7 @@ mod unsound;
 
 pub use answer::check;
 pub use answer::check_file;
+pub use answer::check_known;
 pub use references::first_lost;
 pub use repeats::first_repeat;
 pub use scan::finds;

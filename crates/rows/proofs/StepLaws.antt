@@ -12,7 +12,7 @@ use Rattle.page.proofs.LineLaws.{joined-lines}
 use Rattle.page.proofs.CutLaws.{sections-from}
 use Rattle.sections.specs.Walk.{section-size, section-from, Next}
 use Rattle.sections.proofs.WalkLaws.{section-within, walk-here}
-use Rattle.rows.specs.Walk.{Begins, first-place, stepOf}
+use Rattle.rows.specs.Walk.{Begins, first-place, stays, stepOf}
 use Rattle.rows.proofs.SectionLaws.{begins-settled, first-next}
 
 length-is : (s : Bytes) (at : ℕ) (latin : Bool) → rowOf latin (section-from s at) .length ≡ length (take (section-size (drop at s)) (drop at s))
@@ -29,8 +29,9 @@ module _ (s : Bytes) (at : ℕ) (b : Begins s at) (latin : Bool) (row : Row) (q 
   pub row-within : at + row .length ≤ length s
   row-within = omega (arith, row-size, section-within s at (b .within))
 
-  pub step-is : (next : ℕ) → Next s (at + row .length) next → record { row = row; next = next } ≡ stepOf s at latin
+  pub step-is : (next : ℕ) → Next s (at + row .length) next → (before sound : Bool) → sound ≡ stays before (row .verdict)
+      → record { row = row; next = next; sound = sound } ≡ stepOf s at latin before
   unfolding stepOf
-  step-is next x =
+  step-is next x before sound y =
       let n : next ≡ first-place s (sections-from s (at + section-size (drop at s))) = rw row-size at (first-next s (at + row .length) next x) in
-      rw (walk-here s at (b .within) (begins-settled s at b), n, q)
+      rw (walk-here s at (b .within) (begins-settled s at b), n, y, q)

@@ -6,19 +6,20 @@ use Prim.Native.Nat.{ℕ, zero, suc, _+_, _<_, _≤_}
 use native.Mathlib.Nat.{le-refl}
 use native.Mathlib.Numerals.{add-one}
 use native.Mathlib.Omega.{arith}
-use borrow.Author.Tests.{ltb-false}
+use borrow.Author.Tests.{ltb-false, eqb-true, eqb-false}
 use lib.Dec.{eqb, ltb}
 use lib.ListN.{length, take, drop, getD, set, length-append, length-drop}
 use lib.Seq.{length-take-le, take-suc, take-length, drop-cons, drop-drop, set-at, append-snoc}
 use Rattle.page.specs.Bytes.{Bytes, pick}
 use Rattle.page.specs.Cut.{Section, sections}
 use Rattle.page.specs.Head.{latinOf}
-use Rattle.page.specs.Answers.{earlier, refuse-if}
-use Rattle.page.specs.File.{header-refusal, rowOf, rowsOf}
+use Rattle.page.specs.Answers.{refusal, sound, earlier, refuse-if}
+use Rattle.page.specs.File.{header-refusal, rowOf, rowsOf, first-unsound}
 use Rattle.page.specs.Reading.{no-section, list-refusal, rows-after}
 use Rattle.page.specs.declared.Row.{Row}
 use Rattle.page.specs.declared.Refusal.{Refusal}
-use Rattle.rows.specs.Walk.{Begins, first-place, stepOf, accepts, atOf, startOf, no-row, rowAt, stepAt, filled}
+use Rattle.files.proofs.AnswerLaws.{unsound-sound}
+use Rattle.rows.specs.Walk.{Begins, first-place, stays, stepOf, accepts, atOf, startOf, no-row, rowAt, soundAt, stepAt, filled}
 use Rattle.rows.proofs.SectionLaws.{section-begins, section-rest}
 
 map-length : (latin : Bool) (xs : List Section) → length (map (rowOf latin) xs) ≡ length xs
@@ -42,13 +43,48 @@ row-is s k h = sym (map-at (latinOf s) (sections s) k h)
 first-of : (s : Bytes) (xs : List Section) (k : ℕ) → k < length xs → first-place s (drop k xs) ≡ getD xs k no-section .place
 first-of s xs k h = rw (drop-cons xs k no-section h)
 
+-- one section more is sound, or none is after it
+unsound-more : (i k : ℕ) (rs : List Row) → k < length rs
+    → stays (eqb (first-unsound i (take k rs) .number) 0) (getD rs k no-row .verdict) ≡ eqb (first-unsound i (take (suc k) rs) .number) 0
+unfolding first-unsound stays
+unsound-more i k [] h = absurd (omega arith)
+unsound-more i zero (r ∷ rs) h = by (eqb (r .verdict) 0) refl
+  where
+    by : (b : Bool) → eqb (r .verdict) 0 ≡ b → pick b true false ≡ eqb (pick b sound (refusal (r .verdict) i (r .line)) .number) 0
+    by true e = refl
+    by false e = sym e
+unsound-more i (suc k) (r ∷ rs) h = by (eqb (r .verdict) 0) refl (unsound-more (suc i) k rs (omega arith))
+  where
+    none : (b : Bool) → pick b false false ≡ false
+    none true = refl
+    none false = refl
+
+    by : (b : Bool) → eqb (r .verdict) 0 ≡ b
+        → stays (eqb (first-unsound (suc i) (take k rs) .number) 0) (getD rs k no-row .verdict) ≡ eqb (first-unsound (suc i) (take (suc k) rs) .number) 0
+        → pick (eqb (getD rs k no-row .verdict) 0) (eqb (pick b (first-unsound (suc i) (take k rs)) (refusal (r .verdict) i (r .line)) .number) 0) false ≡ eqb (pick b (first-unsound (suc i) (take (suc k) rs)) (refusal (r .verdict) i (r .line)) .number) 0
+    by true e ih = ih
+    by false e ih = rw e (none (eqb (getD rs k no-row .verdict) 0))
+
+sound-more : (s : Bytes) (k : ℕ) → k < length (sections s) → stays (soundAt s k) (rowAt s k .verdict) ≡ soundAt s (k + 1)
+unfolding soundAt rowAt
+sound-more s k h = rw add-one (unsound-more 1 k (rowsOf s) (rw (rows-length s) h))
+
+pub sound-none : (s : Bytes) → true ≡ soundAt s 0
+unfolding soundAt first-unsound
+sound-none s = refl
+
+sound-all : (s : Bytes) → soundAt s (length (sections s)) ≡ true → first-unsound 1 (rowsOf s) ≡ sound
+unfolding soundAt
+sound-all s e = unsound-sound 1 (rowsOf s) (eqb-true (first-unsound 1 (rowsOf s) .number) 0 (rw (← rows-length s, take-length (rowsOf s)) at e))
+
 -- the step at section k
 step-section : (s : Bytes) (k : ℕ) → k < length (sections s)
-    → stepOf s (first-place s (drop k (sections s))) (latinOf s) ≡ record { row = rowAt s k; next = first-place s (drop (k + 1) (sections s)) }
+    → stepOf s (first-place s (drop k (sections s))) (latinOf s) (soundAt s k)
+    ≡ record { row = rowAt s k; next = first-place s (drop (k + 1) (sections s)); sound = soundAt s (k + 1) }
 unfolding stepOf
 step-section s k h =
     let head : getD (drop k (sections s)) 0 no-section ≡ getD (sections s) k no-section = rw (drop-cons (sections s) k no-section h) in
-    rw (first-of s (sections s) k h, section-rest s k h, head, drop-drop 1 k (sections s), row-is s k h)
+    rw (first-of s (sections s) k h, section-rest s k h, head, drop-drop 1 k (sections s), row-is s k h, sound-more s k h)
 
 -- listing that is not refused has room
 
@@ -65,6 +101,10 @@ pub accepted-room : (s : Bytes) (room : ℕ) → accepts s room ≡ true → len
 unfolding accepts list-refusal
 accepted-room s room h = room-in (header-refusal s) (length (sections s)) room h
 
+not-refused : (s : Bytes) (room : ℕ) → accepts s room ≡ false → list-refusal s room .number ≡ 0 → ⊥
+unfolding accepts
+not-refused s room e = eqb-false (list-refusal s room .number) 0 e
+
 -- what is known of a pass, by whether it is refused
 record Pass (s : Bytes) (room : ℕ) : Type 0 where
   refusal : startOf s room .refusal ≡ list-refusal s room
@@ -72,7 +112,8 @@ record Pass (s : Bytes) (room : ℕ) : Type 0 where
   room-for : startOf s room .count ≤ room
   sized : startOf s room .count ≤ length (sections s)
   begins : (k : ℕ) → k < startOf s room .count → Begins s (atOf s room k)
-  steps : (k : ℕ) → k < startOf s room .count → stepOf s (atOf s room k) (startOf s room .latin) ≡ stepAt s room k
+  steps : (k : ℕ) → k < startOf s room .count → stepOf s (atOf s room k) (startOf s room .latin) (soundAt s k) ≡ stepAt s room k
+  known : startOf s room .refusal .number ≡ 0 → soundAt s (startOf s room .count) ≡ true → first-unsound 1 (rowsOf s) ≡ sound
 
 pass : (s : Bytes) (room : ℕ) (b : Bool) → accepts s room ≡ b → Pass s room
 unfolding startOf atOf
@@ -84,6 +125,7 @@ pass s room true e =
       sized = rw e (le-refl (length (sections s)));
       begins = rw e (λ k h. rw (first-of s (sections s) k h) (section-begins s k h));
       steps = rw e (step-section s);
+      known = rw e (λ z. sound-all s);
     }
 pass s room false e =
     record {
@@ -93,6 +135,7 @@ pass s room false e =
       sized = rw e (omega arith);
       begins = rw e (λ k h. absurd (omega arith));
       steps = rw e (λ k h. absurd (omega arith));
+      known = rw e (λ z k. absurd (not-refused s room e z));
     }
 
 module _ (s : Bytes) (room : ℕ) where
@@ -108,8 +151,11 @@ module _ (s : Bytes) (room : ℕ) where
   pub begins-at : (k : ℕ) → k < startOf s room .count → Begins s (atOf s room k)
   begins-at = pass s room (accepts s room) refl .begins
 
-  pub step-at : (k : ℕ) → k < startOf s room .count → stepOf s (atOf s room k) (startOf s room .latin) ≡ stepAt s room k
+  pub step-at : (k : ℕ) → k < startOf s room .count → stepOf s (atOf s room k) (startOf s room .latin) (soundAt s k) ≡ stepAt s room k
   step-at = pass s room (accepts s room) refl .steps
+
+  pub known-at : startOf s room .refusal .number ≡ 0 → soundAt s (startOf s room .count) ≡ true → first-unsound 1 (rowsOf s) ≡ sound
+  known-at = pass s room (accepts s room) refl .known
 
   pub start-rows : startOf s room .count ≤ length (rowsOf s)
   start-rows = rw (rows-length s) (pass s room (accepts s room) refl .sized)

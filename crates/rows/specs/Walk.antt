@@ -8,7 +8,7 @@ use lib.ListN.{length, getD, take, drop}
 use Rattle.page.specs.Bytes.{Bytes, pick}
 use Rattle.page.specs.Cut.{Section, begins-table, sections}
 use Rattle.page.specs.Head.{latinOf}
-use Rattle.page.specs.File.{rowOf, rowsOf}
+use Rattle.page.specs.File.{rowOf, rowsOf, first-unsound}
 use Rattle.page.specs.Reading.{no-section, list-refusal}
 use Rattle.page.specs.declared.Row.{Row}
 use Rattle.page.specs.declared.Refusal.{Refusal}
@@ -27,12 +27,17 @@ abbrev pub first-place : Bytes → List Section → ℕ
 first-place s [] = length s
 first-place s (x ∷ xs) = x .place
 
--- the row of the first section from a place on, and the place of the second
-unfoldable pub stepOf : Bytes → ℕ → Bool → Step
-stepOf s at latin =
+-- is a section with this verdict sound, and were all before it?
+unfoldable pub stays : Bool → ℕ → Bool
+stays before verdict = pick (eqb verdict 0) before false
+
+-- the row of the first section from a place on, the place of the second, and whether all are sound so far
+unfoldable pub stepOf : Bytes → ℕ → Bool → Bool → Step
+stepOf s at latin before =
     record {
       row = rowOf latin (getD (sections-from s at) 0 no-section);
       next = first-place s (drop 1 (sections-from s at));
+      sound = stays before (rowOf latin (getD (sections-from s at) 0 no-section) .verdict);
     }
 
 -- "Listing is refused by 1, 2 and 21 only"
@@ -59,9 +64,13 @@ no-row = record { table = 0; place = 0; length = 0; records = 0; verdict = 0; li
 unfoldable pub rowAt : Bytes → ℕ → Row
 rowAt s i = getD (rowsOf s) i no-row
 
+-- are the first i sections sound?
+unfoldable pub soundAt : Bytes → ℕ → Bool
+soundAt s i = eqb (first-unsound 1 (take i (rowsOf s)) .number) 0
+
 -- what the pass hands out at section i
 abbrev pub stepAt : Bytes → ℕ → ℕ → Step
-stepAt s room i = record { row = rowAt s i; next = atOf s room (i + 1) }
+stepAt s room i = record { row = rowAt s i; next = atOf s room (i + 1); sound = soundAt s (i + 1) }
 
 -- lent rows, of which the first i are written
 unfoldable pub filled : Bytes → List Row → ℕ → List Row

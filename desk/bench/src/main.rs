@@ -12,7 +12,9 @@ use std::env::consts::ARCH;
 use std::process::ExitCode;
 use std::thread::available_parallelism;
 
-use measure::Measuring;
+use calls::Call;
+use face::Library;
+use measure::{Measured, Measuring};
 use options::Options;
 use report::Report;
 use samples::large::{file, Shape};
@@ -25,8 +27,8 @@ fn bench(options: &Options) -> ExitCode {
     let (subject, baseline) = (libraries::chosen().name(), libraries::baseline().name());
     let cores = available_parallelism().map_or(1, |count| count.get());
     println!(
-        "{subject} beside {baseline} on {ARCH}, {cores} cores: the best of {} runs of both in turn, in\n\
-         the time that the thread was at work. What is lent is made before the first run.",
+        "{subject} beside {baseline} on {ARCH}, {cores} cores: the best of {} runs over all sizes, of both\n\
+         in turn, in the time that the thread was at work. What is lent is made before the first run.",
         options.runs
     );
     for shape in options.shapes() {
@@ -39,27 +41,41 @@ fn bench(options: &Options) -> ExitCode {
 }
 
 fn bench_shape(options: &Options, shape: Shape) -> Result<(), String> {
-    let (subject, baseline) = (libraries::chosen(), libraries::baseline());
+    let libraries = [libraries::chosen(), libraries::baseline()];
     let sizes = options.sizes().into_iter();
     let files: Vec<_> = sizes
         .map(|size| (size, file(shape, (size as usize) << 20, 1)))
         .collect();
     println!("\n## {}\n", shape.name());
     let mut report = Report::new();
-    report.print_heading(subject.name(), baseline.name());
+    report.print_heading(libraries[0].name(), libraries[1].name());
     for call in options.calls(shape) {
-        for (mebibytes, file) in &files {
-            let measuring = Measuring {
-                call,
-                file,
-                answer: shape.answer(),
-                runs: options.runs,
-            };
-            let measured = measuring
-                .measure(subject, baseline)
-                .map_err(|words| format!("{} of {mebibytes} MiB: {words}", call.name()))?;
+        let measured = measure(options.runs, call, shape, &files, libraries)
+            .map_err(|words| format!("{}: {words}", call.name()))?;
+        for ((mebibytes, file), measured) in files.iter().zip(measured) {
             report.print(call, *mebibytes, file.len(), measured);
         }
     }
     Ok(())
+}
+
+/// Each run goes over all sizes, so that a machine that is slow for a while is
+/// slow for all of them.
+fn measure(
+    runs: u64,
+    call: Call,
+    shape: Shape,
+    files: &[(u64, Vec<u8>)],
+    libraries: [&dyn Library; 2],
+) -> Result<Vec<Measured>, String> {
+    let files = files.iter();
+    let mut measuring = files
+        .map(|(_, file)| Measuring::new(call, file, shape.answer(), libraries))
+        .collect::<Result<Vec<_>, _>>()?;
+    for _ in 0..runs {
+        for size in &mut measuring {
+            size.run()?;
+        }
+    }
+    measuring.iter().map(Measuring::measured).collect()
 }

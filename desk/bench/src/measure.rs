@@ -23,61 +23,73 @@ pub struct Taken {
     pub stack: usize,
 }
 
-/// A file to measure with, and the answer it is made to get.
-#[derive(Clone, Copy)]
+/// A call with one file, which is measured as often as it is run.
 pub struct Measuring<'a> {
-    pub call: Call,
-    pub file: &'a [u8],
-    pub answer: u32,
-    pub runs: u64,
+    subject: Prepared<'a>,
+    baseline: Prepared<'a>,
+    /// The number that the call is to answer.
+    meant: u32,
+    measured: Measured,
 }
 
-impl Measuring<'_> {
-    /// Both are run in turn, so that what else the machine does falls on both.
-    /// What is fast and wrong is not measured.
-    pub fn measure(
-        self,
-        subject: &dyn Library,
-        baseline: &dyn Library,
-    ) -> Result<Measured, String> {
-        let mut subject = self.call.prepare(subject, self.file);
-        let mut baseline = self.call.prepare(baseline, self.file);
-        let mut measured = Measured {
-            subject: self.taken(&mut subject)?,
-            baseline: self.taken(&mut baseline)?,
-        };
-        for _ in 0..self.runs {
-            let times = [
-                (&mut measured.subject, &mut subject),
-                (&mut measured.baseline, &mut baseline),
-            ];
-            for (taken, prepared) in times {
-                taken.time = taken.time.min(self.time(prepared)?);
-            }
-        }
-        if subject.agrees(&baseline) {
-            Ok(measured)
-        } else {
-            Err("the two put out different things".to_owned())
-        }
-    }
-
+impl<'a> Measuring<'a> {
     /// The first run, which no time is taken of, tells the stack.
-    fn taken(self, prepared: &mut Prepared<'_>) -> Result<Taken, String> {
-        let stack = stack::used_by(&mut || {
-            black_box(prepared.run());
-        })?;
-        let time = Duration::MAX;
-        Ok(Taken { time, stack })
+    pub fn new(
+        call: Call,
+        file: &'a [u8],
+        answer: u32,
+        [subject, baseline]: [&'a dyn Library; 2],
+    ) -> Result<Measuring<'a>, String> {
+        let mut subject = call.prepare(subject, file);
+        let mut baseline = call.prepare(baseline, file);
+        let measured = Measured {
+            subject: taken(&mut subject)?,
+            baseline: taken(&mut baseline)?,
+        };
+        let meant = subject.meant(answer);
+        Ok(Measuring {
+            subject,
+            baseline,
+            meant,
+            measured,
+        })
     }
 
-    fn time(self, prepared: &mut Prepared<'_>) -> Result<Duration, String> {
-        let start = clock::now();
-        let answer = black_box(prepared.run());
-        let time = clock::now() - start;
-        match answer.number == prepared.meant(self.answer) {
-            true => Ok(time),
-            false => Err(format!("answered by {}", answer.number)),
+    /// Both in turn, so that what else the machine does falls on both.
+    pub fn run(&mut self) -> Result<(), String> {
+        let times = [
+            (&mut self.measured.subject, &mut self.subject),
+            (&mut self.measured.baseline, &mut self.baseline),
+        ];
+        for (taken, prepared) in times {
+            taken.time = taken.time.min(time(prepared, self.meant)?);
         }
+        Ok(())
+    }
+
+    /// What is fast and wrong is not measured.
+    pub fn measured(&self) -> Result<Measured, String> {
+        match self.subject.agrees(&self.baseline) {
+            true => Ok(self.measured),
+            false => Err("the two put out different things".to_owned()),
+        }
+    }
+}
+
+fn taken(prepared: &mut Prepared<'_>) -> Result<Taken, String> {
+    let stack = stack::used_by(&mut || {
+        black_box(prepared.run());
+    })?;
+    let time = Duration::MAX;
+    Ok(Taken { time, stack })
+}
+
+fn time(prepared: &mut Prepared<'_>, meant: u32) -> Result<Duration, String> {
+    let start = clock::now();
+    let answer = black_box(prepared.run());
+    let time = clock::now() - start;
+    match answer.number == meant {
+        true => Ok(time),
+        false => Err(format!("answered by {}", answer.number)),
     }
 }

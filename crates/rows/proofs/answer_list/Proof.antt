@@ -8,12 +8,12 @@ returns : tie.Need-returns
 unfolding earlier
 returns c = rw (ne-eqb (c .before .before .before .args .r .number) 0 (c .if1 .taken))
 
-check-file-requires : tie.Need-check-file-requires
-check-file-requires c κs = search needs
+check-known-requires : tie.Need-check-known-requires
+check-known-requires c κs = c .before .before .before .pre (c .if1 .left)
 
 returns-2 : tie.Need-returns-2
 unfolding earlier
-returns-2 c = rw (c .before .if1 .left) (c .check-file .ensures)
+returns-2 c = rw (c .before .if1 .left) (c .check-known .ensures)
 
 pub answer-list-spec : {M : Type 1} → statement M
-answer-list-spec = tie.close (tie.spec returns check-file-requires returns-2)
+answer-list-spec = tie.close (tie.spec returns check-known-requires returns-2)

@@ -1,5 +1,5 @@
 -- `list` meets its contract: a walk of its MIR by hand. It knows only what its three callees, which the borrow checker covers, promise,
--- and the laws of the pass (WalkLaws). The invariant: the rows are `filled` up to i, and the place is that of section i. The variant: i, up
+-- and the laws of the pass (WalkLaws). The invariant: the rows are `filled` up to i, the place is that of section i, and it is known whether all before it are sound. The variant: i, up
 -- to the rows to write. Assumes nothing.
 use mathlib.Core.Path.{_≡_, refl, sym, _∙_, ap, subst}
 use Prim.Native.Nat.{ℕ, _+_, _-_, _*_, _≤_, _<_, _^_, zero-le}
@@ -8,7 +8,7 @@ use native.Mathlib.Numerals.{add-one-le, add-one-dec}
 use native.Mathlib.Omega.{arith}
 use mathlib.Core.WellFounded.{WellFounded, InvImage·wf}
 use mathlib.Core.List.{List, [], _∷_}
-use mathlib.Core.Bool.{Bool}
+use mathlib.Core.Bool.{Bool, true, not}
 use lib.WfN.{Nat·lt-wfRel}
 use lib.Dec.{T as Holds, ltb, ltb→lt, nltb→le, lit<}
 use lib.ListN.{length, set, length-set}
@@ -26,8 +26,8 @@ use contract.Monad.{Fun, fact}
 use contract.Running.{givenOf, tables, tablesOf}
 use types.Kit.{Given, Item, ‵, raw, some, later, _⊛_, ⋆, runs, anyQ, atRet, Sq, _$_, _∵_, !, qed, by, move, keep, drop, use1, use2, split, join, pick, rewrite, fsplit, fjoin, suffices, frame, await, done}
 use types.Part.{whole, sub, look-in}
-use types.Run.{look, store, store-raw, init, forget, stop, hop, fld, from, load, lit, of-opd, bin, and-then, no-more, assigns, assigns-last, land, first, skips, jumps, blocks, branches, returns, enter, alloc1, alloc0, params1, pass1, pass0, free1, free0, exec, Below, again, loops}
-use sound.WpLaws.{FmC, fmOf, WpFn-mono}
+use types.Run.{look, store, store-raw, init, forget, stop, hop, fld, from, load, lit, true-lit, of-opd, bin, and-then, no-more, assigns, assigns-last, land, first, skips, jumps, blocks, branches, returns, enter, alloc1, alloc0, params1, pass1, pass0, free1, free0, exec, Below, again, loops}
+use package.sound.WpLaws.{FmC, fmOf, WpFn-mono}
 use denote.Exit.{yes}
 use denote.RattleType.{owns}
 use denote.Shadow.{pureI, pureL}
@@ -49,18 +49,18 @@ use denote.Triple.Clauses.{ensured, lasts}
 use denote.Triple.Table.{entered, cited}
 use denote.Triple.Walked.{says, Stays, stay-slice, stay-none-slice, walkOf, Walks, ends-at, walked, goes-slice, goes-none-slice, walk-meets}
 use Rattle.page.specs.Reading.{list-refusal, rows-after}
-use Rattle.page.specs.Answers.{earlier}
-use Rattle.page.specs.File.{file-refusal, rowsOf}
+use Rattle.page.specs.Answers.{earlier, sound}
+use Rattle.page.specs.File.{file-refusal, rowsOf, first-unsound}
 use Rattle.page.specs.declared.Row.{Row}
 use Rattle.page.specs.declared.Refusal.{Refusal}
 use Rattle.page.proofs.Row as T
 use Rattle.page.proofs.Row.Laws as T′
 use Rattle.page.proofs.Refusal as S
 use Rattle.page.proofs.Refusal.Laws as S′
-use Rattle.rows.specs.Walk.{Begins, stepOf, stepAt, atOf, rowAt, startOf, filled}
+use Rattle.rows.specs.Walk.{Begins, stepOf, stepAt, atOf, rowAt, soundAt, startOf, filled}
 use Rattle.rows.specs.declared.Start.{Start}
 use Rattle.rows.specs.declared.Step.{Step}
-use Rattle.rows.proofs.WalkLaws.{start-room, start-rows, start-at, begins-at, step-at, filled-none, filled-length, filled-step, filled-all, start-refusal}
+use Rattle.rows.proofs.WalkLaws.{start-room, start-rows, start-at, begins-at, step-at, known-at, sound-none, filled-none, filled-length, filled-step, filled-all, start-refusal}
 use Rattle.rows.proofs.Start as B₀
 use Rattle.rows.proofs.Start.Laws as B₀′
 use Rattle.rows.proofs.Step as St
@@ -103,7 +103,7 @@ abbrev more : Body
 more = after (after piece.turn-1)
 
 abbrev rest : Body
-rest = piece.t-7
+rest = piece.t-8
 
 abbrev Arg : Type 0
 Arg = RefT (List ℕ) × (RefT (List Row) × Unit {0})
@@ -172,30 +172,34 @@ module _ {M : Type 1} (𝓤 : URA M) (H : Heap 𝓤) (A : Atoms 𝓤) (W : Given
   abbrev to-begin : ℕ → Begin 𝓤 H A mem run .Ghost
   to-begin k = (((κ₁, tt), (q₁, tt), tt, (x₁, (k, tt)), (s₁ ∷ [], (vint w64 k ∷ [], tt))), tt)
 
-  abbrev to-read : ℕ → Bool → Read 𝓤 H A mem run .Ghost
-  to-read k t = (((κ₁, tt), (q₁, tt), tt, (x₁, (k, (t, tt))), (s₁ ∷ [], (vint w64 k ∷ [], (vbool t ∷ [], tt)))), tt)
+  abbrev to-read : ℕ → Bool → Bool → Read 𝓤 H A mem run .Ghost
+  to-read k t u = (((κ₁, tt), (q₁, tt), tt, (x₁, (k, (t, (u, tt)))), (s₁ ∷ [], (vint w64 k ∷ [], (vbool t ∷ [], (vbool u ∷ [], tt))))), tt)
 
-  abbrev to-answer : Refusal → Answer 𝓤 H A mem run .Ghost
-  to-answer r = (((κ₁, tt), (q₁, tt), tt, (x₁, (r, tt)), (s₁ ∷ [], (refusal-val r ∷ [], tt))), tt)
+  abbrev to-answer : Refusal → Bool → Answer 𝓤 H A mem run .Ghost
+  to-answer r u = (((κ₁, tt), (q₁, tt), tt, (x₁, (r, (u, tt))), (s₁ ∷ [], (refusal-val r ∷ [], (vbool u ∷ [], tt)))), tt)
 
   asks-begin : (k : ℕ) → k < 2 ^ 64 → ent 𝓤 (sep 𝓤 (A .lft κ₁ q₁) (sem 𝓤 H A B)) (Begin 𝓤 H A mem run .pre (to-begin k))
   asks-begin k fits = qed W (‵ (flft κ₁ q₁) ∷ ‵ B ∷ []) ∵ nothing ! $ move ! (1 ∷ 0 ∷ []) $ join ! $ nothing ! $ owned ! usize (Is usize) (uint-makes 𝓤 H A W w64) k _ (refl, fits) $ fjoin ! $ move ! (2 ∷ 0 ∷ []) $ fjoin ! $ move ! (1 ∷ 0 ∷ []) $ join ! $ nothing ! $ move ! (1 ∷ 0 ∷ []) $ done !
 
-  asks-answer : (r : Refusal) → Is S.the-row r (refusal-val r ∷ []) → ent 𝓤 (sep 𝓤 (A .lft κ₁ q₁) (sem 𝓤 H A B)) (Answer 𝓤 H A mem run .pre (to-answer r))
-  asks-answer r is = qed W (‵ (flft κ₁ q₁) ∷ ‵ B ∷ []) ∵ nothing ! $ move ! (1 ∷ 0 ∷ []) $ join ! $ nothing ! $ owned ! S.the-row (Is S.the-row) ((LL.makes S.the-type S′.the-plain) 𝓤 H A) r _ is $ fjoin ! $ move ! (2 ∷ 0 ∷ []) $ fjoin ! $ move ! (1 ∷ 0 ∷ []) $ join ! $ nothing ! $ move ! (1 ∷ 0 ∷ []) $ done !
+  -- whoever has listed all sections knows whether they are sound
+  abbrev Knows : Refusal → Bool → Type 0
+  Knows r u = r .number ≡ 0 → u ≡ true → first-unsound 1 (rowsOf bs) ≡ sound
 
-  asks-read : (k : ℕ) (t : Bool) → k < 2 ^ 64 → Begins bs k → ent 𝓤 (sep 𝓤 (A .lft κ₁ q₁) (sem 𝓤 H A B)) (Read 𝓤 H A mem run .pre (to-read k t))
-  asks-read k t fits begins = qed W (‵ (flft κ₁ q₁) ∷ ‵ B ∷ []) ∵ says ! begins $ nothing ! $ move ! (1 ∷ 0 ∷ []) $ join ! $ frame ! $ nothing ! $ owned ! Boolean (Is Boolean) (bool-makes 𝓤 H A W) t _ refl $ fjoin ! $ owned ! usize (Is usize) (uint-makes 𝓤 H A W w64) k _ (refl, fits) $ fjoin ! $ move ! (1 ∷ 0 ∷ []) $ fjoin ! $ done !
+  asks-answer : (r : Refusal) (u : Bool) → Is S.the-row r (refusal-val r ∷ []) → Knows r u → ent 𝓤 (sep 𝓤 (A .lft κ₁ q₁) (sem 𝓤 H A B)) (Answer 𝓤 H A mem run .pre (to-answer r u))
+  asks-answer r u is knows = qed W (‵ (flft κ₁ q₁) ∷ ‵ B ∷ []) ∵ says ! knows $ nothing ! $ move ! (1 ∷ 0 ∷ []) $ join ! $ frame ! $ nothing ! $ owned ! Boolean (Is Boolean) (bool-makes 𝓤 H A W) u _ refl $ fjoin ! $ owned ! S.the-row (Is S.the-row) ((LL.makes S.the-type S′.the-plain) 𝓤 H A) r _ is $ fjoin ! $ move ! (1 ∷ 0 ∷ []) $ fjoin ! $ done !
+
+  asks-read : (k : ℕ) (t u : Bool) → k < 2 ^ 64 → Begins bs k → ent 𝓤 (sep 𝓤 (A .lft κ₁ q₁) (sem 𝓤 H A B)) (Read 𝓤 H A mem run .pre (to-read k t u))
+  asks-read k t u fits begins = qed W (‵ (flft κ₁ q₁) ∷ ‵ B ∷ []) ∵ says ! begins $ nothing ! $ move ! (1 ∷ 0 ∷ []) $ join ! $ frame ! $ nothing ! $ owned ! Boolean (Is Boolean) (bool-makes 𝓤 H A W) u _ refl $ fjoin ! $ owned ! Boolean (Is Boolean) (bool-makes 𝓤 H A W) t _ refl $ fjoin ! $ owned ! usize (Is usize) (uint-makes 𝓤 H A W w64) k _ (refl, fits) $ fjoin ! $ move ! (1 ∷ 0 ∷ []) $ fjoin ! $ done !
 
   -- of each callee's `ensured`, the clause alone
   said-begin : (k : ℕ) (r : Start) → ent 𝓤 (ensured 𝓤 H A begin-list.ended (begin-list.clauses 𝓤 H A mem run) (κ₁, tt) (x₁, (k, tt)) tt r) (fact 𝓤 (r ≡ startOf bs k))
   said-begin k r = exE 𝓤 _ (λ ws. snd∗ 𝓤 (sem 𝓤 H A (lasts begin-list.ended (κ₁, tt) (x₁, (k, tt)) ws)) (fact 𝓤 (r ≡ startOf bs k)))
 
-  said-read : (k : ℕ) (t : Bool) (r : Step) → ent 𝓤 (ensured 𝓤 H A read-step.ended (read-step.clauses 𝓤 H A mem run) (κ₁, tt) (x₁, (k, (t, tt))) tt r) (fact 𝓤 (r ≡ stepOf bs k t))
-  said-read k t r = exE 𝓤 _ (λ ws. snd∗ 𝓤 (sem 𝓤 H A (lasts read-step.ended (κ₁, tt) (x₁, (k, (t, tt))) ws)) (fact 𝓤 (r ≡ stepOf bs k t)))
+  said-read : (k : ℕ) (t u : Bool) (r : Step) → ent 𝓤 (ensured 𝓤 H A read-step.ended (read-step.clauses 𝓤 H A mem run) (κ₁, tt) (x₁, (k, (t, (u, tt)))) tt r) (fact 𝓤 (r ≡ stepOf bs k t u))
+  said-read k t u r = exE 𝓤 _ (λ ws. snd∗ 𝓤 (sem 𝓤 H A (lasts read-step.ended (κ₁, tt) (x₁, (k, (t, (u, tt)))) ws)) (fact 𝓤 (r ≡ stepOf bs k t u)))
 
-  said-answer : (v r : Refusal) → ent 𝓤 (ensured 𝓤 H A answer-list.ended (answer-list.clauses 𝓤 H A mem run) (κ₁, tt) (x₁, (v, tt)) tt r) (fact 𝓤 (r ≡ earlier v (file-refusal bs)))
-  said-answer v r = exE 𝓤 _ (λ ws. snd∗ 𝓤 (sem 𝓤 H A (lasts answer-list.ended (κ₁, tt) (x₁, (v, tt)) ws)) (fact 𝓤 (r ≡ earlier v (file-refusal bs))))
+  said-answer : (v : Refusal) (t : Bool) (r : Refusal) → ent 𝓤 (ensured 𝓤 H A answer-list.ended (answer-list.clauses 𝓤 H A mem run) (κ₁, tt) (x₁, (v, (t, tt))) tt r) (fact 𝓤 (r ≡ earlier v (file-refusal bs)))
+  said-answer v t r = exE 𝓤 _ (λ ws. snd∗ 𝓤 (sem 𝓤 H A (lasts answer-list.ended (κ₁, tt) (x₁, (v, (t, tt))) ws)) (fact 𝓤 (r ≡ earlier v (file-refusal bs))))
 
   exits : (r : Refusal) (u : Val) (zs : List Row) → r ≡ earlier (list-refusal bs m) (file-refusal bs) → zs ≡ rows-after bs ys → length zs ≡ m
       → ent 𝓤 (⋆ 𝓤 H A (‵ (S.the-row .own r (u ∷ [])) ∷ ‵ (Own zs) ∷ ‵ (flft κ₂ q₂) ∷ ‵ B ∷ ‵ (flft κ₁ q₁) ∷ [])) (Post u)
@@ -214,9 +218,9 @@ module _ {M : Type 1} (𝓤 : URA M) (H : Heap 𝓤) (A : Atoms 𝓤) (W : Given
     fm : FmC 𝓤 H (W .laws) C
     fm = fmOf 𝓤 H (W .laws) 𝓣
 
-    module _ (l₀ l₁ l₂ l₃ l₄ l₅ l₆ l₇ l₈ l₉ l₁₀ l₁₁ : ℕ) where
+    module _ (l₀ l₁ l₂ l₃ l₄ l₅ l₆ l₇ l₈ l₉ l₁₀ l₁₁ l₁₂ : ℕ) where
       abbrev En : Env 𝓤 H
-      En = (S′.mir, l₀) ∷ (sliceTy (tyRef (named 0) imm (tyInt w8)), l₁) ∷ (sliceTy (tyRef (named 1) mut (pointee (T.the-row .written))), l₂) ∷ (B₀′.mir, l₃) ∷ (word, l₄) ∷ (word, l₅) ∷ (word, l₆) ∷ (St′.mir, l₇) ∷ (word, l₈) ∷ (tyBool, l₉) ∷ (word, l₁₀) ∷ (tyPtr, l₁₁) ∷ []
+      En = (S′.mir, l₀) ∷ (sliceTy (tyRef (named 0) imm (tyInt w8)), l₁) ∷ (sliceTy (tyRef (named 1) mut (pointee (T.the-row .written))), l₂) ∷ (B₀′.mir, l₃) ∷ (word, l₄) ∷ (word, l₅) ∷ (tyBool, l₆) ∷ (word, l₇) ∷ (St′.mir, l₈) ∷ (word, l₉) ∷ (tyBool, l₁₀) ∷ (word, l₁₁) ∷ (tyPtr, l₁₂) ∷ []
 
       -- the parameters and the answer's room: no statement before the return touches them
       abbrev Low : List (Item 𝓤)
@@ -234,8 +238,8 @@ module _ {M : Type 1} (𝓤 : URA M) (H : Heap 𝓤) (A : Atoms 𝓤) (W : Given
 
         abbrev At : Upto → List (Item 𝓤)
         At i = ‵ (Own (filled bs ys (i .0))) ∷ ‵ (flft κ₂ q₂) ∷ ‵ B ∷ ‵ (flft κ₁ q₁)
-            ∷ ‵ (froom tyPtr l₁₁ 0) ∷ ‵ (fdies tyPtr l₁₁) ∷ ‵ (froom word l₁₀ 0) ∷ ‵ (fdies word l₁₀) ∷ ‵ (froom tyBool l₉ 0) ∷ ‵ (fdies tyBool l₉) ∷ ‵ (fat fullShare word l₈ 0 (vint w64 m)) ∷ ‵ (fdies word l₈) ∷ ‵ (froom St′.mir l₇ 0) ∷ ‵ (fdies St′.mir l₇)
-            ∷ ‵ (fat fullShare word l₆ 0 (vint w64 (i .0))) ∷ ‵ (fdies word l₆) ∷ ‵ (fat fullShare word l₅ 0 (vint w64 (atOf bs m (i .0)))) ∷ ‵ (fdies word l₅) ∷ ‵ (fat fullShare word l₄ 0 (vint w64 n)) ∷ ‵ (fdies word l₄)
+            ∷ ‵ (froom tyPtr l₁₂ 0) ∷ ‵ (fdies tyPtr l₁₂) ∷ ‵ (froom word l₁₁ 0) ∷ ‵ (fdies word l₁₁) ∷ ‵ (froom tyBool l₁₀ 0) ∷ ‵ (fdies tyBool l₁₀) ∷ ‵ (fat fullShare word l₉ 0 (vint w64 m)) ∷ ‵ (fdies word l₉) ∷ ‵ (froom St′.mir l₈ 0) ∷ ‵ (fdies St′.mir l₈)
+            ∷ ‵ (fat fullShare word l₇ 0 (vint w64 (i .0))) ∷ ‵ (fdies word l₇) ∷ ‵ (fat fullShare tyBool l₆ 0 (vbool (soundAt bs (i .0)))) ∷ ‵ (fdies tyBool l₆) ∷ ‵ (fat fullShare word l₅ 0 (vint w64 (atOf bs m (i .0)))) ∷ ‵ (fdies word l₅) ∷ ‵ (fat fullShare word l₄ 0 (vint w64 n)) ∷ ‵ (fdies word l₄)
             ∷ ‵ (fat fullShare B₀′.mir l₃ 0 (LL.val B₀.the-type B₀′.the-laws β)) ∷ ‵ (fdies B₀′.mir l₃) ∷ Low
 
         abbrev Turned : Upto → Out → SProp 𝓤
@@ -244,22 +248,22 @@ module _ {M : Type 1} (𝓤 : URA M) (H : Heap 𝓤) (A : Atoms 𝓤) (W : Given
         turns : (i : Upto) → Sq W (At i) (runs C Λ En piece.turn-1 (anyQ (Turned i)))
         unfolding afterTurn
         turns i =
-            assigns ! (bin ! (load ! (from ! (stop !)) (look ! 14 refl)) (load ! (from ! (stop !)) (look ! 18 refl)) tt) (from ! (stop !)) (init ! 8 refl (tt, tt)) $
+            assigns ! (bin ! (load ! (from ! (stop !)) (look ! 14 refl)) (load ! (from ! (stop !)) (look ! 20 refl)) tt) (from ! (stop !)) (init ! 8 refl (tt, tt)) $
             first ! $ branches ! (load ! (from ! (stop !)) (look ! 8 refl))
             (λ less. skips ! $ exec ! C Λ En more (anyQ (Turned i)) $
             -- `read_step`, on a copy of what file owns
             move ! (2 ∷ []) $ use1 W (‵ B ⊛ ‵ B) (shr-slice-copy 𝓤 H A W (named 0) κ₁ u8 .twice x₁ (s₁ ∷ [])) $ split ! $ move ! (4 ∷ 0 ∷ []) $
-            use2 W (raw (Read 𝓤 H A mem run .pre (to-read (atOf bs m (i .0)) (β .latin)))) (asks-read (atOf bs m (i .0)) (β .latin) (at-fits less) (begins less)) $
-            calls-at ! fm (Read 𝓤 H A mem run) known-read (to-read (atOf bs m (i .0)) (β .latin)) (and-then ! (load ! (from ! (stop !)) (look ! 24 refl)) (and-then ! (load ! (from ! (stop !)) (look ! 16 refl)) (and-then ! (load ! (from ! (fld ! refl (stop !))) (look-in ! 20 (sub ! 3 refl (whole !)))) (no-more !)))) (λ w.
-            use1 W (later (some (λ (r : Step). ((‵ (flft κ₁ q₁) ⊛ ‵ ftrue) ⊛ ‵ (St.the-row .own r (w ∷ []))) ⊛ raw (ensured 𝓤 H A read-step.ended (read-step.clauses 𝓤 H A mem run) (κ₁, tt) (x₁, (atOf bs m (i .0), (β .latin, tt))) tt r)))) (id⊢ 𝓤 _) $ await ! tt $ pick ! (λ r.
-            split ! $ move ! (1 ∷ []) $ use1 W (raw (fact 𝓤 (r ≡ stepOf bs (atOf bs m (i .0)) (β .latin)))) (said-read (atOf bs m (i .0)) (β .latin) r) $ heard ! (r ≡ stepOf bs (atOf bs m (i .0)) (β .latin)) (λ e. split ! $ move ! (1 ∷ []) $
+            use2 W (raw (Read 𝓤 H A mem run .pre (to-read (atOf bs m (i .0)) (β .latin) (soundAt bs (i .0))))) (asks-read (atOf bs m (i .0)) (β .latin) (soundAt bs (i .0)) (at-fits less) (begins less)) $
+            calls-at ! fm (Read 𝓤 H A mem run) known-read (to-read (atOf bs m (i .0)) (β .latin) (soundAt bs (i .0))) (and-then ! (load ! (from ! (stop !)) (look ! 26 refl)) (and-then ! (load ! (from ! (stop !)) (look ! 18 refl)) (and-then ! (load ! (from ! (fld ! refl (stop !))) (look-in ! 22 (sub ! 3 refl (whole !)))) (and-then ! (load ! (from ! (stop !)) (look ! 16 refl)) (no-more !))))) (λ w.
+            use1 W (later (some (λ (r : Step). ((‵ (flft κ₁ q₁) ⊛ ‵ ftrue) ⊛ ‵ (St.the-row .own r (w ∷ []))) ⊛ raw (ensured 𝓤 H A read-step.ended (read-step.clauses 𝓤 H A mem run) (κ₁, tt) (x₁, (atOf bs m (i .0), (β .latin, (soundAt bs (i .0), tt)))) tt r)))) (id⊢ 𝓤 _) $ await ! tt $ pick ! (λ r.
+            split ! $ move ! (1 ∷ []) $ use1 W (raw (fact 𝓤 (r ≡ stepOf bs (atOf bs m (i .0)) (β .latin) (soundAt bs (i .0))))) (said-read (atOf bs m (i .0)) (β .latin) (soundAt bs (i .0)) r) $ heard ! (r ≡ stepOf bs (atOf bs m (i .0)) (β .latin) (soundAt bs (i .0))) (λ e. split ! $ move ! (1 ∷ []) $
             rewrite ! 0 (λ (z : Step). ‵ (St.the-row .own z (w ∷ []))) (e ∙ step-at bs m (i .0) (ltb→lt (i .0) n less)) refl $ peeks ! St.the-row (Is St.the-row) (shows 𝓤 H A St.the-row) σ (w ∷ []) (λ is.
             land ! (from ! (stop !)) (init ! 13 refl (LL.lawful St.the-type St′.the-laws 𝓤 H A W .typed σ _ is .0)) $
-            rewrite ! 13 (λ (u : Val). ‵ (fat fullShare St′.mir l₇ 0 u)) (ap only (LL.tells St.the-type St′.the-laws σ _ is)) refl $ drop ! $
-            -- [file's token; B; Own; rows' token; _11; …; _0; …]: the place of the element
+            rewrite ! 13 (λ (u : Val). ‵ (fat fullShare St′.mir l₈ 0 u)) (ap only (LL.tells St.the-type St′.the-laws σ _ is)) refl $ drop ! $
+            -- [file's token; B; Own; rows' token; _12; …; _0; …]: the place of the element
             assigns ! (bin ! (load ! (from ! (stop !)) (look ! 14 refl)) (lit ! tt) (record { fits = scaled less })) (from ! (stop !)) (init ! 6 refl (tt, record { fits = scaled less })) $
-            assigns ! (bin ! (load ! (from ! (fld ! refl (stop !))) (look-in ! 22 (sub ! 0 refl (whole !)))) (load ! (from ! (stop !)) (look ! 6 refl)) tt) (from ! (stop !)) (init ! 4 refl (tt, tt)) $
-            rewrite ! 4 (λ (p : ℕ). ‵ (fat fullShare tyPtr l₁₁ 0 (vptr b p))) (sym (place-is 48 o (i .0))) refl $
+            assigns ! (bin ! (load ! (from ! (fld ! refl (stop !))) (look-in ! 24 (sub ! 0 refl (whole !)))) (load ! (from ! (stop !)) (look ! 6 refl)) tt) (from ! (stop !)) (init ! 4 refl (tt, tt)) $
+            rewrite ! 4 (λ (p : ℕ). ‵ (fat fullShare tyPtr l₁₂ 0 (vptr b p))) (sym (place-is 48 o (i .0))) refl $
             -- the borrow is opened, and the element is taken out, stored to and put back
             move ! (2 ∷ []) $ fsplit ! $ pureL ! (at-slice T.the-row (x (zs i)) (s ∷ [])) (λ _. fsplit ! $ move ! (0 ∷ 1 ∷ 4 ∷ []) $
             opens-slice ! tt T.the-row (zs i) b o $ elem-out ! T.the-row (Is T.the-row) (shows 𝓤 H A T.the-row) (LL.vals T.the-type T′.the-laws) (LL.tells T.the-type T′.the-laws) fullShare (zs i) (i .0) (rowAt bs (i .0)) b o (within less) (λ _.
@@ -269,21 +273,22 @@ module _ {M : Type 1} (𝓤 : URA M) (H : Heap 𝓤) (A : Atoms 𝓤) (W : Given
             fjoin ! $ pureI ! (at-slice T.the-row (x (zs′ i)) (s ∷ [])) (tt, (tt, tt)) (ap (λ (k : ℕ). sliceVal (b, o) k ∷ []) (sym (as-long i)), subst (Room T.the-row) (sym (as-long i)) room) $ fjoin ! $
             rewrite ! 0 (λ (z : List Row). ‵ (Own z)) (filled-step bs ys (i .0) (in-rows less) (in-room less)) refl $
             move ! (2 ∷ []) $ split ! $ move ! (1 ∷ []) $ drop ! $ move ! (1 ∷ 2 ∷ 3 ∷ 0 ∷ []) $
-            -- the next place, and one more
-            assigns ! (of-opd ! (load ! (from ! (fld ! refl (stop !))) (look-in ! 12 (sub ! 1 refl (whole !))))) (from ! (stop !)) (store ! 16 refl (tt, record { fits = LL.owed St.the-type St′.the-laws σ _ is .1 .0 .1 })) $
+            -- the next place, whether all is sound so far, and one more
+            assigns ! (of-opd ! (load ! (from ! (fld ! refl (stop !))) (look-in ! 12 (sub ! 1 refl (whole !))))) (from ! (stop !)) (store ! 18 refl (tt, record { fits = LL.owed St.the-type St′.the-laws σ _ is .1 .0 .1 })) $
+            assigns ! (of-opd ! (load ! (from ! (fld ! refl (stop !))) (look-in ! 12 (sub ! 2 refl (whole !))))) (from ! (stop !)) (store ! 16 refl (tt, tt)) $
             assigns-last ! (bin ! (load ! (from ! (stop !)) (look ! 14 refl)) (lit ! tt) (record { fits = fits (next less) })) (from ! (stop !)) (store ! 14 refl (tt, record { fits = fits (next less) })) $
             forget ! 4 refl $ forget ! 6 refl $ forget ! 8 refl $ forget ! 12 refl $ again ! Nearer At i (next less) (add-one-dec n (i .0) (ltb→lt (i .0) n less)))))))))
             (λ over. jumps ! $ exec ! C Λ En rest (atRet En Post) $
             -- `answer_list`
             move ! (2 ∷ []) $ use1 W (‵ B ⊛ ‵ B) (shr-slice-copy 𝓤 H A W (named 0) κ₁ u8 .twice x₁ (s₁ ∷ [])) $ split ! $ move ! (4 ∷ 0 ∷ []) $
-            use2 W (raw (Answer 𝓤 H A mem run .pre (to-answer (β .refusal)))) (asks-answer (β .refusal) refusal-is) $
-            calls-at ! fm (Answer 𝓤 H A mem run) known-answer (to-answer (β .refusal)) (and-then ! (load ! (from ! (stop !)) (look ! 24 refl)) (and-then ! (load ! (from ! (fld ! refl (stop !))) (look-in ! 20 (sub ! 0 refl (whole !)))) (no-more !))) (λ u.
-            use1 W (later (some (λ (r : Refusal). ((‵ (flft κ₁ q₁) ⊛ ‵ ftrue) ⊛ ‵ (S.the-row .own r (u ∷ []))) ⊛ raw (ensured 𝓤 H A answer-list.ended (answer-list.clauses 𝓤 H A mem run) (κ₁, tt) (x₁, (β .refusal, tt)) tt r)))) (id⊢ 𝓤 _) $ await ! tt $ pick ! (λ r.
-            split ! $ move ! (1 ∷ []) $ use1 W (raw (fact 𝓤 (r ≡ earlier (β .refusal) (file-refusal bs)))) (said-answer (β .refusal) r) $ heard ! (r ≡ earlier (β .refusal) (file-refusal bs)) (λ e. split ! $ split ! $ move ! (1 ∷ []) $ drop ! $ move ! (1 ∷ 3 ∷ 4 ∷ 2 ∷ 0 ∷ []) $
+            use2 W (raw (Answer 𝓤 H A mem run .pre (to-answer (β .refusal) (soundAt bs (i .0))))) (asks-answer (β .refusal) (soundAt bs (i .0)) refusal-is (knows over)) $
+            calls-at ! fm (Answer 𝓤 H A mem run) known-answer (to-answer (β .refusal) (soundAt bs (i .0))) (and-then ! (load ! (from ! (stop !)) (look ! 26 refl)) (and-then ! (load ! (from ! (fld ! refl (stop !))) (look-in ! 22 (sub ! 0 refl (whole !)))) (and-then ! (load ! (from ! (stop !)) (look ! 16 refl)) (no-more !)))) (λ u.
+            use1 W (later (some (λ (r : Refusal). ((‵ (flft κ₁ q₁) ⊛ ‵ ftrue) ⊛ ‵ (S.the-row .own r (u ∷ []))) ⊛ raw (ensured 𝓤 H A answer-list.ended (answer-list.clauses 𝓤 H A mem run) (κ₁, tt) (x₁, (β .refusal, (soundAt bs (i .0), tt))) tt r)))) (id⊢ 𝓤 _) $ await ! tt $ pick ! (λ r.
+            split ! $ move ! (1 ∷ []) $ use1 W (raw (fact 𝓤 (r ≡ earlier (β .refusal) (file-refusal bs)))) (said-answer (β .refusal) (soundAt bs (i .0)) r) $ heard ! (r ≡ earlier (β .refusal) (file-refusal bs)) (λ e. split ! $ split ! $ move ! (1 ∷ []) $ drop ! $ move ! (1 ∷ 3 ∷ 4 ∷ 2 ∷ 0 ∷ []) $
             peeks ! S.the-row (Is S.the-row) (shows 𝓤 H A S.the-row) r (u ∷ []) (λ is.
-            land ! (from ! (stop !)) (init ! 27 refl (LL.lawful S.the-type S′.the-laws 𝓤 H A W .typed r _ is .0)) $
-            returns ! (look ! 27 refl) $ forget ! 9 refl $ forget ! 11 refl $ forget ! 15 refl $ forget ! 17 refl $ forget ! 19 refl $ forget ! 21 refl $ forget ! 23 refl $ forget ! 25 refl $ forget ! 27 refl $
-            move ! (27 ∷ 28 ∷ []) $ free1 ! $ move ! (25 ∷ 26 ∷ []) $ free1 ! $ move ! (23 ∷ 24 ∷ []) $ free1 ! $ move ! (21 ∷ 22 ∷ []) $ free1 ! $ move ! (19 ∷ 20 ∷ []) $ free1 ! $ move ! (17 ∷ 18 ∷ []) $ free1 ! $ move ! (15 ∷ 16 ∷ []) $ free1 ! $ move ! (13 ∷ 14 ∷ []) $ free1 ! $ move ! (11 ∷ 12 ∷ []) $ free1 ! $ move ! (9 ∷ 10 ∷ []) $ free1 ! $ move ! (7 ∷ 8 ∷ []) $ free1 ! $ move ! (5 ∷ 6 ∷ []) $ free1 ! $ free0 ! $
+            land ! (from ! (stop !)) (init ! 29 refl (LL.lawful S.the-type S′.the-laws 𝓤 H A W .typed r _ is .0)) $
+            returns ! (look ! 29 refl) $ forget ! 9 refl $ forget ! 11 refl $ forget ! 15 refl $ forget ! 17 refl $ forget ! 19 refl $ forget ! 21 refl $ forget ! 23 refl $ forget ! 25 refl $ forget ! 27 refl $ forget ! 29 refl $
+            move ! (29 ∷ 30 ∷ []) $ free1 ! $ move ! (27 ∷ 28 ∷ []) $ free1 ! $ move ! (25 ∷ 26 ∷ []) $ free1 ! $ move ! (23 ∷ 24 ∷ []) $ free1 ! $ move ! (21 ∷ 22 ∷ []) $ free1 ! $ move ! (19 ∷ 20 ∷ []) $ free1 ! $ move ! (17 ∷ 18 ∷ []) $ free1 ! $ move ! (15 ∷ 16 ∷ []) $ free1 ! $ move ! (13 ∷ 14 ∷ []) $ free1 ! $ move ! (11 ∷ 12 ∷ []) $ free1 ! $ move ! (9 ∷ 10 ∷ []) $ free1 ! $ move ! (7 ∷ 8 ∷ []) $ free1 ! $ move ! (5 ∷ 6 ∷ []) $ free1 ! $ free0 ! $
             by ! (exits r u (zs i) (e ∙ ap (λ (v : Refusal). earlier v (file-refusal bs)) (start-refusal bs m)) (ap (λ (k : ℕ). filled bs ys k) (le-antisymm (i .1) (nltb→le (i .0) n over)) ∙ filled-all bs ys) (long i)))))))
           where
             σ : Step
@@ -294,6 +299,10 @@ module _ {M : Type 1} (𝓤 : URA M) (H : Heap 𝓤) (A : Atoms 𝓤) (W : Given
 
             refusal-is : Is S.the-row (β .refusal) (LL.vals S.the-type S′.the-laws (β .refusal))
             refusal-is = LL.owed B₀.the-type B₀′.the-laws β _ β-is .0
+
+            -- after the last section
+            knows : Holds (not (ltb (i .0) n)) → Knows (β .refusal) (soundAt bs (i .0))
+            knows over = subst (λ (k : ℕ). Knows (β .refusal) (soundAt bs k)) (sym (le-antisymm (i .1) (nltb→le (i .0) n over))) (known-at bs m)
 
             zs : Upto → List Row
             zs j = filled bs ys (j .0)
@@ -332,28 +341,30 @@ module _ {M : Type 1} (𝓤 : URA M) (H : Heap 𝓤) (A : Atoms 𝓤) (W : Given
             scaled less = omega (arith, ltb→lt (i .0) n less, start-room bs m, room .1)
 
         -- the loop, from its start
-        looped : Sq W (At (0, zero-le)) (runs C Λ En piece.t-6 (atRet En Post))
+        looped : Sq W (At (0, zero-le)) (runs C Λ En piece.t-7 (atRet En Post))
         looped = first ! $ blocks ! $ loops ! 𝓣 Nearer Nearer-wf At turns (0, zero-le)
 
       -- the MIR up to the loop
       body : Sq W (‵ (Own ys) ∷ ‵ (flft κ₂ q₂) ∷ ‵ B ∷ ‵ (flft κ₁ q₁)
-          ∷ ‵ (froom tyPtr l₁₁ 0) ∷ ‵ (fdies tyPtr l₁₁) ∷ ‵ (froom word l₁₀ 0) ∷ ‵ (fdies word l₁₀) ∷ ‵ (froom tyBool l₉ 0) ∷ ‵ (fdies tyBool l₉) ∷ ‵ (froom word l₈ 0) ∷ ‵ (fdies word l₈) ∷ ‵ (froom St′.mir l₇ 0) ∷ ‵ (fdies St′.mir l₇)
-          ∷ ‵ (froom word l₆ 0) ∷ ‵ (fdies word l₆) ∷ ‵ (froom word l₅ 0) ∷ ‵ (fdies word l₅) ∷ ‵ (froom word l₄ 0) ∷ ‵ (fdies word l₄) ∷ ‵ (froom B₀′.mir l₃ 0) ∷ ‵ (fdies B₀′.mir l₃) ∷ Low) (runs C Λ En piece.t-1 (atRet En Post))
+          ∷ ‵ (froom tyPtr l₁₂ 0) ∷ ‵ (fdies tyPtr l₁₂) ∷ ‵ (froom word l₁₁ 0) ∷ ‵ (fdies word l₁₁) ∷ ‵ (froom tyBool l₁₀ 0) ∷ ‵ (fdies tyBool l₁₀) ∷ ‵ (froom word l₉ 0) ∷ ‵ (fdies word l₉) ∷ ‵ (froom St′.mir l₈ 0) ∷ ‵ (fdies St′.mir l₈)
+          ∷ ‵ (froom word l₇ 0) ∷ ‵ (fdies word l₇) ∷ ‵ (froom tyBool l₆ 0) ∷ ‵ (fdies tyBool l₆) ∷ ‵ (froom word l₅ 0) ∷ ‵ (fdies word l₅) ∷ ‵ (froom word l₄ 0) ∷ ‵ (fdies word l₄) ∷ ‵ (froom B₀′.mir l₃ 0) ∷ ‵ (fdies B₀′.mir l₃) ∷ Low) (runs C Λ En piece.t-1 (atRet En Post))
       body =
-          assigns ! (of-opd ! (load ! (from ! (fld ! refl (stop !))) (look-in ! 22 (sub ! 1 refl (whole !))))) (from ! (stop !)) (init ! 10 refl (tt, record { fits = room .0 })) $
+          assigns ! (of-opd ! (load ! (from ! (fld ! refl (stop !))) (look-in ! 24 (sub ! 1 refl (whole !))))) (from ! (stop !)) (init ! 10 refl (tt, record { fits = room .0 })) $
           move ! (2 ∷ []) $ use1 W (‵ B ⊛ ‵ B) (shr-slice-copy 𝓤 H A W (named 0) κ₁ u8 .twice x₁ (s₁ ∷ [])) $ split ! $ move ! (4 ∷ 0 ∷ []) $
           use2 W (raw (Begin 𝓤 H A mem run .pre (to-begin m))) (asks-begin m (room .0)) $
-          calls-at ! fm (Begin 𝓤 H A mem run) known-begin (to-begin m) (and-then ! (load ! (from ! (stop !)) (look ! 24 refl)) (and-then ! (load ! (from ! (stop !)) (look ! 10 refl)) (no-more !))) (λ w.
+          calls-at ! fm (Begin 𝓤 H A mem run) known-begin (to-begin m) (and-then ! (load ! (from ! (stop !)) (look ! 26 refl)) (and-then ! (load ! (from ! (stop !)) (look ! 10 refl)) (no-more !))) (λ w.
           use1 W (later (some (λ (r : Start). ((‵ (flft κ₁ q₁) ⊛ ‵ ftrue) ⊛ ‵ (B₀.the-row .own r (w ∷ []))) ⊛ raw (ensured 𝓤 H A begin-list.ended (begin-list.clauses 𝓤 H A mem run) (κ₁, tt) (x₁, (m, tt)) tt r)))) (id⊢ 𝓤 _) $ await ! tt $ pick ! (λ r.
           split ! $ move ! (1 ∷ []) $ use1 W (raw (fact 𝓤 (r ≡ β))) (said-begin m r) $ heard ! (r ≡ β) (λ e. split ! $ move ! (1 ∷ []) $
           rewrite ! 0 (λ (z : Start). ‵ (B₀.the-row .own z (w ∷ []))) e refl $ peeks ! B₀.the-row (Is B₀.the-row) (shows 𝓤 H A B₀.the-row) β (w ∷ []) (λ is.
-          land ! (from ! (stop !)) (init ! 21 refl (LL.lawful B₀.the-type B₀′.the-laws 𝓤 H A W .typed β _ is .0)) $
-          rewrite ! 21 (λ (u : Val). ‵ (fat fullShare B₀′.mir l₃ 0 u)) (ap only (LL.tells B₀.the-type B₀′.the-laws β _ is)) refl $
+          land ! (from ! (stop !)) (init ! 23 refl (LL.lawful B₀.the-type B₀′.the-laws 𝓤 H A W .typed β _ is .0)) $
+          rewrite ! 23 (λ (u : Val). ‵ (fat fullShare B₀′.mir l₃ 0 u)) (ap only (LL.tells B₀.the-type B₀′.the-laws β _ is)) refl $
           drop ! $ split ! $ move ! (1 ∷ []) $ drop ! $ move ! (2 ∷ 3 ∷ 1 ∷ 0 ∷ []) $
-          -- [Own; rows' token; B; file's token; _11; …; _0; …]: the rows to write, the first place, and the count
-          assigns ! (of-opd ! (load ! (from ! (fld ! refl (stop !))) (look-in ! 20 (sub ! 1 refl (whole !))))) (from ! (stop !)) (init ! 18 refl (tt, record { fits = LL.owed B₀.the-type B₀′.the-laws β _ is .1 .0 .1 })) $
-          assigns ! (of-opd ! (load ! (from ! (fld ! refl (stop !))) (look-in ! 20 (sub ! 2 refl (whole !))))) (from ! (stop !)) (init ! 16 refl (tt, record { fits = LL.owed B₀.the-type B₀′.the-laws β _ is .1 .1 .0 .1 })) $
-          rewrite ! 16 (λ (k : ℕ). ‵ (fat fullShare word l₅ 0 (vint w64 k))) (start-at bs m) refl $
+          -- [Own; rows' token; B; file's token; _12; …; _0; …]: the rows to write, the first place, nothing unsound, and the count
+          assigns ! (of-opd ! (load ! (from ! (fld ! refl (stop !))) (look-in ! 22 (sub ! 1 refl (whole !))))) (from ! (stop !)) (init ! 20 refl (tt, record { fits = LL.owed B₀.the-type B₀′.the-laws β _ is .1 .0 .1 })) $
+          assigns ! (of-opd ! (load ! (from ! (fld ! refl (stop !))) (look-in ! 22 (sub ! 2 refl (whole !))))) (from ! (stop !)) (init ! 18 refl (tt, record { fits = LL.owed B₀.the-type B₀′.the-laws β _ is .1 .1 .0 .1 })) $
+          rewrite ! 18 (λ (k : ℕ). ‵ (fat fullShare word l₅ 0 (vint w64 k))) (start-at bs m) refl $
+          assigns ! (of-opd ! (true-lit !)) (from ! (stop !)) (init ! 16 refl (tt, tt)) $
+          rewrite ! 16 (λ (u : Bool). ‵ (fat fullShare tyBool l₆ 0 (vbool u))) (sound-none bs) refl $
           assigns ! (of-opd ! (lit ! tt)) (from ! (stop !)) (init ! 14 refl (tt, record { fits = lit< tt })) $
           rewrite ! 0 (λ (z : List Row). ‵ (Own z)) (filled-none bs ys) refl $
           looped (LL.owes B₀.the-type B₀′.the-laws β (LL.owed B₀.the-type B₀′.the-laws β _ is))))))
@@ -362,10 +373,10 @@ module _ {M : Type 1} (𝓤 : URA M) (H : Heap 𝓤) (A : Atoms 𝓤) (W : Given
     walk : ent 𝓤 (onEntry 𝓤 H A f.signature (κ₁, (κ₂, tt)) (q₁, (q₂, tt)) a vals) (WpFn 𝓤 H C Λ code.function (s₁ ∷ s ∷ []) Post)
     walk =
         qed W ((‵ (flft κ₁ q₁) ⊛ ‵ (flft κ₂ q₂) ⊛ ‵ ftrue) ∷ ‵ (owns (ShrSlice (named 0) κ₁ u8 ∷ MutSlice (named 1) κ₂ T.the-row ∷ []) a vals) ∷ []) ∵ enter ! C Λ code.function (s₁ ∷ s ∷ []) _ $
-        alloc1 ! (λ l₀. alloc1 ! (λ l₁. alloc1 ! (λ l₂. alloc1 ! (λ l₃. alloc1 ! (λ l₄. alloc1 ! (λ l₅. alloc1 ! (λ l₆. alloc1 ! (λ l₇. alloc1 ! (λ l₈. alloc1 ! (λ l₉. alloc1 ! (λ l₁₀. alloc1 ! (λ l₁₁. alloc0 ! $ params1 ! $
-        pass1 ! (init ! 20 refl (tt, (tt, (record { fits = room₁ .0 }, tt)))) $ pass1 ! (init ! 18 refl (tt, (tt, (record { fits = room .0 }, tt)))) $ pass0 ! $
-        move ! (24 ∷ 25 ∷ []) $ split ! $ move ! (1 ∷ []) $ split ! $ move ! (1 ∷ []) $ drop ! $ move ! (2 ∷ []) $ fsplit ! $ move ! (1 ∷ []) $ fsplit ! $ move ! (1 ∷ []) $ drop ! $ move ! (0 ∷ 2 ∷ 1 ∷ 3 ∷ []) $
-        keep ! (0 ∷ 1 ∷ 2 ∷ 3 ∷ 4 ∷ 5 ∷ 6 ∷ 7 ∷ 8 ∷ 9 ∷ 10 ∷ 11 ∷ 12 ∷ 13 ∷ 14 ∷ 15 ∷ 16 ∷ 17 ∷ 18 ∷ 19 ∷ 20 ∷ 21 ∷ 22 ∷ 23 ∷ 24 ∷ 25 ∷ 26 ∷ 27 ∷ []) $ body l₀ l₁ l₂ l₃ l₄ l₅ l₆ l₇ l₈ l₉ l₁₀ l₁₁))))))))))))
+        alloc1 ! (λ l₀. alloc1 ! (λ l₁. alloc1 ! (λ l₂. alloc1 ! (λ l₃. alloc1 ! (λ l₄. alloc1 ! (λ l₅. alloc1 ! (λ l₆. alloc1 ! (λ l₇. alloc1 ! (λ l₈. alloc1 ! (λ l₉. alloc1 ! (λ l₁₀. alloc1 ! (λ l₁₁. alloc1 ! (λ l₁₂. alloc0 ! $ params1 ! $
+        pass1 ! (init ! 22 refl (tt, (tt, (record { fits = room₁ .0 }, tt)))) $ pass1 ! (init ! 20 refl (tt, (tt, (record { fits = room .0 }, tt)))) $ pass0 ! $
+        move ! (26 ∷ 27 ∷ []) $ split ! $ move ! (1 ∷ []) $ split ! $ move ! (1 ∷ []) $ drop ! $ move ! (2 ∷ []) $ fsplit ! $ move ! (1 ∷ []) $ fsplit ! $ move ! (1 ∷ []) $ drop ! $ move ! (0 ∷ 2 ∷ 1 ∷ 3 ∷ []) $
+        keep ! (0 ∷ 1 ∷ 2 ∷ 3 ∷ 4 ∷ 5 ∷ 6 ∷ 7 ∷ 8 ∷ 9 ∷ 10 ∷ 11 ∷ 12 ∷ 13 ∷ 14 ∷ 15 ∷ 16 ∷ 17 ∷ 18 ∷ 19 ∷ 20 ∷ 21 ∷ 22 ∷ 23 ∷ 24 ∷ 25 ∷ 26 ∷ 27 ∷ 28 ∷ 29 ∷ []) $ body l₀ l₁ l₂ l₃ l₄ l₅ l₆ l₇ l₈ l₉ l₁₀ l₁₁ l₁₂)))))))))))))
 
 module _ {M : Type 1} (𝓤 : URA M) (H : Heap 𝓤) (A : Atoms 𝓤) (W : Given 𝓤 H A) (mem : Memory → SProp 𝓤) (run : Routine → Fun 𝓤) where
   list-walks : (𝓣 : Tables 𝓤 H) → Triple 𝓤 (𝓣 .C #rows·begin-list) (Begin 𝓤 H A mem run) → Triple 𝓤 (𝓣 .C #rows·read-step) (Read 𝓤 H A mem run) → Triple 𝓤 (𝓣 .C #rows·answer-list) (Answer 𝓤 H A mem run)

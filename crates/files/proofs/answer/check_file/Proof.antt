@@ -1,47 +1,13 @@
 -- `files::answer::check_file` meets its contract. Assumes nothing.
-use Rattle.files.proofs.AnswerLaws.{file-header, file-trailer, file-sections}
-use borrow.Author.Needs.{needs}
+use mathlib.Core.Path.{_≡_}
 use Rattle.files.proofs.answer.check_file.Statement.{statement}
 use Rattle.files.proofs.answer.check_file.Tie as tie
 
-refuse-header-requires : tie.Need-refuse-header-requires
-refuse-header-requires c κs =
-    search needs
+check-known-requires : tie.Need-check-known-requires
+check-known-requires c κs e = cc
 
 returns : tie.Need-returns
-returns c =
-    file-header (c .before .before .before .before .args .s .now) (c .before .before .refuse-header .result) (c .before .before .refuse-header .ensures) (c .if1 .taken)
-
-count-sections-requires : tie.Need-count-sections-requires
-count-sections-requires c κs =
-    search needs
-
-read-trailer-requires : tie.Need-read-trailer-requires
-read-trailer-requires c κs =
-    search needs
-
-returns-2 : tie.Need-returns-2
-returns-2 c =
-    file-trailer (c .before .before .before .before .before .before .before .args .s .now) (c .before .before .before .before .before .refuse-header .result) (c .before .before .before .before .before .refuse-header .ensures) (c .before .before .before .if1 .left) (c .before .before .count-sections .result) (c .before .before .count-sections .ensures)
-    (c .before .read-trailer .result) (c .before .read-trailer .ensures) (c .if2 .taken)
-
-check-sections-requires : tie.Need-check-sections-requires
-check-sections-requires c κs =
-    search needs
-
-returns-3 : tie.Need-returns-3
-returns-3 c =
-    file-sections (c .before .before .before .before .before .before .before .before .args .s .now) (c .before .before .before .before .before .before .refuse-header .result) (c .before .before .before .before .before .before .refuse-header .ensures) (c .before .before .before .before .if1 .left) (c .before .before .before .count-sections .result) (c .before .before .before .count-sections .ensures)
-    (c .before .before .read-trailer .result) (c .before .before .read-trailer .ensures) (c .before .if2 .left) (c .check-sections .result) (c .check-sections .ensures)
+returns c = c .check-known .ensures
 
 pub check-file-spec : {M : Type 1} → statement M
-check-file-spec =
-    tie.close
-    (tie.spec
-    refuse-header-requires
-    returns
-    count-sections-requires
-    read-trailer-requires
-    returns-2
-    check-sections-requires
-    returns-3)
+check-file-spec = tie.close (tie.spec check-known-requires returns)

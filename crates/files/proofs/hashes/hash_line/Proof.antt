@@ -25,8 +25,8 @@ shared-slice-read-b c = search needs
 add-i : tie.Need-add-i Inv-loop μ-loop
 add-i c = search needs
 
-close-field-requires : tie.Need-close-field-requires Inv-loop μ-loop
-close-field-requires c κs = search needs
+close-line-requires : tie.Need-close-line-requires Inv-loop μ-loop
+close-line-requires c κs = search needs
 
 returns : tie.Need-returns Inv-loop μ-loop
 returns c = search needs
@@ -34,17 +34,26 @@ returns c = search needs
 read-byte-requires : tie.Need-read-byte-requires Inv-loop μ-loop
 read-byte-requires c κs = search needs
 
+close-line-requires-2 : tie.Need-close-line-requires-2 Inv-loop μ-loop
+close-line-requires-2 c κs = search needs
+
+line-requires : tie.Need-line-requires Inv-loop μ-loop
+line-requires c κs = search needs
+
+returns-2 : tie.Need-returns-2 Inv-loop μ-loop
+returns-2 c = search needs
+
 loop-less : tie.Need-loop-less Inv-loop μ-loop
 loop-less c = search needs
 
 loop-again : tie.Need-loop-again Inv-loop μ-loop
 loop-again c = search needs
 
-close-field-requires-2 : tie.Need-close-field-requires-2 Inv-loop μ-loop
-close-field-requires-2 c κs = search needs
+close-line-requires-3 : tie.Need-close-line-requires-3 Inv-loop μ-loop
+close-line-requires-3 c κs = search needs
 
-returns-2 : tie.Need-returns-2 Inv-loop μ-loop
-returns-2 c = search needs
+returns-3 : tie.Need-returns-3 Inv-loop μ-loop
+returns-3 c = search needs
 
 pub hash-line-spec : {M : Type 1} → statement M
 hash-line-spec =
@@ -56,10 +65,13 @@ hash-line-spec =
     loop-holds
     shared-slice-read-b
     add-i
-    close-field-requires
+    close-line-requires
     returns
     read-byte-requires
+    close-line-requires-2
+    line-requires
+    returns-2
     loop-less
     loop-again
-    close-field-requires-2
-    returns-2)
+    close-line-requires-3
+    returns-3)

@@ -71,7 +71,12 @@ line-requires : tie.Need-line-requires Inv-loop μ-loop
 line-requires c κs = search needs
 
 add-n : tie.Need-add-n Inv-loop μ-loop
-add-n c = search needs
+add-n c =
+    let l = c .before .before .before .loop in
+    let a = c .before .before .before .before .before .before .before .before .args in
+    let b = seat-bounds (a .s .now) (a .seats) (c .before .before .before .before .before .before .before .before .pre .0) (a .i) (c .before .before .before .before .before .before .before .before .pre .1) (c .before .before .before .before .before .before .find-seat .result) (c .before .before .before .before .before .before .find-seat .ensures) in
+    let h : l .n + 1 ≤ length (a .s .now) = omega (arith, l .inv .0, c .before .before .loop-test .taken, b) in
+    search needs
 
 sub-loses : tie.Need-sub-loses Inv-loop μ-loop
 sub-loses c =
