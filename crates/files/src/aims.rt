@@ -1,6 +1,5 @@
 // Where the references of a table go: asked for once a section.
 ghost use mathlib.Core.Path.{_≡_};
-ghost use Prim.Native.Nat.{_<_};
 ghost use lib.ListN.{getD};
 ghost use Rattle.files.specs.Seating.{Ready};
 ghost use Rattle.files.specs.Aims.{aim-at, Aimed, Aiming};
@@ -83,7 +82,6 @@ pub fn take_aims(s: &[u8], seats: Seats, t: usize) -> Aims
 }
 
 pub fn find_aim(aims: Aims, r: usize) -> Aim
-    requires { ⌜ r < 3 ⌝ }
     ensures { λ x. ⌜ x ≡ aim-at aims r ⌝ }
 {
     if r == 0 {

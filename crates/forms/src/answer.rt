@@ -33,7 +33,7 @@ fn hand_form(out: &mut [u8], refusal: Refusal, s: &[u8], change: Change, text: &
 }
 
 // "Only a file with verdict 0 is written; else its verdict is given."
-pub fn write_checked(s: &[u8], refusal: Refusal, out: &mut [u8]) -> Written
+fn write_checked(s: &[u8], refusal: Refusal, out: &mut [u8]) -> Written
     requires { ⌜ refusal ≡ file-refusal (now s) ⌝ }
     ensures { λ r.
         ⌜ (r ≡ writeOf (now (s .entry)) (length (now (out .entry))))
@@ -49,7 +49,7 @@ pub fn write_checked(s: &[u8], refusal: Refusal, out: &mut [u8]) -> Written
 }
 
 // "Stripping gives the written form with marked texts empty and no marks."
-pub fn strip_checked(s: &[u8], refusal: Refusal, out: &mut [u8]) -> Written
+fn strip_checked(s: &[u8], refusal: Refusal, out: &mut [u8]) -> Written
     requires { ⌜ refusal ≡ file-refusal (now s) ⌝ }
     ensures { λ r.
         ⌜ (r ≡ stripOf (now (s .entry)) (length (now (out .entry))))

@@ -9,7 +9,5 @@ mod standing;
 
 pub use answer::fill;
 pub use answer::strip;
-pub use answer::strip_checked;
 pub use answer::write;
-pub use answer::write_checked;
 pub use change::Change;

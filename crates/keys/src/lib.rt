@@ -12,5 +12,4 @@ pub use key::hash_key;
 pub use key::less_key;
 pub use key::same_key;
 pub use read::read_chosen;
-pub use read::read_key;
 pub use read::read_reference;

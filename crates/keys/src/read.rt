@@ -10,8 +10,7 @@ ghost use Rattle.page.specs.Section.{record-text};
 ghost use Rattle.page.specs.Records.{own-bytes, valuesOf};
 ghost use Rattle.page.specs.Tables.{standing};
 ghost use Rattle.fields.specs.Runs.{field-from};
-ghost use Rattle.keys.specs.Numbers.{push, packed, seven, chosen, field-as, by-key, key-numbers, reference-at, refer-numbers};
-use crate::choice::choose_key;
+ghost use Rattle.keys.specs.Numbers.{push, packed, seven, chosen, field-as, reference-at, refer-numbers};
 use crate::choice::choose_reference;
 use crate::key::Key;
 use crate::key::PLACES;
@@ -128,12 +127,6 @@ pub fn read_chosen(w: &[u8], choice: u64) -> Key
         }
     }
     Key { k: k }
-}
-
-pub fn read_key(w: &[u8], t: usize, second: bool) -> Key
-    ensures { λ r. ⌜ r .k ≡ key-numbers (by-key second) t (valuesOf 0 1 (standing t) (fields (now (w .entry)))) ⌝ }
-{
-    read_chosen(w, choose_key(t, second))
 }
 
 pub fn read_reference(w: &[u8], t: usize, r: usize) -> Key

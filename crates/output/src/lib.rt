@@ -30,4 +30,3 @@ pub use tables::put_table_head;
 pub use texts::put_doubled;
 pub use texts::put_quoted;
 pub use texts::put_raw_part;
-pub use texts::put_raw_text;
