@@ -77,6 +77,22 @@ fn note_targets(w: &[u8], t: usize, choice: u64, g: &mut [u32])
     }
 }
 
+// Are the records of the third reference's target noted already, for the second?
+fn is_noted(aims: Aims, known: Known, r: usize) -> bool {
+    if r != 2 {
+        return false;
+    }
+    is_guessed(known, 1) && aims.second.target == aims.third.target
+}
+
+// Are the records of a reference's target to be noted?
+fn wants_targets(aims: Aims, known: Known, r: usize) -> bool {
+    if is_noted(aims, known, r) {
+        return false;
+    }
+    is_guessed(known, r)
+}
+
 // `w` is the section, `at` the record's line in it.
 pub fn guess_from(s: &[u8], w: &[u8], at: usize, aims: Aims, known: Known, g: &mut [u32]) -> Known
     requires { ⌜ Within (now s) aims × (length (now g) ≡ 57344) ⌝ }
@@ -87,7 +103,7 @@ pub fn guess_from(s: &[u8], w: &[u8], at: usize, aims: Aims, known: Known, g: &m
     while next < MOST {
         let r = next;
         next += 1;
-        if is_guessed(known, r) {
+        if wants_targets(aims, known, r) {
             let a = find_aim(aims, r);
             let from = a.from;
             let to = a.to;

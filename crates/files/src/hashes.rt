@@ -1,6 +1,8 @@
 // A hash of the numbers that a line has in the fields of a choice, in one walk over its bytes. It is for guesses: nothing is checked, and
 // a line that is no record has one too. Records whose numbers are equal have the same, however they are written.
-ghost use Prim.Native.Nat.{_<_};
+ghost use mathlib.Core.Path.{_≡_};
+ghost use mathlib.Core.Bool.{true};
+ghost use Prim.Native.Nat.{_<_, _≤_};
 use lines::Cursor;
 
 // What is left of the choice, the hash of the fields before, and the field's number as far as it was read.
@@ -27,6 +29,15 @@ fn widen(b: u8) -> u64
     b as u64
 }
 
+fn is_digit(d: u64) -> bool
+    ensures { λ r. ⌜ (r ≡ true → 48 ≤ d) ⌝ }
+{
+    if d < 48 {
+        return false;
+    }
+    d < 58
+}
+
 // With the field that was read, if it is chosen.
 fn close_field(x: Walk) -> u64 {
     if x.rest % 4 == 1 {
@@ -40,25 +51,53 @@ fn close_line(x: Walk) -> u64 {
     mix(close_field(x))
 }
 
-fn add_digit(x: Walk, d: u64) -> Walk
-    requires { ⌜ d < 256 ⌝ }
-{
+// With a number in its field.
+fn keep_value(x: Walk, value: u64) -> Walk {
     Walk {
         rest: x.rest,
         hash: x.hash,
-        value: x.value % 1152921504606846976 * 10 + d,
+        value: value,
         inside: x.inside,
     }
 }
 
-// Most bytes are digits.
-fn read_byte(x: Walk, b: u8) -> Walk {
-    let d = widen(b);
-    if 48 <= d {
-        if d < 58 {
-            return add_digit(x, d - 48);
+// A number, and where its digits end.
+struct Digits {
+    value: u64,
+    end: usize,
+}
+
+// Most bytes are digits, so they have a loop of their own.
+fn read_digits(w: &[u8], at: usize, first: u64) -> Digits
+    ensures { λ r. ⌜ at ≤ r .end ⌝ }
+{
+    let mut value = first;
+    let mut i = at;
+    while i < w.len() {
+        let d = widen(w[i]);
+        if d < 48 {
+            return Digits {
+                value: value,
+                end: i,
+            };
         }
+        if 57 < d {
+            return Digits {
+                value: value,
+                end: i,
+            };
+        }
+        value = value % 1152921504606846976 * 10 + (d - 48);
+        i += 1;
     }
+    Digits {
+        value: value,
+        end: i,
+    }
+}
+
+// A byte that is no digit.
+fn read_byte(x: Walk, b: u8) -> Walk {
     if b == 34 {
         return Walk {
             rest: x.rest,
@@ -99,12 +138,19 @@ pub fn hash_line(w: &[u8], at: usize, choice: u64) -> Hashed {
                 next: i,
             };
         }
-        x = read_byte(x, b);
-        if x.rest == 0 {
-            return Hashed {
-                hash: close_line(x),
-                next: Cursor { at: i }.line(w).span.to,
-            };
+        let d = widen(b);
+        if is_digit(d) {
+            let n = read_digits(w, i, d - 48);
+            x = keep_value(x, n.value);
+            i = n.end;
+        } else {
+            x = read_byte(x, b);
+            if x.rest == 0 {
+                return Hashed {
+                    hash: close_line(x),
+                    next: Cursor { at: i }.line(w).span.to,
+                };
+            }
         }
     }
     Hashed {

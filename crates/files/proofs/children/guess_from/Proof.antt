@@ -30,8 +30,8 @@ loop-holds c =
 add-next : tie.Need-add-next Inv-loop μ-loop
 add-next c = search needs
 
-is-guessed-requires : tie.Need-is-guessed-requires Inv-loop μ-loop
-is-guessed-requires c κs = search needs
+wants-targets-requires : tie.Need-wants-targets-requires Inv-loop μ-loop
+wants-targets-requires c κs = search needs
 
 find-aim-requires : tie.Need-find-aim-requires Inv-loop μ-loop
 find-aim-requires c κs = search needs
@@ -88,7 +88,7 @@ guess-from-spec =
     note-records-requires
     loop-holds
     add-next
-    is-guessed-requires
+    wants-targets-requires
     find-aim-requires
     sub-note-targets
     part-note-targets-start

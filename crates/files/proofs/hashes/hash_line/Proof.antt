@@ -13,8 +13,8 @@ abbrev μ-loop : tie.MeasureT-loop
 μ-loop w at choice x₀ i₀ x i =
     length w - i
 
-mul-t8 : tie.Need-mul-t8 Inv-loop μ-loop
-mul-t8 c = search needs
+mul-t10 : tie.Need-mul-t10 Inv-loop μ-loop
+mul-t10 c = search needs
 
 loop-holds : tie.Need-loop-holds Inv-loop μ-loop
 loop-holds c = search needs
@@ -31,6 +31,29 @@ close-line-requires c κs = search needs
 returns : tie.Need-returns Inv-loop μ-loop
 returns c = search needs
 
+widen-requires : tie.Need-widen-requires Inv-loop μ-loop
+widen-requires c κs = search needs
+
+is-digit-requires : tie.Need-is-digit-requires Inv-loop μ-loop
+is-digit-requires c κs = search needs
+
+sub-read-digits : tie.Need-sub-read-digits Inv-loop μ-loop
+sub-read-digits c =
+    let h = c .before .is-digit .ensures (c .if2 .taken) in
+    search needs
+
+read-digits-requires : tie.Need-read-digits-requires Inv-loop μ-loop
+read-digits-requires c κs = search needs
+
+keep-value-requires : tie.Need-keep-value-requires Inv-loop μ-loop
+keep-value-requires c κs = search needs
+
+loop-less : tie.Need-loop-less Inv-loop μ-loop
+loop-less c = search needs
+
+loop-again : tie.Need-loop-again Inv-loop μ-loop
+loop-again c = search needs
+
 read-byte-requires : tie.Need-read-byte-requires Inv-loop μ-loop
 read-byte-requires c κs = search needs
 
@@ -43,11 +66,11 @@ line-requires c κs = search needs
 returns-2 : tie.Need-returns-2 Inv-loop μ-loop
 returns-2 c = search needs
 
-loop-less : tie.Need-loop-less Inv-loop μ-loop
-loop-less c = search needs
+loop-less-2 : tie.Need-loop-less-2 Inv-loop μ-loop
+loop-less-2 c = search needs
 
-loop-again : tie.Need-loop-again Inv-loop μ-loop
-loop-again c = search needs
+loop-again-2 : tie.Need-loop-again-2 Inv-loop μ-loop
+loop-again-2 c = search needs
 
 close-line-requires-3 : tie.Need-close-line-requires-3 Inv-loop μ-loop
 close-line-requires-3 c κs = search needs
@@ -61,17 +84,24 @@ hash-line-spec =
     (tie.spec
     Inv-loop
     μ-loop
-    mul-t8
+    mul-t10
     loop-holds
     shared-slice-read-b
     add-i
     close-line-requires
     returns
+    widen-requires
+    is-digit-requires
+    sub-read-digits
+    read-digits-requires
+    keep-value-requires
+    loop-less
+    loop-again
     read-byte-requires
     close-line-requires-2
     line-requires
     returns-2
-    loop-less
-    loop-again
+    loop-less-2
+    loop-again-2
     close-line-requires-3
     returns-3)
