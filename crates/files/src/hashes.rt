@@ -19,10 +19,6 @@ pub struct Hashed {
     pub next: usize,
 }
 
-fn mix(x: u64) -> u64 {
-    x % 4294967296 * 2654435761 ^ x / 4294967296 * 2246822519
-}
-
 fn widen(b: u8) -> u64
     ensures { λ r. ⌜ r < 256 ⌝ }
 {
@@ -41,14 +37,14 @@ fn is_digit(d: u64) -> bool
 // With the field that was read, if it is chosen.
 fn close_field(x: Walk) -> u64 {
     if x.rest % 4 == 1 {
-        return mix(x.hash ^ x.value);
+        return keys::mix(x.hash ^ x.value);
     }
     x.hash
 }
 
 // The high bits of a hash choose its slot, and numbers that lie near each other part only in the low ones: so it is mixed once more.
 fn close_line(x: Walk) -> u64 {
-    mix(close_field(x))
+    keys::mix(close_field(x))
 }
 
 // With a number in its field.

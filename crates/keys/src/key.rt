@@ -41,7 +41,7 @@ pub fn less_key(a: Key, b: Key) -> bool
     false
 }
 
-fn mix(x: u64) -> u64
+pub fn mix(x: u64) -> u64
     ensures { λ r. ⌜ r ≡ mixed x ⌝ }
 {
     x % 4294967296 * 2654435761 ^ x / 4294967296 * 2246822519

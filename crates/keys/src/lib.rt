@@ -10,6 +10,7 @@ pub use choice::find_target;
 pub use key::Key;
 pub use key::hash_key;
 pub use key::less_key;
+pub use key::mix;
 pub use key::same_key;
 pub use read::read_chosen;
 pub use read::read_reference;
