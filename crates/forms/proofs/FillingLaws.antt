@@ -31,8 +31,10 @@ use Rattle.demands.proofs.RoundKeys.{earlier-none}
 use Rattle.demands.proofs.Round.{accepted-sections}
 use Rattle.demands.proofs.CallNumbers.{value-given}
 use Rattle.demands.proofs.Handed.{value-says}
-use Rattle.sections.specs.Walk.{section-from, Begins}
-use Rattle.sections.proofs.ValueLaws.{inside, table-from}
+use Rattle.sections.specs.Walk.{section-from}
+use Rattle.sections.specs.Located.{Begins}
+use Rattle.sections.proofs.ValueLaws.{inside}
+use Rattle.sections.proofs.AnswerLaws.{table-from}
 use Rattle.handing.specs.Own.{Spans}
 use Rattle.handing.proofs.PassLaws.{every-at}
 use Rattle.handing.proofs.TextLaws.{value-spans}

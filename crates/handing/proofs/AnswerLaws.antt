@@ -25,7 +25,8 @@ use Rattle.page.specs.declared.Refusal.{Refusal}
 use Rattle.page.specs.declared.Written.the-variants as W
 use Rattle.demands.proofs.Own.{row-count}
 use Rattle.demands.proofs.HandedCells.{cells-count}
-use Rattle.sections.specs.Walk.{section-from, Begins}
+use Rattle.sections.specs.Walk.{section-from}
+use Rattle.sections.specs.Located.{Begins}
 use Rattle.sections.specs.Values.{row-from}
 use Rattle.sections.proofs.SoundLaws.{passed-width}
 use Rattle.sections.proofs.ValueLaws.{prefix-lines, passed-from}

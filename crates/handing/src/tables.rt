@@ -6,7 +6,7 @@ ghost use lib.ListN.{length, drop};
 ghost use Rattle.page.specs.Lines.{lines};
 ghost use Rattle.page.specs.File.{limit};
 ghost use Rattle.page.specs.Handing.{cells-in, tableOf, cells-after};
-ghost use Rattle.sections.specs.Walk.{Begins};
+ghost use Rattle.sections.specs.Located.{Begins};
 ghost use Rattle.output.specs.Put.{Put};
 ghost use Rattle.handing.specs.Cells.{whole};
 use crate::cells::put_values;

@@ -5,26 +5,43 @@ ghost use Prim.Native.Nat.{_<_};
 ghost use Rattle.page.specs.Lines.{find, known, Mod, command, clean};
 ghost use Rattle.page.specs.Cut.{begins-table, begins-end};
 ghost use Rattle.lines.specs.Commands.{key-of, find-key, Set};
-use crate::ATR;
-use crate::CHS;
-use crate::COM;
-use crate::DVE;
-use crate::END;
-use crate::EOF;
-use crate::FFT;
-use crate::FRM;
-use crate::IFV;
-use crate::MISSING;
-use crate::MOD;
-use crate::REC;
-use crate::SRC;
-use crate::TBL;
-use crate::UNKNOWN;
-use crate::VER;
 use crate::content::all_allowed;
 use crate::content::content_of;
 use crate::content::find_semicolon;
 use crate::scan::trimmed;
+
+// A command by its place among the known ones; then one that is not known, and none at all.
+pub const MOD: u32 = 1;
+
+pub const SRC: u32 = 2;
+
+pub const CHS: u32 = 3;
+
+pub const VER: u32 = 4;
+
+pub const IFV: u32 = 5;
+
+pub const DVE: u32 = 6;
+
+pub const FFT: u32 = 7;
+
+pub const TBL: u32 = 8;
+
+pub const ATR: u32 = 9;
+
+pub const FRM: u32 = 10;
+
+pub const REC: u32 = 11;
+
+pub const END: u32 = 12;
+
+pub const COM: u32 = 13;
+
+pub const EOF: u32 = 14;
+
+pub const UNKNOWN: u32 = 15;
+
+pub const MISSING: u32 = 16;
 
 fn wide(b: u8) -> u32
     ensures { λ r. ⌜ (r ≡ b) × (r < 256) ⌝ }

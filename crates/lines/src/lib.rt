@@ -28,36 +28,19 @@ pub use scan::spaces;
 pub use scan::trim;
 pub use scan::trim_in;
 pub use scan::trimmed;
-
-// A command by its place among the known ones; then one that is not known, and none at all.
-pub const MOD: u32 = 1;
-
-pub const SRC: u32 = 2;
-
-pub const CHS: u32 = 3;
-
-pub const VER: u32 = 4;
-
-pub const IFV: u32 = 5;
-
-pub const DVE: u32 = 6;
-
-pub const FFT: u32 = 7;
-
-pub const TBL: u32 = 8;
-
-pub const ATR: u32 = 9;
-
-pub const FRM: u32 = 10;
-
-pub const REC: u32 = 11;
-
-pub const END: u32 = 12;
-
-pub const COM: u32 = 13;
-
-pub const EOF: u32 = 14;
-
-pub const UNKNOWN: u32 = 15;
-
-pub const MISSING: u32 = 16;
+pub use command::MOD;
+pub use command::SRC;
+pub use command::CHS;
+pub use command::VER;
+pub use command::IFV;
+pub use command::DVE;
+pub use command::FFT;
+pub use command::TBL;
+pub use command::ATR;
+pub use command::FRM;
+pub use command::REC;
+pub use command::END;
+pub use command::COM;
+pub use command::EOF;
+pub use command::UNKNOWN;
+pub use command::MISSING;

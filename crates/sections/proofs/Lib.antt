@@ -4,4 +4,6 @@ pub mod RunLaws
 pub mod SoundLaws
 pub mod PlaceLaws
 pub mod ReachLaws
+pub mod LocatedLaws
+pub mod AnswerLaws
 pub mod ValueLaws

@@ -28,30 +28,22 @@ use Rattle.page.specs.declared.Value.{Value}
 use Rattle.page.specs.declared.Got.the-variants as G
 use Rattle.page.proofs.LineLaws.{line-size, joined-lines}
 use Rattle.sections.specs.declared.values.Place.{Place}
-use Rattle.sections.specs.Walk.{section-size, section-from, Settled, Begins}
+use Rattle.sections.specs.Walk.{section-size, section-from, Settled}
 use Rattle.sections.specs.Values.{Placed, row-from, refusal-from, value-from}
 use Rattle.sections.proofs.WalkLaws.{section-lines, section-within, settled-begins}
 use Rattle.sections.proofs.SoundLaws.{sound-passed, passed-width}
+use Rattle.sections.specs.Located.{Begins}
+use Rattle.sections.proofs.AnswerLaws.{from-lines}
 
--- the section's answer, and the value's, where the section stands at a place
+-- the value's answer, where its section stands at a place
 module _ (s : Bytes) (i : ℕ) where
-  module _ (at : ℕ) (b : Begins s i at) where
-    pub section-here : Li.Is (rowOf (latinOf s) (section-from s at)) ≡ sectionOf s i
-    unfolding sectionOf listed row-at
-    section-here = rw (b .found, b .is)
+  pub value-here : (at : ℕ) → Begins s i at → (r f : ℕ) → value-from s i at r f ≡ valueOf s i r f
+  unfolding valueOf value-refusal value-from refusal-from row-from row-at earlier
+  value-here at b r f = rw (b .found, b .is)
 
-    pub value-here : (r f : ℕ) → value-from s i at r f ≡ valueOf s i r f
-    unfolding valueOf value-refusal value-from refusal-from row-from row-at earlier
-    value-here r f = rw (b .found, b .is)
-
-  module _ (x : Refusal) (n : x .number ≡ 0 → ⊥) (e : x ≡ find-refusal s i) where
-    pub section-refused : Li.Refused x ≡ sectionOf s i
-    unfolding sectionOf listed
-    section-refused = rw (sym e, ne-eqb (x .number) 0 n)
-
-    pub value-refused : (r f : ℕ) → G.Refused x ≡ valueOf s i r f
-    unfolding valueOf value-refusal got earlier
-    value-refused r f = rw (sym e, ne-eqb (x .number) 0 n, ne-eqb (x .number) 0 n)
+  pub value-refused : (x : Refusal) → (x .number ≡ 0 → ⊥) → x ≡ find-refusal s i → (r f : ℕ) → G.Refused x ≡ valueOf s i r f
+  unfolding valueOf value-refusal got earlier
+  value-refused x n e r f = rw (sym e, ne-eqb (x .number) 0 n, ne-eqb (x .number) 0 n)
 
 -- where a record's fields stand, they are its standing
 pub placed-is : (s : Bytes) (x : Standing) (p : Place) → Placed s x p → record { at = p .from; rest = take (p .to - p .from) (drop (p .from) s); mark = p .mark } ≡ x
@@ -70,14 +62,6 @@ module _ (s : Bytes) (at : ℕ) (h : at < length s) where
 
   abbrev l : Bytes
   l = take (e - at) (drop at s)
-
-  from-lines : section-from s at .lines ≡ l ∷ cut (lines (drop e s)) .front
-  unfolding section-from
-  from-lines = section-lines s at e h refl
-
-  pub table-from : (k : ℕ) → k ≡ e → table-of (section-from s at .lines) ≡ table-named (getD (fields (rest (content (take (k - at) (drop at s))))) 0 [])
-  unfolding table-of
-  table-from k q = rw (from-lines, q)
 
   pub row-length : row-from s at .length ≡ section-size (drop at s)
   unfolding row-from rowOf row-of section-from
@@ -100,9 +84,9 @@ module _ (s : Bytes) (at : ℕ) (h : at < length s) where
     unfolding row-from rowOf row-of
     passed-from r k =
         let ls = cut (lines (drop e s)) .front in
-        let x : outcome (latinOf s) (l ∷ ls) .verdict ≡ 0 = rw from-lines at v in
-        let y : r < outcome (latinOf s) (l ∷ ls) .records = rw from-lines at k in
-        rw from-lines (sound-passed (latinOf s) l ls r at (settled-begins s at e h refl z) x y)
+        let x : outcome (latinOf s) (l ∷ ls) .verdict ≡ 0 = rw (from-lines s at h) at v in
+        let y : r < outcome (latinOf s) (l ∷ ls) .records = rw (from-lines s at h) at k in
+        rw (from-lines s at h) (sound-passed (latinOf s) l ls r at (settled-begins s at e h refl z) x y)
 
     pub field-from : (r f : ℕ) → r < row-from s at .records → (f ≡ 0 → ⊥) → f ≤ width (table-of (section-from s at .lines))
         → f - 1 < length (fields (record-at r 0 at (section-from s at .lines) .rest))

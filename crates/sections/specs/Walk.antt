@@ -11,8 +11,6 @@ use Rattle.page.specs.File.{limit}
 use Rattle.page.specs.Reading.{no-section, section-at, find-refusal}
 use Rattle.page.proofs.LineLaws.{line-size}
 use Rattle.page.proofs.CutLaws.{front-size, sections-from}
-use Rattle.sections.specs.declared.walk.Located.{Located}
-use Rattle.sections.specs.declared.walk.Located.the-variants as L
 
 -- how many bytes the section at the front has: its first line, and the lines before the next `tbl` or `eof` line
 unfoldable pub section-size : Bytes → ℕ
@@ -45,19 +43,3 @@ pub record Reached (s : Bytes) (k r : ℕ) : Type 0 where
   pub within : r ≤ length s
   pub settled : Settled s r
   pub left : drop k (sections s) ≡ sections-from s r
-
--- "the first of 1, 2, 24 for the section", or the place of section i, from 1
-unfoldable pub located : Bytes → ℕ → Located
-located s i = pick (eqb (find-refusal s i .number) 0) (L.At (section-at s i .place)) (L.Refused (find-refusal s i))
-
--- section i begins at a place
-pub record Begins (s : Bytes) (i at : ℕ) : Type 0 where
-  pub found : find-refusal s i .number ≡ 0
-  pub short : length s ≤ limit
-  pub inside : at < length s
-  pub settled : Settled s at
-  pub is : section-at s i ≡ section-from s at
-
-abbrev pub Locates : Bytes → ℕ → Located → Type 0
-Locates s i (L.At at) = Begins s i at
-Locates s i (L.Refused x) = (x .number ≡ 0 → ⊥) × (x ≡ find-refusal s i)

@@ -1,4 +1,6 @@
 // One section of a file, by value.
+mod handed;
+mod seek;
 mod answers;
 mod machine;
 mod reading;
@@ -8,11 +10,11 @@ mod walk;
 
 pub use answers::section;
 pub use answers::table_at;
-pub use answers::value;
+pub use handed::value;
 pub use machine::step;
 pub use reading::read_lines;
 pub use reading::read_section;
-pub use reading::section_end;
+pub use seek::section_end;
 pub use records::amount_at;
 pub use records::judge_record;
 pub use values::Place;
@@ -24,7 +26,7 @@ pub use values::place_fields;
 pub use values::value_in;
 pub use values::wait_on;
 pub use walk::Located;
-pub use walk::find_nth;
-pub use walk::find_section;
+pub use seek::find_nth;
+pub use seek::find_section;
 pub use walk::locate;
 pub use walk::refuse_with;

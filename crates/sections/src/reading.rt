@@ -7,6 +7,7 @@ ghost use Rattle.page.specs.Section.{table-in, refused, finish, outcome};
 ghost use Rattle.page.specs.File.{rowOf};
 ghost use Rattle.sections.specs.Walk.{section-size, section-from};
 use crate::machine::step;
+use crate::seek::section_end;
 use lines::Cursor;
 use page::Outcome;
 use page::Phase;
@@ -80,20 +81,6 @@ pub fn read_lines(s: &[u8], latin: bool) -> Outcome
         }
     }
     finish(p, n)
-}
-
-// Where the section at a place ends: "up to the next `tbl` or `eof` line or the end of the bytes".
-pub fn section_end(s: &[u8], from: usize) -> usize
-    requires { ⌜ from < length (now s) ⌝ }
-    ensures { λ r.
-        ⌜ (r ≡ from + section-size (drop from (now (s .entry))))
-        × (from < r)
-        × (r ≤ length (now (s .entry))) ⌝ }
-{
-    let c = Cursor { at: from };
-    let l = c.line(s);
-    let e = l.span.to;
-    e + headers::header_size(&s[e..])
 }
 
 // "table number, place, length, record count and verdict"

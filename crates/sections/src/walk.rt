@@ -1,47 +1,11 @@
-// From section to section.
+// A section by its number.
 ghost use mathlib.Core.Path.{_≡_};
 ghost use Prim.Native.Nat.{_≤_};
 ghost use lib.ListN.{length};
 ghost use Rattle.page.specs.Answers.{refusal};
-ghost use Rattle.sections.specs.Walk.{Next, Reached, located, Locates};
-use crate::reading::section_end;
-use lines::Cursor;
+ghost use Rattle.sections.specs.Located.{located, Locates};
+use crate::seek::find_nth;
 use page::Refusal;
-
-// The next section at or after a line's place: "A section begins at each `tbl` line".
-pub fn find_section(s: &[u8], at: usize) -> usize
-    requires { ⌜ at ≤ length (now s) ⌝ }
-    ensures { λ r. ⌜ Next (now (s .entry)) at r ⌝ }
-{
-    let mut c = Cursor { at: at };
-    while c.at < s.len() {
-        let at = c.at;
-        let l = c.line(s);
-        let e = l.span.to;
-        if lines::begins_table(&s[at..e]) {
-            return at;
-        }
-        c = l.next;
-    }
-    s.len()
-}
-
-// The section after k others.
-pub fn find_nth(s: &[u8], k: usize) -> usize
-    ensures { λ r. ⌜ Reached (now (s .entry)) k r ⌝ }
-{
-    let mut at = find_section(s, 0);
-    let mut j: usize = 0;
-    while j < k {
-        if s.len() <= at {
-            return at;
-        }
-        let e = section_end(s, at);
-        at = find_section(s, e);
-        j += 1;
-    }
-    at
-}
 
 // A section's place, or why there is none.
 pub enum Located {

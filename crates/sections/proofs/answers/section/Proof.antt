@@ -1,7 +1,7 @@
 -- `sections::answers::section` meets its contract. Assumes nothing.
 use Prim.Native.Nat.{_-_}
 use borrow.Author.Needs.{needs}
-use Rattle.sections.proofs.ValueLaws.{section-here, section-refused}
+use Rattle.sections.proofs.AnswerLaws.{section-here, section-refused}
 use Rattle.sections.proofs.answers.section.Statement.{statement}
 use Rattle.sections.proofs.answers.section.Tie as tie
 

@@ -4,7 +4,7 @@ use mathlib.Core.Path.{sym}
 use native.Mathlib.Omega.{arith}
 use borrow.Author.Needs.{needs}
 use Rattle.lines.proofs.CursorLaws.{handed}
-use Rattle.sections.proofs.ValueLaws.{table-from}
+use Rattle.sections.proofs.AnswerLaws.{table-from}
 use Rattle.sections.proofs.answers.table_at.Statement.{statement}
 use Rattle.sections.proofs.answers.table_at.Tie as tie
 

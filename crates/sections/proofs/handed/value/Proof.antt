@@ -1,10 +1,10 @@
--- `sections::answers::value` meets its contract. Assumes nothing.
+-- `sections::handed::value` meets its contract. Assumes nothing.
 use Prim.Native.Nat.{_-_}
 use mathlib.Core.Path.{_∙_}
 use borrow.Author.Needs.{needs}
 use Rattle.sections.proofs.ValueLaws.{value-here, value-refused}
-use Rattle.sections.proofs.answers.value.Statement.{statement}
-use Rattle.sections.proofs.answers.value.Tie as tie
+use Rattle.sections.proofs.handed.value.Statement.{statement}
+use Rattle.sections.proofs.handed.value.Tie as tie
 
 locate-requires : tie.Need-locate-requires
 locate-requires c κs = search needs

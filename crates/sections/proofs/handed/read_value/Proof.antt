@@ -1,4 +1,4 @@
--- `sections::answers::read_value` meets its contract. Assumes nothing.
+-- `sections::handed::read_value` meets its contract. Assumes nothing.
 use Prim.Native.Nat.{_-_}
 use mathlib.Core.Path.{_≡_, ap, sym, _∙_}
 use native.Mathlib.Omega.{arith}
@@ -9,8 +9,8 @@ use Rattle.page.specs.Places.{Standing}
 use Rattle.page.specs.Fields.{fields}
 use Rattle.page.proofs.ScanLaws.{part-length}
 use Rattle.sections.proofs.ValueLaws.{placed-is}
-use Rattle.sections.proofs.answers.read_value.Statement.{statement}
-use Rattle.sections.proofs.answers.read_value.Tie as tie
+use Rattle.sections.proofs.handed.read_value.Statement.{statement}
+use Rattle.sections.proofs.handed.read_value.Tie as tie
 
 find-record-requires : tie.Need-find-record-requires
 find-record-requires c κs = search needs

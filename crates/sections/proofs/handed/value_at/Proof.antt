@@ -1,4 +1,4 @@
--- `sections::answers::value_at` meets its contract. Assumes nothing.
+-- `sections::handed::value_at` meets its contract. Assumes nothing.
 use Prim.Native.Nat.{_+_, _-_}
 use mathlib.Core.Bool.{false}
 use mathlib.Core.Path.{_≡_, refl, ap, sym, _∙_}
@@ -12,8 +12,8 @@ use Rattle.page.specs.Lines.{lines}
 use Rattle.page.specs.Tables.{width}
 use Rattle.sections.proofs.ValueLaws.{Ready, row-is, value-unsound, value-outside, value-inside, ready, outside-left, outside-right}
 use Rattle.sections.specs.Walk.{section-from}
-use Rattle.sections.proofs.answers.value_at.Statement.{statement}
-use Rattle.sections.proofs.answers.value_at.Tie as tie
+use Rattle.sections.proofs.handed.value_at.Statement.{statement}
+use Rattle.sections.proofs.handed.value_at.Tie as tie
 
 read-charset-requires : tie.Need-read-charset-requires
 read-charset-requires c κs = search needs

@@ -1,11 +1,11 @@
--- `sections::reading::section_end` meets its contract. Assumes nothing.
+-- `sections::seek::section_end` meets its contract. Assumes nothing.
 use Prim.Native.Nat.{_-_}
 use native.Mathlib.Omega.{arith}
 use borrow.Author.Needs.{needs}
 use Rattle.lines.proofs.CursorLaws.{handed}
 use Rattle.sections.proofs.WalkLaws.{end-from}
-use Rattle.sections.proofs.reading.section_end.Statement.{statement}
-use Rattle.sections.proofs.reading.section_end.Tie as tie
+use Rattle.sections.proofs.seek.section_end.Statement.{statement}
+use Rattle.sections.proofs.seek.section_end.Tie as tie
 
 line-requires : tie.Need-line-requires
 line-requires c κs = search needs

@@ -1,9 +1,9 @@
--- `sections::answers::is_outside` meets its contract. Assumes nothing.
+-- `sections::handed::is_outside` meets its contract. Assumes nothing.
 use Prim.Native.Nat.{_-_}
 use borrow.Author.Tests.{eq-eqb, ne-eqb}
 use Rattle.page.specs.Reading.{outside}
-use Rattle.sections.proofs.answers.is_outside.Statement.{statement}
-use Rattle.sections.proofs.answers.is_outside.Tie as tie
+use Rattle.sections.proofs.handed.is_outside.Statement.{statement}
+use Rattle.sections.proofs.handed.is_outside.Tie as tie
 
 returns : tie.Need-returns
 unfolding outside

@@ -1,4 +1,4 @@
--- `sections::walk::find_nth` meets its contract. Assumes nothing.
+-- `sections::seek::find_nth` meets its contract. Assumes nothing.
 use Prim.Native.Nat.{_-_, _≤_}
 use mathlib.Core.Path.{_≡_}
 use native.Mathlib.Omega.{arith}
@@ -8,8 +8,8 @@ use Rattle.page.specs.Cut.{sections}
 use Rattle.page.proofs.CutLaws.{sections-from}
 use Rattle.sections.proofs.ReachLaws.{reach-first, reach-next, reach-none, reached}
 use Rattle.sections.specs.Walk.{Settled}
-use Rattle.sections.proofs.walk.find_nth.Statement.{statement}
-use Rattle.sections.proofs.walk.find_nth.Tie as tie
+use Rattle.sections.proofs.seek.find_nth.Statement.{statement}
+use Rattle.sections.proofs.seek.find_nth.Tie as tie
 
 abbrev Inv-loop : tie.InvT-loop
 Inv-loop s k at₀ j₀ at j =

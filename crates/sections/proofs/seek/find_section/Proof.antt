@@ -1,4 +1,4 @@
--- `sections::walk::find_section` meets its contract. Assumes nothing.
+-- `sections::seek::find_section` meets its contract. Assumes nothing.
 use Prim.Native.Nat.{_+_, _-_, _≤_}
 use mathlib.Core.Path.{_≡_, refl, sym, _∙_}
 use native.Mathlib.Omega.{arith}
@@ -9,8 +9,8 @@ use Rattle.lines.proofs.CursorLaws.{handed}
 use Rattle.page.proofs.CutLaws.{sections-from}
 use Rattle.sections.proofs.WalkLaws.{sections-other, next-stop, next-more, next-end, settled-zero}
 use Rattle.sections.specs.Walk.{next-table}
-use Rattle.sections.proofs.walk.find_section.Statement.{statement}
-use Rattle.sections.proofs.walk.find_section.Tie as tie
+use Rattle.sections.proofs.seek.find_section.Statement.{statement}
+use Rattle.sections.proofs.seek.find_section.Tie as tie
 
 abbrev Inv-loop : tie.InvT-loop
 Inv-loop s at c₀ c =
