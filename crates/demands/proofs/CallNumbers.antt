@@ -7,7 +7,7 @@ use native.Mathlib.Omega.{arith}
 use lib.Dec.{eqb, ltb}
 use lib.ListN.{length}
 use borrow.Author.Tests.{eqb-true, ne-eqb, ltb-true, ltb-false}
-use Rattle.page.specs.Bytes.{Bytes, pick, all}
+use Rattle.page.specs.Bytes.{Bytes, pick}
 use Rattle.page.specs.Tables.{column-at, width}
 use Rattle.page.specs.Cut.{sections, header-lines}
 use Rattle.page.specs.Header.{headOf}

@@ -23,7 +23,7 @@ use Rattle.page.specs.declared.Written.the-variants as W
 use Rattle.demands.specs.Handed.{row-cells, table-cells, CellAt}
 use Rattle.demands.proofs.Own.{row-count}
 use Rattle.demands.proofs.CallNumbers.{none-exactly, verdict-open, Given}
-use Rattle.demands.proofs.PromisesHanding.{TableDone, table-done}
+use Rattle.demands.proofs.PromisesHanding.{table-done}
 
 -- the cells of n records that stand so
 unfoldable all-cells : ℕ → (ℕ → Standing) → ℕ → List ℕ

@@ -1,6 +1,5 @@
 -- The theorems on what is written speak of something: a file of the trade's habits, written, stripped and filled, by computing. Assumes nothing.
 use mathlib.Core.Path.{_≡_, refl}
-use mathlib.Core.List.{[]}
 use Rattle.page.specs.Bytes.{Bytes, bytes}
 use Rattle.page.specs.Answers.{sound}
 use Rattle.page.specs.File.{file-refusal}

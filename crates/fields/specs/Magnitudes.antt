@@ -1,5 +1,4 @@
 -- Digits read as one answer: that they are 1 to 18 digits, and what they are worth.
-use Prim.Native.Nat.{ℕ}
 use Rattle.page.specs.Bytes.{Bytes, pick}
 use Rattle.page.specs.Fields.{digits, value}
 use Rattle.fields.specs.declared.numbers.Magnitude.{Magnitude}

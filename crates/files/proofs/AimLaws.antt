@@ -13,7 +13,6 @@ use Rattle.page.specs.Lines.{lines, content, command, rest, Rec}
 use Rattle.page.specs.Fields.{fields}
 use Rattle.page.specs.Tables.{Table, all-tables, table-at, standing}
 use Rattle.page.specs.Records.{valuesOf}
-use Rattle.page.specs.Answers.{refusal, sound}
 use Rattle.page.specs.File.{any, by-primary, lost, first-record, filedOf}
 use Rattle.page.specs.declared.Refusal.{Refusal}
 use Rattle.page.proofs.TableLaws.{each, table-test}
@@ -22,9 +21,9 @@ use Rattle.files.specs.declared.aims.Aim.{Aim}
 use Rattle.files.specs.declared.aims.Aims.{Aims}
 use Rattle.files.specs.declared.seating.Seat.{Seat}
 use Rattle.files.specs.declared.seating.Seats.{Seats}
-use Rattle.files.specs.Scan.{is-record, bears, first-line, some}
+use Rattle.files.specs.Scan.{is-record, first-line, some}
 use Rattle.files.specs.Seating.{seat-at, Ready}
-use Rattle.files.specs.Faults.{reaches, misses, loses, loses-any, lost-line, Looked}
+use Rattle.files.specs.Faults.{misses, loses, loses-any, lost-line, Looked}
 use Rattle.files.specs.Aims.{aim-at, reached, lacks, lacks-some, lacks-any, Aimed, Within, Aiming}
 use Rattle.files.proofs.LostLaws.{place-few, reaches-none, reaches-some, lost-none, lost-at}
 use Rattle.files.proofs.RepeatLaws.{seat-bounds}

@@ -1,6 +1,6 @@
 -- A record that is met at any place where a line begins is one of the section's. Assumes nothing.
 use mathlib.Core.Path.{_≡_, refl, sym}
-use mathlib.Core.Bool.{Bool, true, false}
+use mathlib.Core.Bool.{Bool, true}
 use Prim.Native.Nat.{ℕ, _+_, _-_, _<_}
 use lib.ListN.{length, take, drop}
 use Rattle.page.specs.Bytes.{Bytes}

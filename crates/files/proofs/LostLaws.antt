@@ -24,7 +24,7 @@ use Rattle.keys.proofs.SameLaws.{Fitting, reference-same}
 use Rattle.keys.proofs.SoundLaws.{Sound}
 use Rattle.files.specs.declared.seating.Seat.{Seat}
 use Rattle.files.specs.declared.seating.Seats.{Seats}
-use Rattle.files.specs.Scan.{is-record, line-key, bears, first-line, refused-at, some}
+use Rattle.files.specs.Scan.{is-record, line-key, bears, first-line, refused-at}
 use Rattle.files.specs.Seating.{no-seat, seat-at, Sits, Ready}
 use Rattle.files.specs.Faults.{reaches, misses, loses, loses-any, lost-line}
 use Rattle.files.proofs.ScanLaws.{any-some}

@@ -1,10 +1,9 @@
 -- The largest key of the lines passed: a key above it is new. Assumes nothing.
-use mathlib.Core.Path.{_≡_, refl, ap, sym, _∙_}
+use mathlib.Core.Path.{_≡_, refl, sym, _∙_}
 use mathlib.Core.Bool.{Bool, true, false, false≢true, _||_}
 use mathlib.Core.List.{List, [], _∷_, _++_}
 use Prim.Native.Nat.{ℕ, _+_}
 use borrow.Author.Tests.{eq-eqb, ne-eqb}
-use lib.Dec.{eqb}
 use Rattle.page.specs.Bytes.{Bytes, pick, same}
 use Rattle.page.specs.Lines.{content, command, rest, Rec}
 use Rattle.page.specs.Fields.{fields}

@@ -1,7 +1,7 @@
 // Where each table stands.
 ghost use mathlib.Core.Path.{_≡_};
 ghost use Prim.Native.Nat.{_<_};
-ghost use lib.ListN.{length, getD};
+ghost use lib.ListN.{length};
 ghost use Rattle.page.specs.Records.{table-of};
 ghost use Rattle.page.specs.Answers.{sound};
 ghost use Rattle.page.specs.File.{rowsOf, first-unsound};

@@ -3,7 +3,7 @@ use mathlib.Core.Path.{_≡_, refl, ap, sym, _∙_}
 use mathlib.Core.Bool.{Bool, true, false, not, _&&_, _||_}
 use mathlib.Core.List.{List, [], _∷_, _++_}
 use mathlib.Core.Option.{Option, none, some}
-use Prim.Native.Nat.{ℕ, zero, suc, _+_, _-_, _*_, _<_, _≤_}
+use Prim.Native.Nat.{ℕ, suc, _+_, _-_, _*_, _<_, _≤_}
 use native.Mathlib.Numerals.{add-one}
 use native.Mathlib.Omega.{arith}
 use borrow.Author.Tests.{eq-eqb, ne-eqb, eqb-true, eqb-false, leb-true}
@@ -11,11 +11,11 @@ use lib.Dec.{eqb, leb}
 use lib.ListN.{length, getD, drop, drop-of-length-le}
 use lib.Seq.{drop-cons}
 use Rattle.page.specs.Bytes.{Bytes, bytes, pick}
-use Rattle.page.specs.Fields.{textOf, numberOf}
-use Rattle.page.specs.Tables.{Named, Table, all-tables, no-column, standing, columns, column-at, width}
+use Rattle.page.specs.Fields.{numberOf}
+use Rattle.page.specs.Tables.{Named, all-tables, no-column, standing, column-at, width}
 use Rattle.page.specs.Marks.{owner-of}
-use Rattle.page.specs.Section.{record-text, text-field, fieldOf, field-number, first-of, first-wrong, same-points, empty-marked, rec-verdict, amount}
-use Rattle.page.specs.Records.{Datum, number, words, Record, own-bytes, datumOf}
+use Rattle.page.specs.Section.{record-text, text-field, fieldOf, field-number, first-wrong, rec-verdict, amount}
+use Rattle.page.specs.Records.{number, words, own-bytes, datumOf}
 use Rattle.page.specs.Model.{strip-datum}
 use Rattle.page.specs.Form.{doubled, quoted, decimal, datum-text, mark-line}
 use Rattle.page.specs.declared.Owner.the-variants as O

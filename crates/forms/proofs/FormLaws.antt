@@ -1,19 +1,18 @@
 -- The form of an accepted file, changed: its header as it stands, its sections, its trailer. Assumes nothing.
 use mathlib.Core.Path.{_≡_, refl, ap, sym, _∙_}
-use mathlib.Core.Bool.{Bool, true, false, _||_}
-use mathlib.Core.List.{List, [], _∷_, _++_, map}
-use Prim.Native.Nat.{ℕ, _+_, _<_, _≤_}
-use native.Mathlib.Omega.{arith}
-use borrow.Author.Tests.{eq-eqb, ne-eqb, eqb-true, eqb-false}
-use lib.Dec.{eqb, ltb}
-use lib.ListN.{length, drop}
-use Rattle.page.specs.Bytes.{Bytes, bytes, pick}
+use mathlib.Core.Bool.{Bool, true, false}
+use mathlib.Core.List.{[], _∷_, _++_, map}
+use Prim.Native.Nat.{ℕ, _+_}
+use borrow.Author.Tests.{eqb-true}
+use lib.Dec.{eqb}
+use lib.ListN.{length}
+use Rattle.page.specs.Bytes.{Bytes, bytes}
 use Rattle.page.specs.Cut.{sections, header-lines}
 use Rattle.page.specs.Head.{head-values, header-values}
-use Rattle.page.specs.Model.{Model, contentOf, modelOf, strip-model, fill-model}
-use Rattle.page.specs.Answers.{earlier, refuse-if, written}
-use Rattle.page.specs.File.{limit, file-refusal}
-use Rattle.page.specs.Form.{decimal, line, head-form, tables-form, formOf}
+use Rattle.page.specs.Model.{modelOf, strip-model}
+use Rattle.page.specs.Answers.{earlier, written}
+use Rattle.page.specs.File.{file-refusal}
+use Rattle.page.specs.Form.{decimal, head-form, tables-form, formOf}
 use Rattle.page.specs.Writing.{put-refusal, putOf, put-after, write-form, writeOf, write-after, strip-form, stripOf, strip-after}
 use Rattle.page.specs.declared.Header.{Header}
 use Rattle.page.specs.declared.Refusal.{Refusal}

@@ -1,24 +1,23 @@
 -- A sound header's texts stand in the file as they are written. Assumes nothing.
 use mathlib.Core.Path.{_≡_, refl, ap, sym, _∙_}
-use mathlib.Core.Bool.{Bool, true, false, not, _&&_, _||_, false≢true}
-use mathlib.Core.List.{List, [], _∷_}
+use mathlib.Core.Bool.{Bool, true, false, false≢true}
+use mathlib.Core.List.{List, []}
 use mathlib.Core.Option.{Option, none, some}
 use Prim.Native.Nat.{ℕ, zero, suc, _+_, _-_, _<_, _≤_}
 use native.Mathlib.Omega.{arith}
-use borrow.Author.Tests.{eqb-true, eqb-false, eq-eqb, ne-eqb, ltb-true, ltb-false}
+use borrow.Author.Tests.{eqb-true, eqb-false, ne-eqb, ltb-true, ltb-false}
 use lib.Dec.{eqb, ltb}
 use lib.ListN.{length, getD, take, drop, length-take}
 use Rattle.page.specs.Bytes.{Bytes, pick, until, part, moved}
-use Rattle.page.specs.Lines.{lines, joined, content-size, content, command, rest, semicolon, Mod, Src, Chs, Ver, Ifv, Dve, Fft}
+use Rattle.page.specs.Lines.{lines, joined, content-size, content, command, rest, semicolon, Src, Ver, Ifv, Dve, Fft}
 use Rattle.page.specs.Fields.{fields, textOf}
 use Rattle.page.specs.Cut.{header-lines}
 use Rattle.page.specs.Header.{is-text}
 use Rattle.page.specs.Places.{line-of, field-span, unquoted}
-use Rattle.page.specs.Head.{Head, field-in, text-in, text-if, stands-in, text-span, span-if, head-values, header-values}
+use Rattle.page.specs.Head.{field-in, text-in, text-if, stands-in, text-span, span-if, head-values, header-values}
 use Rattle.page.specs.Records.{own-bytes}
 use Rattle.page.specs.Form.{doubled}
 use Rattle.page.specs.declared.Span.{Span}
-use Rattle.page.specs.declared.Stated.{Stated}
 use Rattle.page.specs.declared.Stated.the-variants as St
 use Rattle.page.proofs.ScanLaws.{part-length, part-moved}
 use Rattle.page.proofs.LineLaws.{line-size, line-in, cut-at, lines-end}

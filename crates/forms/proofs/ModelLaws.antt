@@ -1,16 +1,15 @@
 -- What is changed when nothing, all marked texts, or one field is named: writing, stripping, filling. Assumes nothing.
-use mathlib.Core.Path.{_≡_, refl, ap, sym, _∙_}
+use mathlib.Core.Path.{_≡_, refl, ap, _∙_}
 use mathlib.Core.Bool.{Bool, true, false}
 use mathlib.Core.List.{List, [], _∷_, map}
-use Prim.Native.Nat.{ℕ, zero, suc, _+_, _-_, _<_, _≤_}
+use Prim.Native.Nat.{ℕ, zero, suc, _-_, _<_}
 use native.Mathlib.Omega.{arith}
-use borrow.Author.Tests.{eq-eqb, ne-eqb}
+use borrow.Author.Tests.{ne-eqb}
 use lib.Dec.{eqb}
 use Rattle.page.specs.Bytes.{Bytes, pick}
-use Rattle.page.specs.Records.{Datum, words, Record}
+use Rattle.page.specs.Records.{words, Record}
 use Rattle.page.specs.Model.{Content, Model, change, fill-record, fill-content, fill-model, strip-datum, strip-content, strip-model}
 use Rattle.page.specs.declared.Owner.the-variants as O
-use Rattle.forms.specs.declared.change.Change.{Change}
 use Rattle.forms.specs.Changed.{changed-datum, changed-values, changed-records, changed-content, changed-tables, changed-model}
 
 -- past what is named, and where nothing is, only marked texts change

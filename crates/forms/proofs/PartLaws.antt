@@ -2,28 +2,21 @@
 use mathlib.Core.Path.{_≡_, refl, ap, sym, _∙_}
 use mathlib.Core.Bool.{Bool, true, false, not, _&&_, _||_}
 use mathlib.Core.List.{List, [], _∷_, _++_, map, append-assoc}
-use mathlib.Core.Option.{Option, none, some}
-use Prim.Native.Nat.{ℕ, zero, suc, _+_, _-_, _<_, _≤_}
-use native.Mathlib.Numerals.{add-one}
+use Prim.Native.Nat.{ℕ, suc, _+_, _-_, _≤_}
 use native.Mathlib.Omega.{arith}
-use borrow.Author.Tests.{eq-eqb, ne-eqb, eqb-true, eqb-false, leb-true}
-use lib.Dec.{eqb, leb}
+use borrow.Author.Tests.{eq-eqb, ne-eqb, eqb-true, eqb-false}
+use lib.Dec.{eqb}
 use lib.ListN.{length, length-append}
-use lib.Seq.{drop-cons}
 use Rattle.page.specs.Bytes.{Bytes, bytes, pick}
-use Rattle.page.specs.Fields.{textOf, numberOf}
-use Rattle.page.specs.Tables.{Named, Table, all-tables, no-column, standing, columns, column-at, width}
+use Rattle.page.specs.Fields.{numberOf}
+use Rattle.page.specs.Tables.{Named}
 use Rattle.page.specs.Marks.{owner-of}
-use Rattle.page.specs.Section.{record-text, text-field, fieldOf, field-number, first-of, first-wrong, rec-verdict, amount}
-use Rattle.page.specs.Records.{Datum, number, words, Record, own-bytes, datumOf, valuesOf}
+use Rattle.page.specs.Section.{record-text, amount}
+use Rattle.page.specs.Records.{number, words, Record, own-bytes, datumOf, valuesOf}
 use Rattle.page.specs.Model.{strip-datum}
-use Rattle.page.specs.Form.{quoted, separated, line, line-end, datum-text, mark-line, mark-of, marks, record-form}
-use Rattle.page.specs.declared.Owner.{Owner}
+use Rattle.page.specs.Form.{separated, line, line-end, datum-text, mark-line, mark-of, marks, record-form}
 use Rattle.page.specs.declared.Owner.the-variants as O
 use Rattle.page.specs.declared.Column.{Column}
-use Rattle.page.proofs.TextLaws.{text-quoted}
-use Rattle.page.proofs.TableLaws.{each, table-test, standing-width, standing-column}
-use Rattle.output.proofs.FormLaws.{quoted-length}
 use Rattle.forms.specs.Changed.{changed-datum, changed-values}
 use Rattle.forms.specs.Parts.{marked-by, mark-by, marks-form, datum-by, fields-form}
 

@@ -1,35 +1,34 @@
 -- How long the form of an accepted file is at most: far less than a place can count. Assumes nothing.
-use mathlib.Core.Path.{_≡_, refl, ap, sym, _∙_}
+use mathlib.Core.Path.{_≡_, refl, ap}
 use mathlib.Core.Bool.{Bool, true, false}
 use mathlib.Core.List.{List, [], _∷_, _++_, map}
-use Prim.Native.Nat.{ℕ, zero, suc, _+_, _-_, _*_, _<_, _≤_}
+use Prim.Native.Nat.{ℕ, suc, _+_, _-_, _*_, _<_, _≤_}
 use native.Mathlib.Omega.{arith}
 use lib.Dec.{eqb}
 use lib.ListN.{length, getD, length-append}
 use Rattle.page.specs.Bytes.{Bytes, bytes, pick}
 use Rattle.page.specs.Lines.{lines, joined, content, command, Rec}
-use Rattle.page.specs.Tables.{Named, no-column, table-at, columns, width, column-at}
-use Rattle.page.specs.Cut.{begins-table, begins-end, Piece, a-table, a-trailer, placed, Cut, put, cut, Section, sections, header-lines}
+use Rattle.page.specs.Tables.{Named, no-column, columns, width, column-at}
+use Rattle.page.specs.Cut.{begins-table, begins-end, Piece, a-table, a-trailer, placed, put, cut, Section, sections, header-lines}
 use Rattle.page.specs.Head.{latinOf, head-values}
 use Rattle.page.specs.Records.{Datum, number, words, Record, waits, record-in, table-of}
-use Rattle.page.specs.Model.{Content, contentOf, modelOf, strip-datum}
+use Rattle.page.specs.Model.{Content, modelOf, strip-datum}
 use Rattle.page.specs.File.{limit, header-refusal, file-refusal, found}
 use Rattle.page.specs.Trailer.{trailerOf}
 use Rattle.page.specs.Answers.{earlier}
 use Rattle.page.specs.File.{section-refusal}
-use Rattle.page.specs.Form.{doubled, quoted, decimal, separated, line, line-end, datum-text, mark-line, mark-of, marks, record-form, records-form, table-head, content-form, tables-form}
+use Rattle.page.specs.Form.{doubled, quoted, decimal, separated, line, datum-text, mark-of, marks, record-form, records-form, content-form, tables-form}
 use Rattle.page.specs.Rules.{Every, none-left, one-more}
-use Rattle.page.specs.declared.Owner.{Owner}
 use Rattle.page.specs.declared.Owner.the-variants as O
 use Rattle.page.specs.declared.Column.{Column}
 use Rattle.page.proofs.LimitLaws.{header-short}
-use Rattle.page.proofs.LineLaws.{Laid, none, last, next, laid-lines, laid-some, laid-rest, joined-lines}
+use Rattle.page.proofs.LineLaws.{Laid, laid-lines, laid-some, laid-rest, joined-lines}
 use Rattle.page.proofs.CutLaws.{Stands, no-section, section-stands}
 use Rattle.page.proofs.TableLaws.{width-le}
 use Rattle.output.proofs.FormLaws.{decimal-length, quoted-length}
 use Rattle.output.proofs.LineLaws.{line-end-length, one-field-length, line-with-is, mark-length}
 use Rattle.output.proofs.TitleLaws.{table-head-length}
-use Rattle.demands.specs.Round.{Fits, a-number, a-text, a-suggestion, FitAll, no-value, a-value, SoundRecord, SoundContent, SoundModel}
+use Rattle.demands.specs.Round.{Fits, a-number, a-text, a-suggestion, FitAll, no-value, a-value, SoundRecord, SoundContent}
 use Rattle.demands.proofs.RoundKeys.{earlier-none}
 use Rattle.demands.proofs.Round.{accepted-model}
 use Rattle.forms.specs.Said.{rows-of, said, said-in}

@@ -1,9 +1,9 @@
 -- The records of a section line by line, the sections of a file one after the other, and what each begins with when it is written.
 -- Assumes nothing.
-use mathlib.Core.Path.{_≡_, refl, ap, sym, _∙_}
+use mathlib.Core.Path.{_≡_, refl, ap, sym}
 use mathlib.Core.Bool.{Bool, true, false, _&&_}
 use mathlib.Core.List.{List, [], _∷_, _++_, map}
-use Prim.Native.Nat.{ℕ, zero, suc, _+_, _-_, _<_, _≤_}
+use Prim.Native.Nat.{ℕ, suc, _+_, _-_, _<_, _≤_}
 use native.Mathlib.Omega.{arith}
 use borrow.Author.Tests.{eq-eqb, ne-eqb, eqb-true}
 use lib.Dec.{eqb}
@@ -17,8 +17,8 @@ use Rattle.page.specs.Section.{rec-verdict}
 use Rattle.page.specs.Records.{Record, valuesOf, waiting, waits, record-in, table-of}
 use Rattle.page.specs.Cut.{Section}
 use Rattle.page.specs.Model.{Content}
-use Rattle.page.specs.Form.{decimal, line, record-form, records-form, table-head, content-form, tables-form}
-use Rattle.page.specs.Rules.{Every, none-left, one-more}
+use Rattle.page.specs.Form.{decimal, record-form, records-form, table-head, content-form, tables-form}
+use Rattle.page.specs.Rules.{one-more}
 use Rattle.page.specs.declared.Remark.{Remark}
 use Rattle.page.proofs.LineLaws.{line-size, cut-at, lines-end}
 use Rattle.page.proofs.TestLaws.{and-left, and-right}
@@ -28,7 +28,6 @@ use Rattle.output.proofs.LineLaws.{line-with-is}
 use Rattle.output.proofs.PutLaws.{Todo}
 use Rattle.forms.specs.Said.{rows-of, passes, said, said-in, passes-in, PassingIn}
 use Rattle.forms.specs.Changed.{changed-values, changed-records, changed-content, changed-tables}
-use Rattle.forms.proofs.PartLaws.{one-further}
 
 -- the mark that waits
 

@@ -1,9 +1,9 @@
 -- The sections of an accepted file: their records passed their rules, and what their lines say is what the file says.
 -- Assumes nothing.
-use mathlib.Core.Path.{_≡_, refl, ap, sym, _∙_}
-use mathlib.Core.Bool.{Bool, true, false, _&&_, false≢true}
+use mathlib.Core.Path.{_≡_, refl, ap}
+use mathlib.Core.Bool.{Bool, true, false, false≢true}
 use mathlib.Core.List.{List, [], _∷_, map}
-use Prim.Native.Nat.{ℕ, zero, suc, _+_, _<_, _≤_}
+use Prim.Native.Nat.{ℕ, suc, _+_, _<_}
 use native.Mathlib.Omega.{arith}
 use borrow.Author.Tests.{eq-eqb}
 use lib.Dec.{eqb}
@@ -16,7 +16,7 @@ use Rattle.page.specs.Head.{latinOf}
 use Rattle.page.specs.Section.{rec-verdict, outcome}
 use Rattle.page.specs.Records.{Record, Entry, waits, record-in, entries, entriesOf, recordsOf, table-of}
 use Rattle.page.specs.Places.{stands, record-at}
-use Rattle.page.specs.Model.{Content, contentOf}
+use Rattle.page.specs.Model.{contentOf}
 use Rattle.page.specs.File.{file-refusal}
 use Rattle.page.specs.Rules.{Every, none-left, one-more, times}
 use Rattle.sections.proofs.SoundLaws.{sound-passed}

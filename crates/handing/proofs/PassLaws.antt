@@ -1,21 +1,21 @@
 -- The records of a sound section pass their rules: each text is closed. Assumes nothing.
-use mathlib.Core.Path.{_≡_, refl, ap, sym, _∙_}
+use mathlib.Core.Path.{_≡_, refl}
 use mathlib.Core.Bool.{Bool, true, false, false≢true}
 use mathlib.Core.List.{List, [], _∷_}
 use mathlib.Core.Option.{Option, none, some}
 use Prim.Native.Nat.{ℕ, zero, suc, _-_, _<_}
 use native.Mathlib.Omega.{arith}
 use borrow.Author.Tests.{eqb-true, eqb-false}
-use lib.Dec.{eqb, leb}
+use lib.Dec.{eqb}
 use lib.ListN.{length, getD}
 use Rattle.page.specs.Bytes.{Bytes}
 use Rattle.page.specs.Fields.{fields}
 use Rattle.page.specs.Tables.{Named, no-column, standing, column-at, width}
-use Rattle.page.specs.Cut.{Section, begins-table}
+use Rattle.page.specs.Cut.{Section}
 use Rattle.page.specs.Section.{record-text, text-field, fieldOf, field-number, first-wrong, rec-verdict, outcome}
 use Rattle.page.specs.Records.{table-of}
 use Rattle.page.specs.Places.{record-at}
-use Rattle.page.specs.Rules.{Every, none-left, one-more}
+use Rattle.page.specs.Rules.{Every, one-more}
 use Rattle.page.specs.declared.Column.{Column}
 use Rattle.page.proofs.TableLaws.{standing-width, standing-column}
 use Rattle.demands.specs.Begins.{begins}

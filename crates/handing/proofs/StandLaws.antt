@@ -1,5 +1,5 @@
 -- Where a record's fields stand in the file. Assumes nothing.
-use mathlib.Core.Path.{_≡_, refl, ap, sym, _∙_}
+use mathlib.Core.Path.{_≡_, refl, sym}
 use mathlib.Core.Bool.{Bool, true, false}
 use mathlib.Core.List.{List, [], _∷_, _++_}
 use Prim.Native.Nat.{ℕ, zero, suc, _+_, _-_, _<_, _≤_}
@@ -8,8 +8,8 @@ use native.Mathlib.Omega.{arith}
 use borrow.Author.Tests.{eqb-true}
 use lib.Dec.{eqb}
 use lib.ListN.{length, take, drop, length-append, length-drop}
-use lib.Seq.{drop-drop, take-take, length-take-le, drop-append-seam, take-append-seam, take-all}
-use Rattle.page.specs.Bytes.{Bytes, pick, part, until}
+use lib.Seq.{drop-append-seam, take-append-seam, take-all}
+use Rattle.page.specs.Bytes.{Bytes, pick, until}
 use Rattle.page.specs.Lines.{joined, content-size, content, command, rest, semicolon, Rec}
 use Rattle.page.specs.Records.{waits}
 use Rattle.page.specs.Places.{Standing, nowhere, stands, this-or, record-at}

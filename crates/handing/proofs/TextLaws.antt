@@ -1,12 +1,12 @@
 -- A text's own bytes are what stands between its quotes, and what a call that hands them out answers. Assumes nothing.
 use mathlib.Core.Path.{_≡_, refl, ap, sym, _∙_}
 use mathlib.Core.Bool.{Bool, true, false, not, _||_, false≢true}
-use mathlib.Core.List.{List, [], _∷_}
+use mathlib.Core.List.{[]}
 use mathlib.Core.Option.{some}
 use Prim.Native.Nat.{ℕ, _+_, _-_, _<_, _≤_}
 use native.Mathlib.Omega.{arith}
-use borrow.Author.Tests.{eqb-true, eqb-false, eq-eqb, ne-eqb}
-use lib.Dec.{eqb, ltb}
+use borrow.Author.Tests.{eqb-true, eqb-false, ne-eqb}
+use lib.Dec.{eqb}
 use lib.ListN.{length, getD, take, drop}
 use Rattle.page.specs.Bytes.{Bytes, pick, part}
 use Rattle.page.specs.Fields.{fields}
@@ -14,20 +14,18 @@ use Rattle.page.specs.Tables.{column-at, width}
 use Rattle.page.specs.Cut.{Section, sections}
 use Rattle.page.specs.Head.{latinOf}
 use Rattle.page.specs.Section.{record-text, rec-verdict, outcome}
-use Rattle.page.specs.Records.{own-bytes, table-of}
-use Rattle.page.specs.Places.{Standing, field-span, record-at}
-use Rattle.page.specs.Answers.{refusal, sound, earlier, refuse-if, got, written}
+use Rattle.page.specs.Records.{table-of}
+use Rattle.page.specs.Places.{Standing, field-span}
+use Rattle.page.specs.Answers.{refusal, earlier, refuse-if, got, written}
 use Rattle.page.specs.Writing.{put-refusal, putOf, put-after}
 use Rattle.page.specs.File.{limit, header-refusal, row-of, rowOf}
-use Rattle.page.specs.Reading.{no-section, outside, section-at, row-at, find-refusal, verdict-of, value-refusal, words-in, value-in, record-of, value-at, valueOf}
+use Rattle.page.specs.Reading.{no-section, outside, section-at, row-at, find-refusal, verdict-of, value-refusal, words-in, value-in, record-of, value-at}
 use Rattle.page.specs.Handing.{text-refusal, own-text, textOut, text-after}
 use Rattle.page.specs.declared.Refusal.{Refusal}
 use Rattle.page.specs.declared.Span.{Span}
 use Rattle.page.specs.declared.Row.{Row}
-use Rattle.page.specs.declared.Text.{Text}
 use Rattle.page.specs.declared.Value.{Value}
 use Rattle.page.specs.declared.Value.the-variants as Va
-use Rattle.page.specs.declared.Got.{Got}
 use Rattle.page.specs.declared.Got.the-variants as G
 use Rattle.page.specs.declared.Written.{Written}
 use Rattle.page.specs.declared.Written.the-variants as W

@@ -2,7 +2,7 @@
 ghost use mathlib.Core.Path.{_≡_};
 ghost use Prim.Native.Nat.{_-_, _≤_, _<_};
 ghost use lib.ListN.{length};
-ghost use Rattle.page.specs.Lines.{lines, Src, Mod};
+ghost use Rattle.page.specs.Lines.{lines, Src};
 ghost use Rattle.page.specs.Cut.{header-lines};
 ghost use Rattle.page.specs.Dates.{dateOf, timeOf};
 ghost use Rattle.page.specs.Places.{line-of};

@@ -1,6 +1,5 @@
 -- A command's name by its three bytes as one number.
 use mathlib.Core.Path.{_≡_}
-use mathlib.Core.Bool.{Bool, true, false}
 use mathlib.Core.List.{List, [], _∷_}
 use Prim.Native.Nat.{ℕ, suc, _+_, _*_, _<_}
 use Prim.Native.String.{String}

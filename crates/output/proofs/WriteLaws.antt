@@ -9,7 +9,7 @@ use borrow.Author.Tests.{eq-eqb, ne-eqb, ltb-false}
 use lib.Dec.{eqb, ltb}
 use lib.ListN.{length, drop}
 use Rattle.page.specs.Bytes.{Bytes, pick}
-use Rattle.page.specs.Answers.{refusal, earlier, refuse-if, written}
+use Rattle.page.specs.Answers.{earlier, refuse-if, written}
 use Rattle.page.specs.File.{limit}
 use Rattle.page.specs.Writing.{put-refusal, putOf, put-after}
 use Rattle.page.specs.declared.Refusal.{Refusal}

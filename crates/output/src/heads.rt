@@ -1,5 +1,4 @@
 // The written header: "Order mod, src, chs, ver, ifv, dve, fft, present ones only".
-ghost use mathlib.Core.Path.{_≡_};
 ghost use Prim.Native.Nat.{_+_, _*_, _<_, _^_};
 ghost use lib.ListN.{length};
 ghost use Rattle.output.specs.Put.{Put};

@@ -1,5 +1,4 @@
 // The lines that begin a section, from the fixed tables.
-ghost use mathlib.Core.Path.{_≡_};
 ghost use Prim.Native.Nat.{_+_, _<_, _^_};
 ghost use Rattle.page.specs.Bytes.{bytes};
 ghost use Rattle.page.specs.Tables.{table-at};

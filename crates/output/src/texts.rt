@@ -1,5 +1,4 @@
 // "texts quoted": a text by its own bytes, or by its bytes as they stand in a file.
-ghost use mathlib.Core.Path.{_≡_};
 ghost use mathlib.Core.List.{[], _∷_};
 ghost use Prim.Native.Nat.{_+_, _*_, _<_, _^_};
 ghost use lib.ListN.{length};

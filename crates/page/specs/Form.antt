@@ -1,5 +1,5 @@
 -- The written file.
-use mathlib.Core.Bool.{Bool, true, false, _||_}
+use mathlib.Core.Bool.{Bool, true, false}
 use mathlib.Core.List.{List, [], _∷_, _++_, map}
 use mathlib.Core.Option.{Option, none, some}
 use Prim.Native.Nat.{ℕ, zero, suc, _+_, _/_, _%_}
@@ -12,7 +12,6 @@ use Rattle.page.specs.Tables.{Named, Table, table-at}
 use Rattle.page.specs.Head.{Head}
 use Rattle.page.specs.Records.{Datum, number, words, Record}
 use Rattle.page.specs.Model.{Content, Model}
-use Rattle.page.specs.declared.Owner.{Owner}
 use Rattle.page.specs.declared.Owner.the-variants as O
 use Rattle.page.specs.declared.Column.{Column}
 use Rattle.page.specs.declared.Date.{Date}

@@ -2,7 +2,7 @@
 use mathlib.Core.Path.{_≡_, refl}
 use mathlib.Core.Bool.{true, false}
 use mathlib.Core.List.{List, [], _∷_, _++_, map}
-use mathlib.Core.Option.{none, some}
+use mathlib.Core.Option.{some}
 use Rattle.page.specs.Bytes.{Bytes, bytes}
 use Rattle.page.specs.Lines.{Rec}
 use Rattle.page.specs.Open.{open-all}

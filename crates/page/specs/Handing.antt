@@ -1,7 +1,7 @@
 -- What a call hands out into lent room: a text's own bytes, and all values of one table as numbers.
-use mathlib.Core.Bool.{Bool, true, false, not, _||_}
+use mathlib.Core.Bool.{not}
 use mathlib.Core.List.{List, [], _∷_, _++_}
-use Prim.Native.Nat.{ℕ, zero, suc, _+_, _-_, _*_}
+use Prim.Native.Nat.{ℕ, zero, suc, _+_, _-_}
 use lib.Dec.{eqb, ltb}
 use lib.ListN.{length, getD, drop}
 use Rattle.page.specs.Bytes.{Bytes, pick}
@@ -17,7 +17,6 @@ use Rattle.page.specs.Reading.{section-at, row-at, find-refusal, verdict
 use Rattle.page.specs.Writing.{putOf, put-after}
 use Rattle.page.specs.declared.Owner.the-variants as O
 use Rattle.page.specs.declared.Owner.{Owner}
-use Rattle.page.specs.declared.Text.{Text}
 use Rattle.page.specs.declared.Value.{Value}
 use Rattle.page.specs.declared.Value.the-variants as Va
 use Rattle.page.specs.declared.Refusal.{Refusal}

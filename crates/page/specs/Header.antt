@@ -2,9 +2,8 @@
 use mathlib.Core.Bool.{Bool, true, false, not, _&&_, _||_}
 use mathlib.Core.List.{List, [], _∷_}
 use mathlib.Core.Option.{Option, none, some}
-use Prim.Native.Nat.{ℕ, suc, _+_, _-_}
-use Prim.Native.String.{String}
-use lib.Dec.{eqb, leb}
+use Prim.Native.Nat.{ℕ, suc, _-_}
+use lib.Dec.{eqb}
 use lib.ListN.{length, getD}
 use Rattle.page.specs.Bytes.{Bytes, bytes, pick, same}
 use Rattle.page.specs.Lines.{content, blank, command, rest, clean, Mod, Src, Chs, Ver, Ifv, Dve, Fft, Com}

@@ -1,14 +1,12 @@
 -- Marks.
-use mathlib.Core.Bool.{Bool, true, false, not, _&&_}
-use mathlib.Core.List.{List, [], _∷_}
+use mathlib.Core.Bool.{Bool, not, _&&_}
 use mathlib.Core.Option.{Option, none, some}
 use Prim.Native.Nat.{ℕ, _-_}
-use Prim.Native.String.{String}
 use lib.Dec.{eqb, leb}
 use lib.ListN.{getD, take, drop}
 use Rattle.page.specs.Bytes.{Bytes, bytes, pick, same, trim}
 use Rattle.page.specs.Fields.{textOf, digits, value}
-use Rattle.page.specs.Tables.{Named, no-column, standing}
+use Rattle.page.specs.Tables.{no-column, standing}
 use Rattle.page.specs.declared.Owner.{Owner}
 use Rattle.page.specs.declared.Owner.the-variants as O
 use Rattle.page.specs.declared.Remark.{Remark}

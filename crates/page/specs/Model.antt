@@ -1,5 +1,5 @@
 -- What a file says: header values, and tables with their records. Filling and stripping change it.
-use mathlib.Core.Bool.{Bool, true, false}
+use mathlib.Core.Bool.{Bool}
 use mathlib.Core.List.{List, [], _∷_, map}
 use Prim.Native.Nat.{ℕ, zero, suc, _-_}
 use lib.ListN.{getD}

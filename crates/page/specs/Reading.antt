@@ -1,10 +1,10 @@
 -- What a call hands out of a file: the header's values, one row, all rows, one value.
-use mathlib.Core.Bool.{Bool, true, false, _||_}
-use mathlib.Core.List.{List, [], _∷_, _++_}
+use mathlib.Core.Bool.{Bool, _||_}
+use mathlib.Core.List.{List, [], _++_}
 use Prim.Native.Nat.{ℕ, _+_, _-_}
 use lib.Dec.{eqb, ltb}
 use lib.ListN.{length, getD, drop}
-use Rattle.page.specs.Bytes.{Bytes, pick, moved}
+use Rattle.page.specs.Bytes.{Bytes, pick}
 use Rattle.page.specs.Fields.{fields}
 use Rattle.page.specs.Tables.{column-at, width}
 use Rattle.page.specs.Cut.{Section, sections, header-lines}
@@ -15,8 +15,6 @@ use Rattle.page.specs.Records.{table-of}
 use Rattle.page.specs.Places.{Standing, field-span, unquoted, record-at}
 use Rattle.page.specs.Answers.{refusal, sound, earlier, refuse-if, checked, headed, listed, got}
 use Rattle.page.specs.File.{header-refusal, rowOf, rowsOf, file-refusal}
-use Rattle.page.specs.declared.Span.{Span}
-use Rattle.page.specs.declared.Owner.{Owner}
 use Rattle.page.specs.declared.Text.{Text}
 use Rattle.page.specs.declared.Value.{Value}
 use Rattle.page.specs.declared.Value.the-variants as Va

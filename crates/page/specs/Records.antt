@@ -1,15 +1,14 @@
 -- A section's records: their values, whose the texts are, and the lines where they stand.
-use mathlib.Core.Bool.{Bool, true, false, not, _&&_}
+use mathlib.Core.Bool.{Bool}
 use mathlib.Core.List.{List, [], _∷_, map}
 use mathlib.Core.Option.{Option, none, some}
-use Prim.Native.Nat.{ℕ, suc, _+_}
+use Prim.Native.Nat.{ℕ, suc}
 use lib.Dec.{eqb}
-use lib.ListN.{length, getD}
-use Rattle.page.specs.Bytes.{Bytes, pick, same}
+use lib.ListN.{getD}
+use Rattle.page.specs.Bytes.{Bytes, pick}
 use Rattle.page.specs.Lines.{content, command, rest, Rec, Com}
 use Rattle.page.specs.Fields.{fields, numberOf}
 use Rattle.page.specs.Tables.{Named, standing, table-named}
-use Rattle.page.specs.Cut.{Section}
 use Rattle.page.specs.Marks.{remarkOf, owner-of}
 use Rattle.page.specs.Section.{record-text, amount, outcome}
 use Rattle.page.specs.declared.Owner.{Owner}

@@ -17,7 +17,6 @@ use Rattle.page.specs.Records.{Datum, words, Record}
 use Rattle.page.specs.Grammar.{fields-of, Quiet, TblLine, AtrLine, FrmLine, MarkLine, RecLine, EndLine, Formats, Holds, Values, SamePoints, Rises}
 use Rattle.page.specs.declared.Number.the-variants as N
 use Rattle.page.specs.declared.Owner.the-variants as O
-use Rattle.page.specs.declared.Column.{Column}
 use Rattle.page.specs.declared.Remark.{Remark}
 use Rattle.page.specs.declared.Remark.the-variants as R
 use Rattle.page.specs.declared.Phase.{Phase}

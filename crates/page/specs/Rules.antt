@@ -1,14 +1,14 @@
 -- What an accepted file is, rule by rule, with no order of checks.
 use mathlib.Core.Path.{_≡_}
-use mathlib.Core.Bool.{Bool, true, false, not, _||_}
+use mathlib.Core.Bool.{Bool, true, false, _||_}
 use mathlib.Core.List.{List, [], _∷_, map, List·Memᴰ}
-use Prim.Native.Nat.{ℕ, suc, _+_, _≤_, _<_}
+use Prim.Native.Nat.{ℕ, _+_, _≤_, _<_}
 use lib.Dec.{eqb}
 use lib.ListN.{length, getD}
-use Rattle.page.specs.Bytes.{Bytes, bytes, pick}
-use Rattle.page.specs.Lines.{lines, content, blank, command, rest, clean, Mod, Src, Chs, Ver, Ifv, Dve, Fft, Com, Eof}
-use Rattle.page.specs.Fields.{fields, numberOf}
-use Rattle.page.specs.Tables.{Named, Reference, columns, table-at}
+use Rattle.page.specs.Bytes.{Bytes, pick}
+use Rattle.page.specs.Lines.{lines, content, blank, command, clean, Mod, Src, Chs, Ver, Ifv, Dve, Fft, Com}
+use Rattle.page.specs.Fields.{numberOf}
+use Rattle.page.specs.Tables.{Reference, columns, table-at}
 use Rattle.page.specs.Cut.{Section, sections, header-lines, trailer-lines}
 use Rattle.page.specs.Header.{mod-form, holds}
 use Rattle.page.specs.Head.{latinOf}

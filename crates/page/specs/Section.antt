@@ -1,9 +1,8 @@
 -- A section's verdict: a machine over its lines, which counts records. Its records stand in Records.
-use mathlib.Core.Bool.{Bool, true, false, not, _&&_, _||_}
+use mathlib.Core.Bool.{Bool, true, false, not, _&&_}
 use mathlib.Core.List.{List, [], _∷_}
 use mathlib.Core.Option.{Option, none, some}
 use Prim.Native.Nat.{ℕ, suc, _+_, _-_}
-use Prim.Native.String.{String}
 use lib.Dec.{eqb, leb, ltb}
 use lib.ListN.{length, getD, take, drop}
 use Rattle.page.specs.Bytes.{Bytes, bytes, pick, same, until}

@@ -1,11 +1,10 @@
 -- How document 01's open points are settled (docs/DECISIONS.md), computed as one list: a short input for each point.
 use mathlib.Core.Path.{_≡_, refl}
-use mathlib.Core.Bool.{true, false}
+use mathlib.Core.Bool.{true}
 use mathlib.Core.List.{List, [], _∷_, _++_, map}
-use mathlib.Core.Option.{none, some}
-use Prim.Native.String.{String}
-use Rattle.page.specs.Bytes.{Bytes, bytes}
-use Rattle.page.specs.Lines.{Tbl, Rec, Unknown, Missing}
+use mathlib.Core.Option.{none}
+use Rattle.page.specs.Bytes.{bytes}
+use Rattle.page.specs.Lines.{Unknown, Missing}
 use Rattle.page.specs.Open.{open-all}
 use Rattle.page.specs.Cases.{Case, content-case, field-case, header-case, section-case, file-case, Answer, a-command, a-text, answer, says, heads, files, versions, day-types, point-types, links, head}
 

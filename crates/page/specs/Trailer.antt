@@ -1,5 +1,5 @@
 -- The trailer: "`eof; n`, n the number of `tbl` lines, only blank lines after it".
-use mathlib.Core.Bool.{Bool, true, false, _&&_}
+use mathlib.Core.Bool.{Bool, false, _&&_}
 use mathlib.Core.List.{List, [], _∷_}
 use Prim.Native.Nat.{ℕ, suc}
 use lib.Dec.{eqb}

@@ -1,6 +1,6 @@
 -- Writing, filling, stripping into lent output.
-use mathlib.Core.Bool.{Bool, true, false, not, _||_}
-use mathlib.Core.List.{List, [], _∷_, _++_}
+use mathlib.Core.Bool.{Bool, false, not, _||_}
+use mathlib.Core.List.{_++_}
 use Prim.Native.Nat.{ℕ, _-_}
 use lib.Dec.{eqb, ltb}
 use lib.ListN.{length, drop}
@@ -10,7 +10,7 @@ use Rattle.page.specs.Tables.{column-at, width}
 use Rattle.page.specs.Cut.{sections}
 use Rattle.page.specs.Head.{latinOf}
 use Rattle.page.specs.Records.{Datum, number, words, table-of}
-use Rattle.page.specs.Answers.{refusal, sound, earlier, refuse-if, written}
+use Rattle.page.specs.Answers.{earlier, refuse-if, written}
 use Rattle.page.specs.File.{limit, file-refusal}
 use Rattle.page.specs.Reading.{outside, section-at, row-at}
 use Rattle.page.specs.Model.{modelOf, datum-at, fill-model, strip-model}

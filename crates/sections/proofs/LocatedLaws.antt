@@ -1,22 +1,18 @@
 -- "the first of 1, 2, 24 for the section". Assumes nothing.
-use mathlib.Core.Path.{_≡_, refl, ap, sym, _∙_}
-use mathlib.Core.Bool.{Bool, true, false}
-use mathlib.Core.List.{List, [], _∷_}
-use Prim.Native.Nat.{ℕ, _+_, _-_, _<_, _≤_}
-use native.Mathlib.Nat.{add-zero}
+use mathlib.Core.Path.{_≡_, ap, sym, _∙_}
+use mathlib.Core.Bool.{true, false}
+use Prim.Native.Nat.{ℕ, _-_, _<_, _≤_}
 use native.Mathlib.Omega.{arith}
 use lib.Dec.{eqb, ltb}
-use lib.ListN.{length, getD, drop, length-drop, drop-of-length-le}
-use lib.Seq.{drop-drop, getD-drop}
-use borrow.Author.Tests.{lt-ltb, le-ltb, ltb-true, ltb-false, eq-eqb, ne-eqb}
-use Rattle.page.specs.Bytes.{Bytes, pick}
-use Rattle.page.specs.Cut.{Section, sections}
+use lib.ListN.{length}
+use borrow.Author.Tests.{lt-ltb, le-ltb, eq-eqb, ne-eqb}
+use Rattle.page.specs.Bytes.{Bytes}
+use Rattle.page.specs.Cut.{sections}
 use Rattle.page.specs.Answers.{refusal, earlier, refuse-if}
 use Rattle.page.specs.File.{header-refusal}
-use Rattle.page.specs.Reading.{no-section, outside, section-at, find-refusal}
+use Rattle.page.specs.Reading.{outside, section-at, find-refusal}
 use Rattle.page.specs.declared.Refusal.{Refusal}
 use Rattle.page.proofs.LimitLaws.{header-short}
-use Rattle.page.proofs.CutLaws.{sections-from, sections-all, sections-end}
 use Rattle.sections.specs.declared.walk.Located.the-variants as L
 use Rattle.sections.specs.Walk.{section-from, Reached}
 use Rattle.sections.proofs.ReachLaws.{reach-here}

@@ -5,20 +5,15 @@ use mathlib.Core.List.{List, [], _∷_}
 use Prim.Native.Nat.{ℕ, _+_, _-_, _<_, _≤_}
 use native.Mathlib.Nat.{add-zero}
 use native.Mathlib.Omega.{arith}
-use lib.Dec.{eqb, ltb}
+use lib.Dec.{ltb}
 use lib.ListN.{length, getD, drop, length-drop, drop-of-length-le}
 use lib.Seq.{drop-drop, getD-drop}
-use borrow.Author.Tests.{lt-ltb, le-ltb, ltb-true, ltb-false, eq-eqb, ne-eqb}
+use borrow.Author.Tests.{lt-ltb, le-ltb, ltb-true, ltb-false}
 use Rattle.page.specs.Bytes.{Bytes, pick}
 use Rattle.page.specs.Cut.{Section, sections}
-use Rattle.page.specs.Answers.{refusal, earlier, refuse-if}
-use Rattle.page.specs.File.{header-refusal}
-use Rattle.page.specs.Reading.{no-section, outside, section-at, find-refusal}
-use Rattle.page.specs.declared.Refusal.{Refusal}
-use Rattle.page.proofs.LimitLaws.{header-short}
+use Rattle.page.specs.Reading.{no-section}
 use Rattle.page.proofs.CutLaws.{sections-from, sections-all, sections-end}
-use Rattle.sections.specs.declared.walk.Located.the-variants as L
-use Rattle.sections.specs.Walk.{section-size, section-from, Settled, Next, Reached, located, Locates}
+use Rattle.sections.specs.Walk.{section-size, section-from, Settled, Next, Reached}
 use Rattle.sections.proofs.WalkLaws.{walk-here}
 
 -- what is left of a list after k

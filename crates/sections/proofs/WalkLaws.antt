@@ -8,7 +8,7 @@ use lib.ListN.{length, take, drop, length-append, length-drop}
 use lib.Seq.{drop-drop}
 use Rattle.page.specs.Bytes.{Bytes, pick}
 use Rattle.page.specs.Lines.{lines, joined}
-use Rattle.page.specs.Cut.{begins-table, begins-end, a-table, Cut, put, cut, header-lines, sections}
+use Rattle.page.specs.Cut.{begins-table, begins-end, a-table, Cut, put, cut, header-lines}
 use Rattle.page.proofs.ScanLaws.{part-length}
 use Rattle.page.proofs.PartLaws.{part-rest}
 use Rattle.page.proofs.LineLaws.{line-size, line-in, cut-at, lines-end, run-within, run-lines}

@@ -1,16 +1,11 @@
 -- A section by its number: its place, or why there is none.
 use mathlib.Core.Path.{_≡_}
-use mathlib.Core.List.{List, [], _∷_}
-use Prim.Native.Nat.{ℕ, _+_, _<_, _≤_}
-use lib.Dec.{eqb, ltb}
-use lib.ListN.{length, getD, take, drop}
+use Prim.Native.Nat.{ℕ, _<_, _≤_}
+use lib.Dec.{eqb}
+use lib.ListN.{length}
 use Rattle.page.specs.Bytes.{Bytes, pick}
-use Rattle.page.specs.Lines.{lines}
-use Rattle.page.specs.Cut.{Section, sections, begins-table}
 use Rattle.page.specs.File.{limit}
-use Rattle.page.specs.Reading.{no-section, section-at, find-refusal}
-use Rattle.page.proofs.LineLaws.{line-size}
-use Rattle.page.proofs.CutLaws.{front-size, sections-from}
+use Rattle.page.specs.Reading.{section-at, find-refusal}
 use Rattle.sections.specs.declared.walk.Located.{Located}
 use Rattle.sections.specs.declared.walk.Located.the-variants as L
 use Rattle.sections.specs.Walk.{section-from, Settled}

@@ -1,14 +1,13 @@
 -- Sections met from the left: where one ends, and where the next begins.
 use mathlib.Core.Path.{_≡_}
 use mathlib.Core.List.{List, [], _∷_}
-use Prim.Native.Nat.{ℕ, _+_, _<_, _≤_}
-use lib.Dec.{eqb, ltb}
+use Prim.Native.Nat.{ℕ, _+_, _≤_}
+use lib.Dec.{ltb}
 use lib.ListN.{length, getD, take, drop}
 use Rattle.page.specs.Bytes.{Bytes, pick}
 use Rattle.page.specs.Lines.{lines}
 use Rattle.page.specs.Cut.{Section, sections, begins-table}
-use Rattle.page.specs.File.{limit}
-use Rattle.page.specs.Reading.{no-section, section-at, find-refusal}
+use Rattle.page.specs.Reading.{no-section}
 use Rattle.page.proofs.LineLaws.{line-size}
 use Rattle.page.proofs.CutLaws.{front-size, sections-from}
 

@@ -1,26 +1,16 @@
 // What the call that reads one section answers.
 ghost use mathlib.Core.Path.{_≡_};
-ghost use Prim.Native.Nat.{_-_, _<_, _≤_};
-ghost use lib.ListN.{length, drop};
+ghost use Prim.Native.Nat.{_-_, _<_};
+ghost use lib.ListN.{length};
 ghost use Rattle.page.specs.Lines.{lines};
-ghost use Rattle.page.specs.Fields.{fields};
 ghost use Rattle.page.specs.Records.{table-of};
-ghost use Rattle.page.specs.Places.{record-at};
-ghost use Rattle.page.specs.File.{limit};
-ghost use Rattle.page.specs.Reading.{outside, sectionOf, value-in, valueOf};
-ghost use Rattle.sections.specs.Walk.{section-from, Settled};
-ghost use Rattle.sections.specs.Values.{value-from};
+ghost use Rattle.page.specs.Reading.{sectionOf};
+ghost use Rattle.sections.specs.Walk.{section-from};
 use crate::reading::read_section;
-use crate::values::find_record;
-use crate::values::value_in;
 use crate::walk::Located;
 use crate::walk::locate;
-use crate::walk::refuse_with;
 use lines::Cursor;
-use page::Got;
 use page::Listed;
-use page::Refusal;
-use page::Value;
 
 // Section i of a file, from 1.
 pub fn section(file: &[u8], i: usize) -> Listed

@@ -1,11 +1,11 @@
 // A section read from its bytes.
 ghost use mathlib.Core.Path.{_≡_};
-ghost use Prim.Native.Nat.{_+_, _<_, _≤_};
-ghost use lib.ListN.{length, drop};
+ghost use Prim.Native.Nat.{_+_, _<_};
+ghost use lib.ListN.{length};
 ghost use Rattle.page.specs.Lines.{lines};
 ghost use Rattle.page.specs.Section.{table-in, refused, finish, outcome};
 ghost use Rattle.page.specs.File.{rowOf};
-ghost use Rattle.sections.specs.Walk.{section-size, section-from};
+ghost use Rattle.sections.specs.Walk.{section-from};
 use crate::machine::step;
 use crate::seek::section_end;
 use lines::Cursor;

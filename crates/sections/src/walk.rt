@@ -1,7 +1,5 @@
 // A section by its number.
 ghost use mathlib.Core.Path.{_≡_};
-ghost use Prim.Native.Nat.{_≤_};
-ghost use lib.ListN.{length};
 ghost use Rattle.page.specs.Answers.{refusal};
 ghost use Rattle.sections.specs.Located.{located, Locates};
 use crate::seek::find_nth;

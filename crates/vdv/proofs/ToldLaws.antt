@@ -7,7 +7,6 @@ use lib.Dec.{eqb}
 use Rattle.page.specs.Bytes.{pick}
 use Rattle.page.specs.Answers.{refusal, headed, listed, got, written}
 use Rattle.page.specs.declared.Refusal.{Refusal}
-use Rattle.page.specs.declared.Span.{Span}
 use Rattle.page.specs.declared.Stated.{Stated}
 use Rattle.page.specs.declared.Stated.the-variants as S
 use Rattle.page.specs.declared.Header.{Header}
@@ -18,7 +17,6 @@ use Rattle.page.specs.declared.Listed.{Listed}
 use Rattle.page.specs.declared.Listed.the-variants as L
 use Rattle.page.specs.declared.Owner.{Owner}
 use Rattle.page.specs.declared.Owner.the-variants as O
-use Rattle.page.specs.declared.Text.{Text}
 use Rattle.page.specs.declared.Value.{Value}
 use Rattle.page.specs.declared.Value.the-variants as Va
 use Rattle.page.specs.declared.Got.{Got}

@@ -1,13 +1,8 @@
 -- "Where an answer is an enum, a definition gives this paper's number and values for each of its cases": number 0 and the values of
 -- an accepted call, or a refusal's number and place and no values.
-use mathlib.Core.Path.{_≡_, refl, sym, ap, _∙_}
 use mathlib.Core.Bool.{Bool, true, false}
 use Prim.Native.Nat.{ℕ}
-use lib.Dec.{eqb}
-use Rattle.page.specs.Bytes.{pick}
-use Rattle.page.specs.Answers.{refusal, headed, listed, got, written}
 use Rattle.page.specs.Handing.{owner-cell}
-use Rattle.page.specs.declared.Span.{Span}
 use Rattle.page.specs.declared.Stated.{Stated}
 use Rattle.page.specs.declared.Stated.the-variants as S
 use Rattle.page.specs.declared.Refusal.{Refusal}
@@ -17,9 +12,6 @@ use Rattle.page.specs.declared.Headed.the-variants as H
 use Rattle.page.specs.declared.Row.{Row}
 use Rattle.page.specs.declared.Listed.{Listed}
 use Rattle.page.specs.declared.Listed.the-variants as L
-use Rattle.page.specs.declared.Owner.{Owner}
-use Rattle.page.specs.declared.Owner.the-variants as O
-use Rattle.page.specs.declared.Text.{Text}
 use Rattle.page.specs.declared.Value.{Value}
 use Rattle.page.specs.declared.Value.the-variants as Va
 use Rattle.page.specs.declared.Got.{Got}

@@ -1,20 +1,8 @@
 use borrow.Author.Needs.{needs}
-use Prim.Native.Nat.{ℕ, suc, _+_, _-_, _*_, _<_, _≤_}
-use mathlib.Core.Path.{_≡_, refl, ap, sym, _∙_}
-use mathlib.Core.Logic.{⊎-elim}
-use mathlib.Core.Bool.{Bool, true, false}
-use native.Mathlib.Omega.{arith}
-use borrow.Author.Tests.{lt-ltb, le-ltb, le-leb, lt-leb, eq-eqb, ne-eqb}
-use lib.ListN.{length, getD, take, drop}
+use Prim.Native.Nat.{_+_, _-_, _≤_}
+use lib.ListN.{length}
 use Rattle.listing.proofs.print_sections.Statement.{statement}
 use Rattle.listing.proofs.print_sections.Tie as tie
-use Rattle.listing.proofs.print_sections.Reads as reads
-use Rattle.listing.proofs.print_sections.Lts as lts
-use Rattle.headers.proofs.read_charset.Reads as read-charset-reads
-use Rattle.listing.proofs.print_row.Reads as print-row-reads
-use Rattle.sections.proofs.read_section.Reads as read-section-reads
-use Rattle.sections.proofs.section_end.Reads as section-end-reads
-use Rattle.sections.proofs.find_section.Reads as find-section-reads
 
 abbrev Inv-loop : tie.InvT-loop
 Inv-loop s latin i₀ at₀ i at = (at ≤ length s) × (i ≤ at + 1)

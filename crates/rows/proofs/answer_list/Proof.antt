@@ -1,4 +1,3 @@
-use borrow.Author.Needs.{needs}
 use borrow.Author.Tests.{ne-eqb}
 use Rattle.page.specs.Answers.{earlier}
 use Rattle.rows.proofs.answer_list.Statement.{statement}

@@ -1,20 +1,7 @@
 use borrow.Author.Needs.{needs}
-use Prim.Native.Nat.{ℕ, suc, _+_, _-_, _*_, _<_, _≤_}
-use mathlib.Core.Path.{_≡_, refl, ap, sym, _∙_}
-use mathlib.Core.Logic.{⊎-elim}
-use mathlib.Core.Bool.{Bool, true, false}
-use native.Mathlib.Omega.{arith}
-use borrow.Author.Tests.{lt-ltb, le-ltb, le-leb, lt-leb, eq-eqb, ne-eqb}
-use lib.ListN.{length, getD, take, drop}
+use Prim.Native.Nat.{_-_, _≤_}
 use Rattle.cases.proofs.writing.print_filled_everywhere.Statement.{statement}
 use Rattle.cases.proofs.writing.print_filled_everywhere.Tie as tie
-use Rattle.cases.proofs.writing.print_filled_everywhere.Reads as reads
-use Rattle.cases.proofs.writing.print_filled_everywhere.Lts as lts
-use Rattle.cases.proofs.writing.print_filled.Reads as print-filled-reads
-use Rattle.cases.proofs.writing.print_filled_section.Reads as print-filled-section-reads
-use Rattle.cases.proofs.writing.print_refusal.Reads as print-refusal-reads
-use Rattle.headers.proofs.count_sections.Reads as count-sections-reads
-use Rattle.sections.proofs.section.Reads as section-reads
 
 abbrev Inv-loop : tie.InvT-loop
 Inv-loop s n i₀ i = i ≤ n

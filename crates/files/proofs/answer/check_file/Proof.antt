@@ -1,5 +1,4 @@
 -- `files::answer::check_file` meets its contract. Assumes nothing.
-use mathlib.Core.Path.{_≡_}
 use Rattle.files.proofs.answer.check_file.Statement.{statement}
 use Rattle.files.proofs.answer.check_file.Tie as tie
 

@@ -1,6 +1,5 @@
 -- `files::bits::choose_four` meets its contract. Assumes nothing.
 use Rattle.files.specs.Bits.{four-of}
-use mathlib.Core.Path.{refl}
 use borrow.Author.Needs.{needs}
 use Rattle.files.proofs.bits.choose_four.Statement.{statement}
 use Rattle.files.proofs.bits.choose_four.Tie as tie

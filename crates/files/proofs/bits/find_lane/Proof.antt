@@ -1,6 +1,6 @@
 -- `files::bits::find_lane` meets its contract. Assumes nothing.
 use Rattle.files.specs.Bits.{lane-of}
-use Prim.Native.Nat.{_*_, _/_, _%_, _≤_}
+use Prim.Native.Nat.{_/_, _%_, _≤_}
 use mathlib.Core.Path.{refl}
 use native.Mathlib.Nat.{mul-le-mul-right}
 use native.Mathlib.Omega.{arith}

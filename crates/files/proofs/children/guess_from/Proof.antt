@@ -1,7 +1,7 @@
 -- `files::children::guess_from` meets its contract. Assumes nothing.
 use Rattle.files.proofs.AimLaws.{aim-bounds}
 use Prim.Native.Nat.{_-_, _≤_}
-use mathlib.Core.Path.{_≡_, refl, sym, _∙_}
+use mathlib.Core.Path.{_≡_, sym, _∙_}
 use native.Mathlib.Omega.{arith}
 use lib.ListN.{length}
 use borrow.Author.Needs.{needs}

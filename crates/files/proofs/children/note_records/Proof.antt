@@ -1,7 +1,7 @@
 -- `files::children::note_records` meets its contract. Assumes nothing.
 use Rattle.lines.proofs.CursorLaws.{handed}
 use Prim.Native.Nat.{_-_, _≤_}
-use mathlib.Core.Path.{_≡_, refl, sym, _∙_}
+use mathlib.Core.Path.{_≡_, _∙_}
 use native.Mathlib.Omega.{arith}
 use lib.ListN.{length}
 use borrow.Author.Needs.{needs}

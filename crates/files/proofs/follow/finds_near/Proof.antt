@@ -4,7 +4,7 @@ use Rattle.files.proofs.ScanLaws.{starts-first, starts-next}
 use Rattle.files.specs.Scan.{Starts}
 use Rattle.lines.proofs.CursorLaws.{handed}
 use Prim.Native.Nat.{ℕ, _-_, _≤_}
-use mathlib.Core.Path.{_≡_, refl, sym, _∙_}
+use mathlib.Core.Path.{_≡_, sym, _∙_}
 use native.Mathlib.Omega.{arith}
 use borrow.Author.Needs.{needs}
 use Rattle.files.proofs.follow.finds_near.Statement.{statement}

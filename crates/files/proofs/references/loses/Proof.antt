@@ -5,7 +5,7 @@ use Rattle.files.specs.Aims.{lacks}
 use Rattle.files.specs.Scan.{some}
 use Rattle.page.specs.Fields.{fields}
 use Prim.Native.Nat.{_-_, _≤_}
-use mathlib.Core.Path.{_≡_, refl, sym, _∙_}
+use mathlib.Core.Path.{_≡_, sym, _∙_}
 use native.Mathlib.Omega.{arith}
 use lib.ListN.{length}
 use borrow.Author.Needs.{needs}

@@ -3,7 +3,7 @@ use Rattle.files.proofs.NumberLaws.{lines-few}
 use Rattle.files.proofs.RoundLaws.{Done, done-more, done-at, done-none}
 use Rattle.page.specs.Lines.{lines}
 use borrow.Author.Needs.{needs}
-use Prim.Native.Nat.{ℕ, _-_, _≤_}
+use Prim.Native.Nat.{_-_, _≤_}
 use native.Mathlib.Omega.{arith}
 use Rattle.files.proofs.rounds.find_repeat.Statement.{statement}
 use Rattle.files.proofs.rounds.find_repeat.Tie as tie

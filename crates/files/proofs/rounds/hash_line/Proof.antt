@@ -1,7 +1,6 @@
 -- `files::rounds::hash_line` meets its contract. Assumes nothing.
 use Rattle.files.specs.Scan.{line-key}
 use Rattle.files.specs.Rounds.{hash-of}
-use mathlib.Core.Path.{refl, sym, _∙_}
 use borrow.Author.Needs.{needs}
 use Rattle.files.proofs.rounds.hash_line.Statement.{statement}
 use Rattle.files.proofs.rounds.hash_line.Tie as tie

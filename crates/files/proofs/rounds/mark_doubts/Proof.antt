@@ -4,7 +4,7 @@ use Rattle.files.proofs.RoundLaws.{Marked, hash-here, marked-skip, mark
 use Rattle.lines.proofs.CursorLaws.{handed}
 use Rattle.page.specs.Lines.{lines}
 use borrow.Author.Needs.{needs}
-use Prim.Native.Nat.{ℕ, _+_, _-_, _<_, _≤_}
+use Prim.Native.Nat.{_-_, _≤_}
 use mathlib.Core.Path.{_≡_, sym, _∙_}
 use native.Mathlib.Omega.{arith}
 use lib.ListN.{length}

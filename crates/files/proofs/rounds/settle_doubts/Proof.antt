@@ -4,8 +4,8 @@ use Rattle.files.proofs.RoundLaws.{Told, hash-here, told-skip, told-oth
 use Rattle.lines.proofs.CursorLaws.{handed}
 use Rattle.page.specs.Lines.{lines}
 use borrow.Author.Needs.{needs}
-use Prim.Native.Nat.{ℕ, _+_, _-_, _<_, _≤_}
-use mathlib.Core.Path.{_≡_, sym, _∙_}
+use Prim.Native.Nat.{_-_, _≤_}
+use mathlib.Core.Path.{_≡_, _∙_}
 use native.Mathlib.Omega.{arith}
 use lib.ListN.{length}
 use Rattle.files.proofs.rounds.settle_doubts.Statement.{statement}

@@ -1,7 +1,7 @@
 -- `files::scan::find_rise` meets its contract. Assumes nothing.
 use Rattle.files.proofs.TopLaws.{rises-other, rises-record}
 use Prim.Native.Nat.{_-_}
-use mathlib.Core.Path.{sym, _∙_}
+use mathlib.Core.Path.{_∙_}
 use borrow.Author.Needs.{needs}
 use Rattle.files.proofs.scan.find_rise.Statement.{statement}
 use Rattle.files.proofs.scan.find_rise.Tie as tie

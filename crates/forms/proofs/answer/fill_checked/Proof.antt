@@ -1,17 +1,8 @@
 use Rattle.forms.proofs.FillLaws.{fill-ready, fill-done}
-use Prim.Native.Nat.{ℕ, suc, _+_, _-_, _*_, _<_, _≤_}
-use mathlib.Core.Path.{_≡_, refl, ap, sym, _∙_}
-use mathlib.Core.Logic.{⊎-elim}
-use mathlib.Core.Bool.{Bool, true, false}
-use native.Mathlib.Omega.{arith}
-use borrow.Author.Tests.{lt-ltb, le-ltb, le-leb, lt-leb, eq-eqb, ne-eqb}
-use lib.ListN.{length, getD, take, drop}
+use Prim.Native.Nat.{_-_}
 use borrow.Author.Needs.{needs}
 use Rattle.forms.proofs.answer.fill_checked.Statement.{statement}
 use Rattle.forms.proofs.answer.fill_checked.Tie as tie
-use Rattle.forms.proofs.answer.fill_checked.Reads as reads
-use Rattle.forms.proofs.answer.fill_checked.Lts as lts
-use Rattle.forms.proofs.answer.hand_form.Reads as hand-form-reads
 
 hand-form-requires : tie.Need-hand-form-requires
 hand-form-requires c κs =

@@ -1,18 +1,8 @@
 use Rattle.output.proofs.WriteLaws.{refused, no-room, fits}
-use Prim.Native.Nat.{ℕ, suc, _+_, _-_, _*_, _<_, _≤_}
-use mathlib.Core.Path.{_≡_, refl, ap, sym, _∙_}
-use mathlib.Core.Logic.{⊎-elim}
-use mathlib.Core.Bool.{Bool, true, false}
-use native.Mathlib.Omega.{arith}
-use borrow.Author.Tests.{lt-ltb, le-ltb, le-leb, lt-leb, eq-eqb, ne-eqb}
-use lib.ListN.{length, getD, take, drop}
+use Prim.Native.Nat.{_-_}
 use borrow.Author.Needs.{needs}
 use Rattle.forms.proofs.answer.hand_form.Statement.{statement}
 use Rattle.forms.proofs.answer.hand_form.Tie as tie
-use Rattle.forms.proofs.answer.hand_form.Reads as reads
-use Rattle.forms.proofs.answer.hand_form.Lts as lts
-use Rattle.forms.proofs.file.put_form.Reads as put-form-reads
-use Rattle.output.proofs.refuse_room.Reads as refuse-room-reads
 
 returns : tie.Need-returns
 returns c =

@@ -1,18 +1,11 @@
 use Rattle.page.specs.declared.Refusal.{Refusal}
 use Rattle.forms.proofs.FormLaws.{write-done}
-use Prim.Native.Nat.{ℕ, suc, _+_, _-_, _*_, _<_, _≤_}
-use mathlib.Core.Path.{_≡_, refl, ap, sym, _∙_}
-use mathlib.Core.Logic.{⊎-elim}
-use mathlib.Core.Bool.{Bool, true, false}
+use Prim.Native.Nat.{_-_}
+use mathlib.Core.Path.{ap, sym, _∙_}
 use native.Mathlib.Omega.{arith}
-use borrow.Author.Tests.{lt-ltb, le-ltb, le-leb, lt-leb, eq-eqb, ne-eqb}
-use lib.ListN.{length, getD, take, drop}
 use borrow.Author.Needs.{needs}
 use Rattle.forms.proofs.answer.write_checked.Statement.{statement}
 use Rattle.forms.proofs.answer.write_checked.Tie as tie
-use Rattle.forms.proofs.answer.write_checked.Reads as reads
-use Rattle.forms.proofs.answer.write_checked.Lts as lts
-use Rattle.forms.proofs.answer.hand_form.Reads as hand-form-reads
 
 slice-aggregate-hand-form : tie.Need-slice-aggregate-hand-form
 slice-aggregate-hand-form c = search needs

@@ -1,16 +1,8 @@
 use Rattle.forms.proofs.PartLaws.{named, unnamed}
-use Prim.Native.Nat.{ℕ, suc, _+_, _-_, _*_, _<_, _≤_}
-use mathlib.Core.Path.{_≡_, refl, ap, sym, _∙_}
-use mathlib.Core.Logic.{⊎-elim}
-use mathlib.Core.Bool.{Bool, true, false}
-use native.Mathlib.Omega.{arith}
-use borrow.Author.Tests.{lt-ltb, le-ltb, le-leb, lt-leb, eq-eqb, ne-eqb}
-use lib.ListN.{length, getD, take, drop}
+use Prim.Native.Nat.{_-_}
 use borrow.Author.Needs.{needs}
 use Rattle.forms.proofs.change.change_record.Statement.{statement}
 use Rattle.forms.proofs.change.change_record.Tie as tie
-use Rattle.forms.proofs.change.change_record.Reads as reads
-use Rattle.forms.proofs.change.change_record.Lts as lts
 
 add-if1 : tie.Need-add-if1
 add-if1 c = search needs

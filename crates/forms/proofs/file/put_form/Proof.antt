@@ -4,22 +4,11 @@ use Rattle.output.proofs.PutLaws.{puts, put-as}
 use Rattle.forms.proofs.SoundLaws.{accepted-passing}
 use Rattle.forms.proofs.RoomLaws.{accepted-short, accepted-room}
 use Rattle.forms.proofs.FormLaws.{form-is}
-use Prim.Native.Nat.{ℕ, suc, _+_, _-_, _*_, _<_, _≤_}
-use mathlib.Core.Path.{_≡_, refl, ap, sym, _∙_}
-use mathlib.Core.Logic.{⊎-elim}
-use mathlib.Core.Bool.{Bool, true, false}
+use Prim.Native.Nat.{_-_}
 use native.Mathlib.Omega.{arith}
-use borrow.Author.Tests.{lt-ltb, le-ltb, le-leb, lt-leb, eq-eqb, ne-eqb}
-use lib.ListN.{length, getD, take, drop}
 use borrow.Author.Needs.{needs}
 use Rattle.forms.proofs.file.put_form.Statement.{statement}
 use Rattle.forms.proofs.file.put_form.Tie as tie
-use Rattle.forms.proofs.file.put_form.Reads as reads
-use Rattle.forms.proofs.file.put_form.Lts as lts
-use Rattle.forms.proofs.file.put_sections.Reads as put-sections-reads
-use Rattle.headers.proofs.read_values.Reads as read-values-reads
-use Rattle.output.proofs.put_head.Reads as put-head-reads
-use Rattle.output.proofs.put_count_line.Reads as put-count-line-reads
 
 read-values-requires : tie.Need-read-values-requires
 read-values-requires c κs =

@@ -10,21 +10,12 @@ use Rattle.forms.specs.Said.{said-in, PassingIn}
 use Rattle.forms.specs.Changed.{changed-tables}
 use Rattle.forms.proofs.SectionLaws.{tables-begin, tables-more, tables-end, lines-from, tables-fit, passing-here, passing-rest, passes-section}
 use borrow.Author.Needs.{needs}
-use Prim.Native.Nat.{ℕ, suc, _+_, _-_, _*_, _<_, _≤_}
-use mathlib.Core.Path.{_≡_, refl, ap, sym, _∙_}
-use mathlib.Core.Logic.{⊎-elim}
-use mathlib.Core.Bool.{Bool, true, false}
+use Prim.Native.Nat.{_+_, _-_, _≤_}
+use mathlib.Core.Path.{_≡_, ap, _∙_}
 use native.Mathlib.Omega.{arith}
-use borrow.Author.Tests.{lt-ltb, le-ltb, le-leb, lt-leb, eq-eqb, ne-eqb}
-use lib.ListN.{length, getD, take, drop}
+use lib.ListN.{length}
 use Rattle.forms.proofs.file.put_sections.Statement.{statement}
 use Rattle.forms.proofs.file.put_sections.Tie as tie
-use Rattle.forms.proofs.file.put_sections.Reads as reads
-use Rattle.forms.proofs.file.put_sections.Lts as lts
-use Rattle.forms.proofs.change.change_section.Reads as change-section-reads
-use Rattle.forms.proofs.section.put_section.Reads as put-section-reads
-use Rattle.sections.proofs.section_end.Reads as section-end-reads
-use Rattle.sections.proofs.find_section.Reads as find-section-reads
 
 abbrev Inv-loop : tie.InvT-loop
 Inv-loop out₀ at s change text a₀ n₀ o₀ out a n o =

@@ -1,18 +1,10 @@
 use Rattle.page.specs.declared.Column.{Column}
 use Rattle.forms.proofs.FieldLaws.{marked-filled, marked-stripped, marked-other, marked-waiting}
-use Prim.Native.Nat.{ℕ, suc, _+_, _-_, _*_, _<_, _≤_}
-use mathlib.Core.Path.{_≡_, refl, ap, sym, _∙_}
-use mathlib.Core.Logic.{⊎-elim}
-use mathlib.Core.Bool.{Bool, true, false}
-use native.Mathlib.Omega.{arith}
-use borrow.Author.Tests.{lt-ltb, le-ltb, le-leb, lt-leb, eq-eqb, ne-eqb}
-use lib.ListN.{length, getD, take, drop}
+use Prim.Native.Nat.{_-_}
+use mathlib.Core.Path.{ap, _∙_}
 use borrow.Author.Needs.{needs}
 use Rattle.forms.proofs.record.is_marked.Statement.{statement}
 use Rattle.forms.proofs.record.is_marked.Tie as tie
-use Rattle.forms.proofs.record.is_marked.Reads as reads
-use Rattle.forms.proofs.record.is_marked.Lts as lts
-use Rattle.page.proofs.tables.find_column.Reads as find-column-reads
 
 add-if1 : tie.Need-add-if1
 add-if1 c = search needs

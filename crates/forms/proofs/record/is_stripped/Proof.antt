@@ -1,15 +1,7 @@
-use Prim.Native.Nat.{ℕ, suc, _+_, _-_, _*_, _<_, _≤_}
-use mathlib.Core.Path.{_≡_, refl, ap, sym, _∙_}
-use mathlib.Core.Logic.{⊎-elim}
-use mathlib.Core.Bool.{Bool, true, false}
-use native.Mathlib.Omega.{arith}
-use borrow.Author.Tests.{lt-ltb, le-ltb, le-leb, lt-leb, eq-eqb, ne-eqb}
-use lib.ListN.{length, getD, take, drop}
+use Prim.Native.Nat.{_-_}
 use borrow.Author.Needs.{needs}
 use Rattle.forms.proofs.record.is_stripped.Statement.{statement}
 use Rattle.forms.proofs.record.is_stripped.Tie as tie
-use Rattle.forms.proofs.record.is_stripped.Reads as reads
-use Rattle.forms.proofs.record.is_stripped.Lts as lts
 
 add-result : tie.Need-add-result
 add-result c = search needs

@@ -11,22 +11,12 @@ use Rattle.output.proofs.PutLaws.{Todo, begin, left-is, next-by, at-end, same, 
 use Rattle.forms.specs.Parts.{fields-form}
 use Rattle.forms.proofs.FieldLaws.{fields-more, fields-end, none-wrong, passed-wrong}
 use borrow.Author.Needs.{needs}
-use Prim.Native.Nat.{ℕ, suc, _+_, _-_, _*_, _<_, _≤_}
-use mathlib.Core.Path.{_≡_, refl, ap, sym, _∙_}
-use mathlib.Core.Logic.{⊎-elim}
-use mathlib.Core.Bool.{Bool, true, false}
+use Prim.Native.Nat.{_+_, _-_, _<_, _≤_}
+use mathlib.Core.Path.{_≡_, ap, sym, _∙_}
 use native.Mathlib.Omega.{arith}
-use borrow.Author.Tests.{lt-ltb, le-ltb, le-leb, lt-leb, eq-eqb, ne-eqb}
-use lib.ListN.{length, getD, take, drop}
+use lib.ListN.{length, drop}
 use Rattle.forms.proofs.record.put_fields.Statement.{statement}
 use Rattle.forms.proofs.record.put_fields.Tie as tie
-use Rattle.forms.proofs.record.put_fields.Reads as reads
-use Rattle.forms.proofs.record.put_fields.Lts as lts
-use Rattle.forms.proofs.record.put_field.Reads as put-field-reads
-use Rattle.lines.proofs.field_end.Reads as field-end-reads
-use Rattle.lines.proofs.trimmed.Reads as trimmed-reads
-use Rattle.output.proofs.put_separator.Reads as put-separator-reads
-use Rattle.page.proofs.tables.find_width.Reads as find-width-reads
 
 abbrev Inv-loop : tie.InvT-loop
 Inv-loop out₀ at w t m change text n o₀ p₀ k₀ out o p k =

@@ -1,19 +1,9 @@
 use Rattle.output.proofs.PutLaws.{put-as, put-none}
 use Rattle.forms.proofs.FieldLaws.{mark-put, mark-left}
-use Prim.Native.Nat.{ℕ, suc, _+_, _-_, _*_, _<_, _≤_}
-use mathlib.Core.Path.{_≡_, refl, ap, sym, _∙_}
-use mathlib.Core.Logic.{⊎-elim}
-use mathlib.Core.Bool.{Bool, true, false}
-use native.Mathlib.Omega.{arith}
-use borrow.Author.Tests.{lt-ltb, le-ltb, le-leb, lt-leb, eq-eqb, ne-eqb}
-use lib.ListN.{length, getD, take, drop}
+use Prim.Native.Nat.{_-_}
 use borrow.Author.Needs.{needs}
 use Rattle.forms.proofs.record.put_mark_of.Statement.{statement}
 use Rattle.forms.proofs.record.put_mark_of.Tie as tie
-use Rattle.forms.proofs.record.put_mark_of.Reads as reads
-use Rattle.forms.proofs.record.put_mark_of.Lts as lts
-use Rattle.forms.proofs.record.is_marked.Reads as is-marked-reads
-use Rattle.output.proofs.put_mark.Reads as put-mark-reads
 
 is-marked-requires : tie.Need-is-marked-requires
 is-marked-requires c κs = search needs

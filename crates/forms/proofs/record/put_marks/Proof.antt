@@ -5,13 +5,9 @@ use Rattle.forms.specs.Parts.{marks-form}
 use Rattle.forms.proofs.FieldLaws.{marks-more, marks-end}
 use Rattle.forms.proofs.StandLaws.{marks-plain}
 use borrow.Author.Needs.{needs}
-use Prim.Native.Nat.{ℕ, suc, _+_, _-_, _*_, _<_, _≤_}
-use mathlib.Core.Path.{_≡_, refl, ap, sym, _∙_}
-use mathlib.Core.Logic.{⊎-elim}
-use mathlib.Core.Bool.{Bool, true, false}
+use Prim.Native.Nat.{_+_, _-_, _<_, _≤_}
 use native.Mathlib.Omega.{arith}
-use borrow.Author.Tests.{lt-ltb, le-ltb, le-leb, lt-leb, eq-eqb, ne-eqb}
-use lib.ListN.{length, getD, take, drop}
+use lib.ListN.{drop}
 use Rattle.forms.proofs.record.put_marks.Statement.{statement}
 use Rattle.forms.proofs.record.put_marks.Tie as tie
 

@@ -8,24 +8,13 @@ use Rattle.forms.specs.Said.{rows-of, passes}
 use Rattle.forms.specs.Changed.{changed-records}
 use Rattle.forms.proofs.SectionLaws.{rows-more, rows-other, rows-end, passes-here, passes-more, passes-other, records-begin, records-more, records-end, records-fit}
 use borrow.Author.Needs.{needs}
-use Prim.Native.Nat.{ℕ, suc, _+_, _-_, _*_, _<_, _≤_}
-use mathlib.Core.Path.{_≡_, refl, ap, sym, _∙_}
-use mathlib.Core.Logic.{⊎-elim}
-use mathlib.Core.Bool.{Bool, true, false}
+use Prim.Native.Nat.{_+_, _-_, _≤_}
+use mathlib.Core.Path.{_≡_, ap, sym, _∙_}
+use mathlib.Core.Bool.{true}
 use native.Mathlib.Omega.{arith}
-use borrow.Author.Tests.{lt-ltb, le-ltb, le-leb, lt-leb, eq-eqb, ne-eqb}
-use lib.ListN.{length, getD, take, drop}
+use lib.ListN.{length, drop}
 use Rattle.forms.proofs.section.put_records.Statement.{statement}
 use Rattle.forms.proofs.section.put_records.Tie as tie
-use Rattle.forms.proofs.section.put_records.Reads as reads
-use Rattle.forms.proofs.section.put_records.Lts as lts
-use Rattle.forms.proofs.change.change_record.Reads as change-record-reads
-use Rattle.forms.proofs.record.put_record.Reads as put-record-reads
-use Rattle.forms.proofs.section.wait_on.Reads as wait-on-reads
-use Rattle.lines.proofs.command_of.Reads as command-of-reads
-use Rattle.lines.proofs.content_of.Reads as content-of-reads
-use Rattle.lines.proofs.rest_of.Reads as rest-of-reads
-use Rattle.lines.proofs.cursor.Cursor.line.Reads as line-reads
 
 abbrev Inv-loop : tie.InvT-loop
 Inv-loop out₀ at s t change text c₀ m₀ n₀ o₀ out c m n o =

@@ -2,22 +2,11 @@ use Rattle.page.specs.Bytes.{bytes}
 use Rattle.page.specs.Lines.{lines}
 use Rattle.output.proofs.PutLaws.{puts, put-as}
 use Rattle.forms.proofs.SectionLaws.{content-is, content-length}
-use Prim.Native.Nat.{ℕ, suc, _+_, _-_, _*_, _<_, _≤_}
-use mathlib.Core.Path.{_≡_, refl, ap, sym, _∙_}
-use mathlib.Core.Logic.{⊎-elim}
-use mathlib.Core.Bool.{Bool, true, false}
+use Prim.Native.Nat.{_-_}
 use native.Mathlib.Omega.{arith}
-use borrow.Author.Tests.{lt-ltb, le-ltb, le-leb, lt-leb, eq-eqb, ne-eqb}
-use lib.ListN.{length, getD, take, drop}
 use borrow.Author.Needs.{needs}
 use Rattle.forms.proofs.section.put_section.Statement.{statement}
 use Rattle.forms.proofs.section.put_section.Tie as tie
-use Rattle.forms.proofs.section.put_section.Reads as reads
-use Rattle.forms.proofs.section.put_section.Lts as lts
-use Rattle.forms.proofs.section.put_records.Reads as put-records-reads
-use Rattle.forms.proofs.section.read_table.Reads as read-table-reads
-use Rattle.output.proofs.put_count_line.Reads as put-count-line-reads
-use Rattle.output.proofs.put_table_head.Reads as put-table-head-reads
 
 read-table-requires : tie.Need-read-table-requires
 read-table-requires c κs = search needs

@@ -6,23 +6,12 @@ use Rattle.page.specs.Fields.{fields}
 use Rattle.page.specs.Tables.{table-named}
 use Rattle.lines.proofs.CursorLaws.{handed}
 use Rattle.forms.proofs.SectionLaws.{table-first}
-use Prim.Native.Nat.{ℕ, suc, _+_, _-_, _*_, _<_, _≤_}
-use mathlib.Core.Path.{_≡_, refl, ap, sym, _∙_}
-use mathlib.Core.Logic.{⊎-elim}
-use mathlib.Core.Bool.{Bool, true, false}
-use native.Mathlib.Omega.{arith}
-use borrow.Author.Tests.{lt-ltb, le-ltb, le-leb, lt-leb, eq-eqb, ne-eqb}
-use lib.ListN.{length, getD, take, drop}
+use Prim.Native.Nat.{_-_, _≤_}
+use mathlib.Core.Path.{ap, sym, _∙_}
+use lib.ListN.{length, getD}
 use borrow.Author.Needs.{needs}
 use Rattle.forms.proofs.section.read_table.Statement.{statement}
 use Rattle.forms.proofs.section.read_table.Tie as tie
-use Rattle.forms.proofs.section.read_table.Reads as reads
-use Rattle.forms.proofs.section.read_table.Lts as lts
-use Rattle.lines.proofs.content_of.Reads as content-of-reads
-use Rattle.lines.proofs.rest_of.Reads as rest-of-reads
-use Rattle.lines.proofs.cursor.Cursor.line.Reads as line-reads
-use Rattle.lines.proofs.field_at.Reads as field-at-reads
-use Rattle.names.proofs.find_table.Reads as find-table-reads
 
 line-requires : tie.Need-line-requires
 line-requires c κs = search needs

@@ -1,20 +1,10 @@
 use Rattle.page.specs.Marks.{remarkOf}
 use Rattle.forms.proofs.SectionLaws.{waits-other, waits-remark}
-use Prim.Native.Nat.{ℕ, suc, _+_, _-_, _*_, _<_, _≤_}
-use mathlib.Core.Path.{_≡_, refl, ap, sym, _∙_}
-use mathlib.Core.Logic.{⊎-elim}
-use mathlib.Core.Bool.{Bool, true, false}
-use native.Mathlib.Omega.{arith}
-use borrow.Author.Tests.{lt-ltb, le-ltb, le-leb, lt-leb, eq-eqb, ne-eqb}
-use lib.ListN.{length, getD, take, drop}
+use Prim.Native.Nat.{_-_}
+use mathlib.Core.Path.{ap, sym, _∙_}
 use borrow.Author.Needs.{needs}
 use Rattle.forms.proofs.section.wait_on.Statement.{statement}
 use Rattle.forms.proofs.section.wait_on.Tie as tie
-use Rattle.forms.proofs.section.wait_on.Reads as reads
-use Rattle.forms.proofs.section.wait_on.Lts as lts
-use Rattle.fields.proofs.read_remark.Reads as read-remark-reads
-use Rattle.lines.proofs.command_of.Reads as command-of-reads
-use Rattle.lines.proofs.rest_of.Reads as rest-of-reads
 
 command-of-requires : tie.Need-command-of-requires
 command-of-requires c κs = search needs

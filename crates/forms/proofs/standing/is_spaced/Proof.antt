@@ -1,7 +1,6 @@
 use borrow.Author.Needs.{needs}
 use mathlib.Core.Path.{ap, sym, _∙_}
 use mathlib.Core.Bool.{false≢true}
-use native.Mathlib.Omega.{arith}
 use Rattle.page.proofs.PartLaws.{part-rest}
 use Rattle.forms.specs.Parts.{stands}
 use Rattle.forms.proofs.StandLaws.{spaced-of}

@@ -3,19 +3,12 @@ use Rattle.page.specs.Answers.{refusal}
 use mathlib.Core.List.{[]}
 use mathlib.Core.Path.{_≡_}
 use Prim.Native.Nat.{ℕ}
-use Prim.Native.Nat.{ℕ, suc, _+_, _-_, _*_, _<_, _≤_}
-use mathlib.Core.Path.{_≡_, refl, ap, sym, _∙_}
-use mathlib.Core.Logic.{⊎-elim}
-use mathlib.Core.Bool.{Bool, true, false}
+use Prim.Native.Nat.{ℕ, _-_}
+use mathlib.Core.Path.{_≡_}
 use native.Mathlib.Omega.{arith}
-use borrow.Author.Tests.{lt-ltb, le-ltb, le-leb, lt-leb, eq-eqb, ne-eqb}
-use lib.ListN.{length, getD, take, drop}
 use borrow.Author.Needs.{needs}
 use Rattle.handing.proofs.texts.hand_value.Statement.{statement}
 use Rattle.handing.proofs.texts.hand_value.Tie as tie
-use Rattle.handing.proofs.texts.hand_value.Reads as reads
-use Rattle.handing.proofs.texts.hand_value.Lts as lts
-use Rattle.handing.proofs.texts.hand_words.Reads as hand-words-reads
 
 enum-told : tie.Need-enum-told
 enum-told c = search needs

@@ -1,20 +1,11 @@
 use Rattle.handing.proofs.TextLaws.{got-is, got-refused, value-spans, value-wrote, text-refused}
 use Rattle.page.specs.Reading.{section-at, value-refusal, value-at, valueOf}
 use mathlib.Core.Path.{sym, _∙_}
-use Prim.Native.Nat.{ℕ, suc, _+_, _-_, _*_, _<_, _≤_}
-use mathlib.Core.Path.{_≡_, refl, ap, sym, _∙_}
-use mathlib.Core.Logic.{⊎-elim}
-use mathlib.Core.Bool.{Bool, true, false}
-use native.Mathlib.Omega.{arith}
-use borrow.Author.Tests.{lt-ltb, le-ltb, le-leb, lt-leb, eq-eqb, ne-eqb}
-use lib.ListN.{length, getD, take, drop}
+use Prim.Native.Nat.{_-_}
+use mathlib.Core.Path.{sym, _∙_}
 use borrow.Author.Needs.{needs}
 use Rattle.handing.proofs.texts.text.Statement.{statement}
 use Rattle.handing.proofs.texts.text.Tie as tie
-use Rattle.handing.proofs.texts.text.Reads as reads
-use Rattle.handing.proofs.texts.text.Lts as lts
-use Rattle.handing.proofs.texts.hand_value.Reads as hand-value-reads
-use Rattle.sections.proofs.value.Reads as value-reads
 
 value-requires : tie.Need-value-requires
 value-requires c κs = search needs

@@ -3,7 +3,6 @@ use lib.ListN.{length-drop, length-set, length, drop}
 use Rattle.page.specs.Fields.{fields}
 use Rattle.page.specs.Tables.{standing, width, column-at}
 use Rattle.page.specs.Section.{fieldOf, field-number, first-wrong}
-use Rattle.page.specs.declared.Column.{Column}
 use Rattle.page.proofs.FieldLaws.{from, from-all, end-in, next-left, head-left}
 use Rattle.page.proofs.TableLaws.{width-le}
 use Rattle.fields.specs.Runs.{field-from}

@@ -1,16 +1,9 @@
-use Prim.Native.Nat.{ℕ, suc, _+_, _-_, _*_, _<_, _≤_}
-use mathlib.Core.Path.{_≡_, refl, ap, sym, _∙_}
-use mathlib.Core.Logic.{⊎-elim}
-use mathlib.Core.Bool.{Bool, true, false}
-use native.Mathlib.Omega.{arith}
-use borrow.Author.Tests.{lt-ltb, le-ltb, le-leb, lt-leb, eq-eqb, ne-eqb}
-use lib.ListN.{length, getD, take, drop}
+use Prim.Native.Nat.{_-_}
+use mathlib.Core.Path.{ap, sym}
 use Rattle.vdv.specs.Told.{told-written}
 use borrow.Author.Needs.{needs}
 use Rattle.vdv.proofs.answers.tell_length.Statement.{statement}
 use Rattle.vdv.proofs.answers.tell_length.Tie as tie
-use Rattle.vdv.proofs.answers.tell_length.Reads as reads
-use Rattle.vdv.proofs.answers.tell_length.Lts as lts
 
 enum-known-x : tie.Need-enum-known-x
 enum-known-x c = search needs

@@ -1,18 +1,8 @@
-use Prim.Native.Nat.{ℕ, suc, _+_, _-_, _*_, _<_, _≤_}
-use mathlib.Core.Path.{_≡_, refl, ap, sym, _∙_}
-use mathlib.Core.Logic.{⊎-elim}
-use mathlib.Core.Bool.{Bool, true, false}
-use native.Mathlib.Omega.{arith}
-use borrow.Author.Tests.{lt-ltb, le-ltb, le-leb, lt-leb, eq-eqb, ne-eqb}
-use lib.ListN.{length, getD, take, drop}
+use Prim.Native.Nat.{_-_}
+use mathlib.Core.Path.{refl}
 use borrow.Author.Needs.{needs}
 use Rattle.vdv.proofs.answers.tell_values.Statement.{statement}
 use Rattle.vdv.proofs.answers.tell_values.Tie as tie
-use Rattle.vdv.proofs.answers.tell_values.Reads as reads
-use Rattle.vdv.proofs.answers.tell_values.Lts as lts
-use Rattle.vdv.proofs.answers.stands.Reads as stands-reads
-use Rattle.vdv.proofs.answers.stands_from.Reads as stands-from-reads
-use Rattle.vdv.proofs.answers.stands_to.Reads as stands-to-reads
 
 stands-requires : tie.Need-stands-requires
 stands-requires c κs = search needs

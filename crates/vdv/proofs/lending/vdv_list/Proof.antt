@@ -42,7 +42,6 @@ use Rattle.page.specs.File.{file-refusal}
 use Rattle.page.specs.declared.Row.{Row}
 use Rattle.page.specs.declared.Refusal.{Refusal}
 use Rattle.page.proofs.Row as T
-use Rattle.page.proofs.Row.Laws as T′
 use Rattle.page.proofs.Refusal as S
 use Rattle.page.proofs.Refusal.Laws as S′
 use Rattle.rows.proofs.list as list

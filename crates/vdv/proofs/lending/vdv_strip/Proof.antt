@@ -3,10 +3,6 @@ use Rattle.vdv.specs.Told.{told-written}
 use borrow.Author.Needs.{needs}
 use Rattle.vdv.proofs.lending.vdv_strip.Statement.{statement}
 use Rattle.vdv.proofs.lending.vdv_strip.Tie as tie
-use Rattle.vdv.proofs.lending.vdv_strip.Reads as reads
-use Rattle.vdv.proofs.lending.vdv_strip.Lts as lts
-use Rattle.forms.proofs.strip.Reads as strip-reads
-use Rattle.vdv.proofs.answers.tell_length.Reads as tell-length-reads
 
 strip-requires : tie.Need-strip-requires
 strip-requires c κs = search needs

@@ -3,10 +3,6 @@ use Rattle.vdv.specs.Told.{told-written}
 use borrow.Author.Needs.{needs}
 use Rattle.vdv.proofs.lending.vdv_text.Statement.{statement}
 use Rattle.vdv.proofs.lending.vdv_text.Tie as tie
-use Rattle.vdv.proofs.lending.vdv_text.Reads as reads
-use Rattle.vdv.proofs.lending.vdv_text.Lts as lts
-use Rattle.handing.proofs.text.Reads as text-reads
-use Rattle.vdv.proofs.answers.tell_length.Reads as tell-length-reads
 
 text-requires : tie.Need-text-requires
 text-requires c κs = search needs

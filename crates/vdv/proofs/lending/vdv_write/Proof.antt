@@ -3,10 +3,6 @@ use Rattle.vdv.specs.Told.{told-written}
 use borrow.Author.Needs.{needs}
 use Rattle.vdv.proofs.lending.vdv_write.Statement.{statement}
 use Rattle.vdv.proofs.lending.vdv_write.Tie as tie
-use Rattle.vdv.proofs.lending.vdv_write.Reads as reads
-use Rattle.vdv.proofs.lending.vdv_write.Lts as lts
-use Rattle.forms.proofs.write.Reads as write-reads
-use Rattle.vdv.proofs.answers.tell_length.Reads as tell-length-reads
 
 write-requires : tie.Need-write-requires
 write-requires c κs = search needs
