@@ -97,7 +97,7 @@ fn print_filled_section(s: &[u8], section: usize, records: usize) {
 
 // At every place of every record, and where there is none.
 fn print_filled_everywhere(s: &[u8]) {
-    let n = headers::count_sections(s);
+    let n = cut::count_sections(s);
     let mut i: usize = 0;
     while i < n {
         i += 1;

@@ -21,16 +21,16 @@ use Rattle.page.specs.Form.{formOf}
 use Rattle.page.specs.Writing.{write-form, empty-datum, fill-place, fill-refusal, fill-form}
 use Rattle.page.specs.Rules.{Every, none-left, one-more}
 use Rattle.page.specs.declared.Owner.the-variants as O
-use Rattle.demands.specs.Round.{a-suggestion, FitAll, no-value, a-value, SoundRecord, SoundContent, SoundModel}
-use Rattle.demands.specs.RoundKeys.{KeysHold}
+use Rattle.round.specs.Round.{a-suggestion, FitAll, no-value, a-value, SoundRecord, SoundContent, SoundModel}
+use Rattle.round.specs.RoundKeys.{KeysHold}
 use Rattle.demands.specs.RoundAlike.{Pairs, no-pair, a-pair, Alike, alike-none, alike-same, alike-text, AlikeContent}
-use Rattle.demands.proofs.WrittenScans.{and-l, and-r, or-false}
-use Rattle.demands.proofs.Counts.{count-handed}
-use Rattle.demands.proofs.RoundRecords.{width-back}
-use Rattle.demands.proofs.RoundKeys.{earlier-none}
-use Rattle.demands.proofs.RoundForm.{form-model, form-sound}
+use Rattle.laws.proofs.WrittenScans.{and-l, and-r, or-false}
+use Rattle.grammar.proofs.Counts.{count-handed}
+use Rattle.round.proofs.RoundRecords.{width-back}
+use Rattle.round.proofs.RoundKeys.{earlier-none}
+use Rattle.round.proofs.RoundForm.{form-model, form-sound}
 use Rattle.demands.proofs.RoundAlike.{only-texts, settled, keys-alike, sound-alike, alike-self}
-use Rattle.demands.proofs.Round.{accepted-model, accepted-keys}
+use Rattle.round.proofs.Round.{accepted-model, accepted-keys}
 use Rattle.demands.proofs.Fill.{no-content, fill-here, fill-other-section, fill-other-record, fill-other-field}
 
 -- what a refusal that does not refuse says

@@ -21,12 +21,12 @@ use Rattle.page.specs.declared.Remark.the-variants as R
 use Rattle.page.proofs.NumberLaws.{digit-range, digits-some, digits-few, digits-all, digits-short}
 use Rattle.demands.specs.Lexical as Lexical
 use Rattle.demands.specs.Lexical.{Digits, one-digit, Decimal, Numeral, plain, minus-zero, below-zero, Shortest, Format, MarkText}
-use Rattle.demands.proofs.Decides.{fact, tested}
-use Rattle.demands.proofs.Tests.{same-d}
-use Rattle.demands.proofs.WrittenScans.{and-l, and-r, all-append}
-use Rattle.demands.proofs.WrittenNumbers.{digit-of, value-last}
-use Rattle.demands.proofs.WrittenTexts.{text-exactly}
-use Rattle.demands.proofs.WrittenLines.{all-at}
+use Rattle.laws.proofs.Decides.{fact, tested}
+use Rattle.laws.proofs.Tests.{same-d}
+use Rattle.laws.proofs.WrittenScans.{and-l, and-r, all-append}
+use Rattle.round.proofs.WrittenNumbers.{digit-of, value-last}
+use Rattle.round.proofs.WrittenTexts.{text-exactly}
+use Rattle.round.proofs.WrittenLines.{all-at}
 
 -- digits and what they are worth
 

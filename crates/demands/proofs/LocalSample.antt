@@ -9,7 +9,7 @@ use Rattle.page.specs.File.{rowsOf}
 use Rattle.page.specs.Open.{open-all}
 use Rattle.page.specs.declared.Row.{Row}
 use Rattle.page.proofs.CutLaws.{extend, flat}
-use Rattle.demands.specs.Local.{settled, final, closed, reached-pieces, reached}
+use Rattle.round.specs.Local.{settled, final, closed, reached-pieces, reached}
 
 -- the header, a whole table, and the first lines of a second
 before : Bytes

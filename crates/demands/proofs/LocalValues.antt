@@ -21,8 +21,8 @@ use Rattle.page.specs.File.{too-long, header-refusal}
 use Rattle.page.specs.Reading.{headerOf, no-section, outside, section-at, find-refusal, sectionOf, value-refusal, words-in, value-in, record-of, value-at, valueOf}
 use Rattle.page.specs.declared.Value.the-variants as Va
 use Rattle.page.proofs.LineLaws.{Whole}
-use Rattle.demands.specs.Local.{Run, closed, later, reached, later-value}
-use Rattle.demands.proofs.Local.{local-header, local-sections, closed-same, closed-row, later-at}
+use Rattle.round.specs.Local.{Run, closed, later, reached, later-value}
+use Rattle.round.proofs.Local.{local-header, local-sections, closed-same, closed-row, later-at}
 
 -- a record's line k bytes further on
 abbrev later-standing : ℕ → Standing → Standing

@@ -17,13 +17,13 @@ use Rattle.page.specs.Model.{Content}
 use Rattle.page.specs.Grammar.{MarkLine, RecLine, Then, found, skip, Silence, over, still, Records, pause, a-mark, a-record, the-end, Denotes}
 use Rattle.page.specs.Refusals.{marks-of}
 use Rattle.page.specs.Rules.{Every, none-left, one-more, Tables, no-table, a-table}
-use Rattle.demands.specs.Begins.{begins}
+use Rattle.laws.specs.Begins.{begins}
 use Rattle.demands.specs.Places.{EntryStands, FiledStands}
-use Rattle.demands.proofs.Lists.{every-head, every-tail, every-map, every-append}
-use Rattle.demands.proofs.Sections.{sections-begin}
-use Rattle.demands.proofs.Values.{values-are}
-use Rattle.demands.proofs.Accepts.{only-mark, denotes-accepted}
-use Rattle.demands.proofs.Readings.{quiet-line, plain-line, table-denoted}
+use Rattle.laws.proofs.Lists.{every-head, every-tail, every-map, every-append}
+use Rattle.laws.proofs.Sections.{sections-begin}
+use Rattle.grammar.proofs.Values.{values-are}
+use Rattle.grammar.proofs.Accepts.{only-mark, denotes-accepted}
+use Rattle.grammar.proofs.Readings.{quiet-line, plain-line, table-denoted}
 
 module _ {latin : Bool} where
   -- one line further

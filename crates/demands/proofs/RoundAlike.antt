@@ -11,10 +11,10 @@ use Rattle.page.specs.Records.{Datum, number, words, Record}
 use Rattle.page.specs.Model.{Content}
 use Rattle.page.specs.File.{any, Filed, same-record, key-in, key-of, by-primary, by-second, repeats, referred, meets, lost}
 use Rattle.page.specs.declared.Column.{Column}
-use Rattle.demands.specs.Round.{Fits, a-number, FitAll, no-value, a-value, amount-of, amount-in, points-alike, SoundRecord}
-use Rattle.demands.specs.RoundKeys.{breaks, placeless, filed-content, KeysHold}
+use Rattle.round.specs.Round.{Fits, a-number, FitAll, no-value, a-value, amount-of, amount-in, points-alike, SoundRecord}
+use Rattle.round.specs.RoundKeys.{breaks, placeless, filed-content, KeysHold}
 use Rattle.demands.specs.RoundAlike.{Pairs, no-pair, a-pair, Alike, alike-none, alike-same, alike-text, AlikeContent}
-use Rattle.demands.proofs.WrittenScans.{and-l, and-r}
+use Rattle.laws.proofs.WrittenScans.{and-l, and-r}
 
 -- of the columns that may be marked: none is of a key or a reference, and each is a text of at least 40 bytes
 

@@ -11,8 +11,8 @@ use Rattle.page.specs.Writing.{put-after, write-form, writeOf, write-after, str
 use Rattle.page.specs.declared.Refusal.{Refusal}
 use Rattle.page.specs.declared.Checked.the-variants as C
 use Rattle.page.specs.declared.Written.the-variants as W
-use Rattle.demands.proofs.Promises.{Done, done-put}
-use Rattle.demands.proofs.Round.{round-accepted, round-model}
+use Rattle.calls.proofs.Promises.{Done, done-put}
+use Rattle.round.proofs.Round.{round-accepted, round-model}
 use Rattle.demands.proofs.StripBack.{strip-accepted, strip-model-back}
 use Rattle.demands.proofs.FillBack.{fill-accepted, fill-model-back}
 

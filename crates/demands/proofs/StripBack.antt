@@ -14,12 +14,12 @@ use Rattle.page.specs.File.{limit, file-refusal}
 use Rattle.page.specs.Form.{formOf}
 use Rattle.page.specs.Writing.{write-form, strip-form}
 use Rattle.page.specs.Rules.{Every, none-left, one-more}
-use Rattle.demands.specs.Round.{a-number, a-text, a-suggestion, FitAll, no-value, a-value, SoundRecord, SoundContent, SoundModel}
-use Rattle.demands.specs.RoundKeys.{KeysHold}
+use Rattle.round.specs.Round.{a-number, a-text, a-suggestion, FitAll, no-value, a-value, SoundRecord, SoundContent, SoundModel}
+use Rattle.round.specs.RoundKeys.{KeysHold}
 use Rattle.demands.specs.RoundAlike.{Pairs, no-pair, a-pair, Alike, alike-none, alike-same, alike-text, AlikeContent}
-use Rattle.demands.proofs.RoundForm.{form-model, form-sound}
+use Rattle.round.proofs.RoundForm.{form-model, form-sound}
 use Rattle.demands.proofs.RoundAlike.{keys-alike, sound-alike}
-use Rattle.demands.proofs.Round.{accepted-model, accepted-keys}
+use Rattle.round.proofs.Round.{accepted-model, accepted-keys}
 use Rattle.demands.proofs.Strip.{strip-twice}
 
 module _ (latin : Bool) where

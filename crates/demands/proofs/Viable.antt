@@ -26,12 +26,12 @@ use Rattle.page.specs.declared.Step.the-variants as S
 use Rattle.page.specs.declared.Outcome.{Outcome}
 use Rattle.page.proofs.TableLaws.{each-of-eight}
 use Rattle.demands.specs.Viable.{Viable, SectionPlace, breaks, lacks}
-use Rattle.demands.proofs.Ranged.{laws-ranged}
-use Rattle.demands.proofs.Steps.{go-exactly, stop-exactly, leads-go}
-use Rattle.demands.proofs.Accepts.{denotes-accepted, accepted-denotes}
-use Rattle.demands.proofs.Refuses.{reach-run, refused-denotes-nothing}
-use Rattle.demands.proofs.RoundHeads.{heads, tbl-line, atr-line, frm-line}
-use Rattle.demands.proofs.RoundSteps.{end-step-back}
+use Rattle.grammar.proofs.Ranged.{laws-ranged}
+use Rattle.grammar.proofs.Steps.{go-exactly, stop-exactly, leads-go}
+use Rattle.grammar.proofs.Accepts.{denotes-accepted, accepted-denotes}
+use Rattle.grammar.proofs.Refuses.{reach-run, refused-denotes-nothing}
+use Rattle.round.proofs.RoundHeads.{heads, tbl-line, atr-line, frm-line}
+use Rattle.round.proofs.RoundSteps.{end-step-back}
 
 -- a record of each table, its texts not empty
 unfoldable samples : List String

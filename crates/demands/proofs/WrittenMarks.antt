@@ -22,19 +22,19 @@ use Rattle.page.specs.Form.{decimal, quoted, datum-text, mark-line, formOf}
 use Rattle.page.specs.Writing.{write-form, strip-form, fill-refusal, fill-form}
 use Rattle.page.specs.Rules.{Every, none-left, one-more}
 use Rattle.page.specs.declared.Owner.the-variants as O
-use Rattle.demands.specs.Round.{PrintedIf, SoundHead, SoundRecord, SoundContent, SoundModel}
+use Rattle.round.specs.Round.{PrintedIf, SoundHead, SoundRecord, SoundContent, SoundModel}
 use Rattle.demands.specs.WrittenMarks.{rec-line, record-at, Directly, Suggests, MarkAndRecord, Behind}
-use Rattle.demands.proofs.WrittenNumbers.{decimal-all}
-use Rattle.demands.proofs.WrittenTexts.{text-quoted}
-use Rattle.demands.proofs.WrittenLines.{commands, Seen}
-use Rattle.demands.proofs.RoundRecords.{tame, Owned, no-owner, of-number, of-words, width-back}
-use Rattle.demands.proofs.RoundSteps.{mark-lines, Marked, unmarked, marked, marks-back, end-seen, rec-seen}
-use Rattle.demands.proofs.RoundHeads.{heads, tbl-line, atr-line, frm-line}
-use Rattle.demands.proofs.RoundSections.{record-lines, body-lines, after-tbl, content-lines, some-columns}
-use Rattle.demands.proofs.RoundHeader.{text-line, lines-if, head-lines, mod-seen, src-seen, chs-seen, text-seen}
-use Rattle.demands.proofs.RoundCut.{tables-lines, eof-line, form-lines, eof-seen, lines-form}
-use Rattle.demands.proofs.Round.{accepted-model}
-use Rattle.demands.proofs.Splits.{map-mem}
+use Rattle.round.proofs.WrittenNumbers.{decimal-all}
+use Rattle.round.proofs.WrittenTexts.{text-quoted}
+use Rattle.round.proofs.WrittenLines.{commands, Seen}
+use Rattle.round.proofs.RoundRecords.{tame, Owned, no-owner, of-number, of-words, width-back}
+use Rattle.round.proofs.RoundSteps.{mark-lines, Marked, unmarked, marked, marks-back, end-seen, rec-seen}
+use Rattle.round.proofs.RoundHeads.{heads, tbl-line, atr-line, frm-line}
+use Rattle.round.proofs.RoundSections.{record-lines, body-lines, after-tbl, content-lines, some-columns}
+use Rattle.round.proofs.RoundHeader.{text-line, lines-if, head-lines, mod-seen, src-seen, chs-seen, text-seen}
+use Rattle.round.proofs.RoundCut.{tables-lines, eof-line, form-lines, eof-seen, lines-form}
+use Rattle.round.proofs.Round.{accepted-model}
+use Rattle.verdicts.proofs.Splits.{map-mem}
 use Rattle.demands.proofs.Strip.{strip-none, strip-number}
 use Rattle.demands.proofs.StripBack.{strip-sound}
 use Rattle.demands.proofs.FillBack.{filled-sound, fill-field, fill-put}

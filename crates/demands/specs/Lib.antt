@@ -1,17 +1,5 @@
-pub mod Local
-pub mod Promises
-pub mod Round
-pub mod RoundKeys
-pub mod Begins
-pub mod Headers
-pub mod Trailers
-pub mod First
-pub mod Files
 pub mod Places
-pub mod Marks
 pub mod RoundAlike
 pub mod Viable
-pub mod Turns
 pub mod WrittenMarks
-pub mod Handed
 pub mod Lexical

@@ -8,10 +8,10 @@ use borrow.Author.Tests.{le-leb, lt-leb}
 use lib.ListN.{length}
 use Rattle.page.specs.Bytes.{Bytes}
 use Rattle.page.specs.Section.{text-field, number-field}
-use Rattle.fields.specs.Sizes.{sizeOf}
+use Rattle.quoted.specs.Sizes.{sizeOf}
 use Rattle.page.specs.declared.Field.the-variants as F
 use Rattle.page.specs.declared.Number.the-variants as N
-use Rattle.fields.specs.declared.texts.Size.the-variants as S
+use Rattle.quoted.specs.declared.texts.Size.the-variants as S
 
 module _ (size : ℕ) (f : Bytes) (o : Option Bytes) where
   module _ (n : ℕ) (e : sizeOf o ≡ S.Is n) where

@@ -1,3 +1,0 @@
-pub mod Magnitudes
-pub mod Sizes
-pub mod Runs

@@ -5,15 +5,15 @@ ghost use Prim.Native.Nat.{_+_, _≤_};
 ghost use lib.ListN.{length, drop};
 ghost use Rattle.page.specs.Fields.{field-size, numberOf};
 ghost use Rattle.page.specs.Section.{record-text, text-field, number-field, fieldOf, amount};
-ghost use Rattle.fields.specs.Runs.{field-from};
-use crate::numbers::read_number;
-use crate::texts::Size;
-use crate::texts::text_size;
-use crate::walk::number_at;
+ghost use Rattle.digits.specs.Runs.{field-from};
+use digits::number_at;
+use digits::read_number;
 use page::Column;
 use page::Field;
 use page::Number;
 use page::Span;
+use quoted::Size;
+use quoted::text_size;
 
 // A field, and where it ends.
 pub struct Reading {
@@ -63,7 +63,7 @@ fn text_from(w: &[u8], at: usize, size: u64) -> Reading
     ensures { λ r. ⌜ (r .end ≡ at + field-size false (drop at (now (w .entry))))
         × (r .field ≡ text-field size (field-from (now (w .entry)) at) (record-text (field-from (now (w .entry)) at))) ⌝ }
 {
-    let e = lines::field_end(w, at);
+    let e = commands::field_end(w, at);
     let f = read_text_field(lines::trimmed(&w[at..e]), size);
     Reading { field: f, end: e }
 }

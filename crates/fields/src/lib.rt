@@ -1,37 +1,7 @@
 // One field of a line: a slice that is trimmed already, read as document 01 says.
 mod columns;
-mod dates;
-mod formats;
-mod marks;
-mod names;
-mod numbers;
-mod places;
-mod texts;
-mod walk;
 
 pub use columns::Reading;
 pub use columns::amount_of;
 pub use columns::read_field;
 pub use columns::worth;
-pub use dates::days_in;
-pub use dates::is_date;
-pub use dates::is_time;
-pub use dates::read_date;
-pub use dates::read_time;
-pub use formats::is_format;
-pub use formats::is_formed;
-pub use marks::read_remark;
-pub use names::form_named;
-pub use names::is_ascii_name;
-pub use names::is_latin_name;
-pub use numbers::Magnitude;
-pub use numbers::is_digit;
-pub use numbers::read_digits;
-pub use numbers::read_number;
-pub use texts::Size;
-pub use texts::is_empty_text;
-pub use texts::own_size;
-pub use texts::text_size;
-pub use texts::texts_equal;
-pub use walk::Counted;
-pub use walk::number_at;

@@ -16,8 +16,8 @@ use Rattle.page.specs.File.{found, rowOf, rowsOf, first-unsound, first-again, h
 use Rattle.page.specs.declared.Row.{Row}
 use Rattle.page.specs.declared.Finding.{Finding}
 use Rattle.page.specs.declared.Refusal.{Refusal}
-use Rattle.files.specs.declared.seating.Seats.{Seats}
-use Rattle.files.specs.Seating.{again-refusal, Seating}
+use Rattle.seats.specs.declared.seating.Seats.{Seats}
+use Rattle.seats.specs.Seating.{again-refusal, Seating}
 
 module _ (a b r : Refusal) (e : r ≡ a) where
   pub earlier-hit : (r .number ≡ 0 → ⊥) → r ≡ earlier a b

@@ -1,13 +1,1 @@
-pub mod BitLaws
-pub mod ScanLaws
-pub mod TopLaws
-pub mod WalkLaws
-pub mod NumberLaws
-pub mod RoundLaws
-pub mod SeatLaws
-pub mod FiledLaws
-pub mod RepeatLaws
-pub mod LostLaws
-pub mod FollowLaws
-pub mod AimLaws
 pub mod AnswerLaws

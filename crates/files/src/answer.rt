@@ -3,14 +3,14 @@ ghost use mathlib.Core.Path.{_≡_};
 ghost use mathlib.Core.Bool.{true};
 ghost use Rattle.page.specs.Answers.{sound};
 ghost use Rattle.page.specs.File.{filedOf, rowsOf, first-unsound, record-refusal, section-refusal, file-refusal, checkOf};
-ghost use Rattle.files.specs.Seating.{Ready};
-use crate::references::first_lost;
-use crate::repeats::first_repeat;
-use crate::seating::Seats;
-use crate::seating::seat_tables;
+ghost use Rattle.seats.specs.Seating.{Ready};
 use crate::unsound::first_unsound;
 use page::Checked;
 use page::Refusal;
+use references::first_lost;
+use repeats::first_repeat;
+use seats::Seats;
+use seats::seat_tables;
 
 // 18, 19, 20
 fn check_records(s: &[u8], seats: Seats) -> Refusal
@@ -73,7 +73,7 @@ pub fn check_known(s: &[u8], known: bool) -> Refusal
     if header.number != 0 {
         return header;
     }
-    let trailer = headers::read_trailer(s, headers::count_sections(s));
+    let trailer = trailers::read_trailer(s, cut::count_sections(s));
     let verdict = trailer.verdict;
     let line = trailer.line;
     if verdict != 0 {

@@ -9,11 +9,11 @@ pub fn first_unsound(s: &[u8], latin: bool) -> Refusal
     ensures { λ r. ⌜ r ≡ first-unsound 1 (map (rowOf latin) (sections (now (s .entry)))) ⌝ }
 {
     let mut i: usize = 1;
-    let mut at = sections::find_section(s, 0);
+    let mut at = cut::find_section(s, 0);
     while at < s.len() {
         let row = sections::read_section(s, at, latin);
         let e = at + row.length;
-        at = sections::find_section(s, e);
+        at = cut::find_section(s, e);
         let verdict = row.verdict;
         let line = row.line;
         if verdict != 0 {

@@ -20,9 +20,9 @@ use Rattle.page.specs.Form.{formOf}
 use Rattle.page.specs.Writing.{empty-datum, fill-place, fill-refusal, fill-form, fillOf, fill-after}
 use Rattle.page.specs.declared.Refusal.{Refusal}
 use Rattle.page.specs.declared.Written.{Written}
-use Rattle.demands.proofs.RoundKeys.{earlier-none}
+use Rattle.round.proofs.RoundKeys.{earlier-none}
 use Rattle.output.specs.Put.{Wrote}
-use Rattle.forms.specs.Changed.{changed-model}
+use Rattle.copies.specs.Changed.{changed-model}
 use Rattle.forms.proofs.ModelLaws.{one-filled}
 use Rattle.forms.proofs.FormLaws.{wrote-as}
 

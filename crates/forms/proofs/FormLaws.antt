@@ -17,14 +17,14 @@ use Rattle.page.specs.Writing.{put-refusal, putOf, put-after, write-form, write
 use Rattle.page.specs.declared.Header.{Header}
 use Rattle.page.specs.declared.Refusal.{Refusal}
 use Rattle.page.specs.declared.Written.{Written}
-use Rattle.demands.proofs.Files.{accepted-says}
+use Rattle.verdicts.proofs.Files.{accepted-says}
 use Rattle.output.specs.Put.{Wrote}
 use Rattle.output.specs.Raw.{line-with, head-raw}
-use Rattle.output.proofs.LineLaws.{line-with-is, head-same}
-use Rattle.forms.specs.declared.change.Change.{Change}
-use Rattle.forms.specs.Said.{said-in}
-use Rattle.forms.specs.Changed.{changed-tables, changed-model}
-use Rattle.forms.proofs.SectionLaws.{changed-tables-count}
+use Rattle.frames.proofs.LineLaws.{line-with-is, head-same}
+use Rattle.copies.specs.declared.change.Change.{Change}
+use Rattle.recording.specs.Said.{said-in}
+use Rattle.copies.specs.Changed.{changed-tables, changed-model}
+use Rattle.recording.proofs.SectionLaws.{changed-tables-count}
 use Rattle.forms.proofs.SoundLaws.{accepted-said}
 use Rattle.forms.proofs.RoomLaws.{said-length}
 use Rattle.forms.proofs.HeadLaws.{head-placed}

@@ -26,8 +26,8 @@ use Rattle.page.proofs.FieldLaws.{field-span-in, field-span-part}
 use Rattle.page.proofs.TextLaws.{text-long, text-between}
 use Rattle.headers.specs.Found.{Found}
 use Rattle.headers.proofs.FoundLaws.{content-here, line-more, found-here}
-use Rattle.headers.proofs.TextLaws.{fields-some}
-use Rattle.output.proofs.LineLaws.{Same-stated, absent, at as stated, Same-head}
+use Rattle.clauses.proofs.TextLaws.{fields-some}
+use Rattle.frames.proofs.LineLaws.{Same-stated, absent, at as stated, Same-head}
 
 -- a line that stands in the header's bytes is found there
 

@@ -17,8 +17,8 @@ use Rattle.page.specs.Head.{stands-in}
 use Rattle.page.specs.Grammar.{fields-of}
 use Rattle.page.specs.Rules.{Every, none-left, one-more, spoken, times, HeadLine, SoundHeader}
 use Rattle.page.proofs.TestLaws.{and-left, and-right}
-use Rattle.demands.proofs.RoundHeaderValues.{pass-line, pass-stands, hit-line}
-use Rattle.demands.proofs.Tests.{blank-missing}
+use Rattle.round.proofs.RoundHeaderValues.{pass-line, pass-stands, hit-line}
+use Rattle.laws.proofs.Tests.{blank-missing}
 use Rattle.forms.proofs.HeadLaws.{Texts}
 
 front : (k : ℕ) (l : Bytes) (xs ys : List Bytes) → stands-in k xs ≡ stands-in k ys → stands-in k (l ∷ xs) ≡ stands-in k (l ∷ ys)

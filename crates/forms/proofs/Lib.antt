@@ -1,7 +1,3 @@
-pub mod PartLaws
-pub mod FieldLaws
-pub mod StandLaws
-pub mod SectionLaws
 pub mod SoundLaws
 pub mod RoomLaws
 pub mod HeadLaws
@@ -9,4 +5,3 @@ pub mod ModelLaws
 pub mod HeaderLaws
 pub mod FormLaws
 pub mod FillLaws
-pub mod FillingLaws

@@ -10,7 +10,7 @@ use Rattle.page.specs.Bytes.{Bytes, pick}
 use Rattle.page.specs.Records.{words, Record}
 use Rattle.page.specs.Model.{Content, Model, change, fill-record, fill-content, fill-model, strip-datum, strip-content, strip-model}
 use Rattle.page.specs.declared.Owner.the-variants as O
-use Rattle.forms.specs.Changed.{changed-datum, changed-values, changed-records, changed-content, changed-tables, changed-model}
+use Rattle.copies.specs.Changed.{changed-datum, changed-values, changed-records, changed-content, changed-tables, changed-model}
 
 -- past what is named, and where nothing is, only marked texts change
 

@@ -26,14 +26,14 @@ use Rattle.page.proofs.LineLaws.{Laid, laid-lines, laid-some, laid-rest, joined
 use Rattle.page.proofs.CutLaws.{Stands, no-section, section-stands}
 use Rattle.page.proofs.TableLaws.{width-le}
 use Rattle.output.proofs.FormLaws.{decimal-length, quoted-length}
-use Rattle.output.proofs.LineLaws.{line-end-length, one-field-length, line-with-is, mark-length}
-use Rattle.output.proofs.TitleLaws.{table-head-length}
-use Rattle.demands.specs.Round.{Fits, a-number, a-text, a-suggestion, FitAll, no-value, a-value, SoundRecord, SoundContent}
-use Rattle.demands.proofs.RoundKeys.{earlier-none}
-use Rattle.demands.proofs.Round.{accepted-model}
-use Rattle.forms.specs.Said.{rows-of, said, said-in}
-use Rattle.forms.specs.Changed.{changed-datum, changed-values, changed-records, changed-content, changed-tables}
-use Rattle.forms.proofs.FieldLaws.{text-narrow}
+use Rattle.frames.proofs.LineLaws.{line-end-length, one-field-length, line-with-is, mark-length}
+use Rattle.frames.proofs.TitleLaws.{table-head-length}
+use Rattle.round.specs.Round.{Fits, a-number, a-text, a-suggestion, FitAll, no-value, a-value, SoundRecord, SoundContent}
+use Rattle.round.proofs.RoundKeys.{earlier-none}
+use Rattle.round.proofs.Round.{accepted-model}
+use Rattle.recording.specs.Said.{rows-of, said, said-in}
+use Rattle.copies.specs.Changed.{changed-datum, changed-values, changed-records, changed-content, changed-tables}
+use Rattle.copies.proofs.FieldLaws.{text-narrow}
 use Rattle.forms.proofs.SoundLaws.{accepted-said}
 
 -- a value

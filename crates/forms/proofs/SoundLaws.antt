@@ -19,13 +19,13 @@ use Rattle.page.specs.Places.{stands, record-at}
 use Rattle.page.specs.Model.{contentOf}
 use Rattle.page.specs.File.{file-refusal}
 use Rattle.page.specs.Rules.{Every, none-left, one-more, times}
-use Rattle.sections.proofs.SoundLaws.{sound-passed}
-use Rattle.demands.specs.Begins.{begins}
-use Rattle.demands.proofs.Counts.{sound-count}
-use Rattle.demands.proofs.Sections.{sections-begin}
-use Rattle.demands.proofs.RoundKeys.{SoundSection}
-use Rattle.demands.proofs.Round.{accepted-sections}
-use Rattle.forms.specs.Said.{rows-of, passes, said, said-in, passes-in, PassingIn, Passing}
+use Rattle.machine.proofs.SoundLaws.{sound-passed}
+use Rattle.laws.specs.Begins.{begins}
+use Rattle.grammar.proofs.Counts.{sound-count}
+use Rattle.laws.proofs.Sections.{sections-begin}
+use Rattle.round.proofs.RoundKeys.{SoundSection}
+use Rattle.round.proofs.Round.{accepted-sections}
+use Rattle.recording.specs.Said.{rows-of, passes, said, said-in, passes-in, PassingIn, Passing}
 
 -- what the lines say
 

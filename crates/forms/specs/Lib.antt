@@ -1,4 +1,0 @@
-pub mod Said
-pub mod Changed
-pub mod Parts
-pub mod Filling

@@ -8,14 +8,14 @@ ghost use Rattle.page.specs.File.{file-refusal};
 ghost use Rattle.page.specs.Model.{modelOf};
 ghost use Rattle.page.specs.Form.{tables-form, formOf};
 ghost use Rattle.output.specs.Put.{Put};
-ghost use Rattle.forms.specs.Said.{said-in, Passing};
-ghost use Rattle.forms.specs.Changed.{changed-tables, changed-model};
-use crate::change::Change;
-use crate::change::change_section;
-use crate::section::Progress;
-use crate::section::put_section;
-use output::put_count_line;
-use output::put_head;
+ghost use Rattle.recording.specs.Said.{said-in, Passing};
+ghost use Rattle.copies.specs.Changed.{changed-tables, changed-model};
+use copies::Change;
+use copies::change_section;
+use frames::put_count_line;
+use frames::put_head;
+use recording::Progress;
+use recording::put_section;
 
 // "sections keep their order": the records of every section passed their rules.
 fn put_sections(out: &mut [u8], at: usize, s: &[u8], change: Change, text: &[u8]) -> Progress
@@ -29,13 +29,13 @@ fn put_sections(out: &mut [u8], at: usize, s: &[u8], change: Change, text: &[u8]
         (tables-form (changed-tables (change .strip) (change .section) (change .rec) (change .field) (now (text .entry)) (map said-in (sections (now (s .entry)))))) (now (out .exit)) (r .at)
         × (r .count ≡ length (sections (now (s .entry)))) ⌝ }
 {
-    let mut a = sections::find_section(s, 0);
+    let mut a = cut::find_section(s, 0);
     let mut n: usize = 0;
     let mut o = at;
     while a < s.len() {
-        let e = sections::section_end(s, a);
+        let e = cut::section_end(s, a);
         o = put_section(out, o, &s[a..e], change_section(change, n), text);
-        a = sections::find_section(s, e);
+        a = cut::find_section(s, e);
         n += 1;
     }
     Progress { at: o, count: n }

@@ -18,8 +18,8 @@ use Rattle.page.specs.Places.{record-at}
 use Rattle.page.specs.Rules.{Every, one-more}
 use Rattle.page.specs.declared.Column.{Column}
 use Rattle.page.proofs.TableLaws.{standing-width, standing-column}
-use Rattle.demands.specs.Begins.{begins}
-use Rattle.sections.proofs.SoundLaws.{sound-passed, passed-width}
+use Rattle.laws.specs.Begins.{begins}
+use Rattle.machine.proofs.SoundLaws.{sound-passed, passed-width}
 
 pub passed-wrong : (t m : ℕ) (fs : List Bytes) → rec-verdict t m fs ≡ 0 → first-wrong (standing t) fs ≡ 0
 unfolding rec-verdict

@@ -34,13 +34,13 @@ use Rattle.page.proofs.ScanLaws.{part-length, part-moved}
 use Rattle.page.proofs.FieldLaws.{field-span-in, field-span-part}
 use Rattle.page.proofs.TextLaws.{text-long}
 use Rattle.page.proofs.CutLaws.{Stands, section-stands, section-within, section-bytes}
-use Rattle.demands.specs.Begins.{begins}
-use Rattle.demands.proofs.Sections.{sections-begin}
-use Rattle.sections.proofs.SoundLaws.{passed-width}
-use Rattle.sections.proofs.ValueLaws.{inside}
+use Rattle.laws.specs.Begins.{begins}
+use Rattle.laws.proofs.Sections.{sections-begin}
+use Rattle.machine.proofs.SoundLaws.{passed-width}
+use Rattle.values.proofs.ValueLaws.{inside}
 use Rattle.output.specs.Put.{Wrote}
 use Rattle.output.specs.Raw.{undoubled}
-use Rattle.output.proofs.LineLaws.{own-is}
+use Rattle.frames.proofs.LineLaws.{own-is}
 use Rattle.output.proofs.WriteLaws.{refused}
 use Rattle.handing.specs.Own.{Lies, Spans, kind-refusal, own-of}
 use Rattle.handing.proofs.PassLaws.{Closed, closed, passed-closed, section-passed, every-at}

@@ -1,5 +1,2 @@
-pub mod FrontLaws
 pub mod FoundLaws
-pub mod TrailerLaws
-pub mod TextLaws
 pub mod RunLaws

@@ -18,7 +18,7 @@ pub fn find_line(h: &[u8], k: u32) -> Span
         let l = c.line(h);
         let e = l.span.to;
         let to = at + lines::content_len(&h[at..e]);
-        if lines::command_of(&h[at..to]) == k {
+        if commands::command_of(&h[at..to]) == k {
             let i = lines::find_semicolon(&h[at..to]);
             return Span {
                 from: at + i + 1,

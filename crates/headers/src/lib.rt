@@ -1,30 +1,14 @@
 // A file's header and trailer.
 mod answer;
-mod cut;
 mod find;
-mod met;
-mod rules;
 mod steps;
-mod trailer;
 mod values;
 
 pub use answer::header;
 pub use answer::refuse_header;
-pub use cut::count_sections;
-pub use cut::find_end;
-pub use cut::header_size;
 pub use find::find_line;
 pub use find::stands_in;
-pub use met::end_header;
-pub use met::meet;
-pub use met::was_met;
-pub use rules::holds;
-pub use rules::holds_charset;
-pub use rules::holds_source;
-pub use rules::holds_text;
-pub use rules::read_mode;
 pub use steps::read_header;
 pub use steps::step_header;
-pub use trailer::read_trailer;
 pub use values::read_charset;
 pub use values::read_values;

@@ -4,9 +4,9 @@ ghost use Rattle.page.specs.Lines.{lines};
 ghost use Rattle.page.specs.Fields.{fields};
 ghost use Rattle.page.specs.Cut.{header-lines};
 ghost use Rattle.page.specs.Header.{mod-step, other-step, met-none, head-step, headOf};
-use crate::met::end_header;
-use crate::met::meet;
-use crate::met::was_met;
+use clauses::end_header;
+use clauses::meet;
+use clauses::was_met;
 use lines::Cursor;
 use page::Finding;
 use page::Heading;
@@ -33,7 +33,7 @@ fn step_mode(w: &[u8], k: u32) -> Heading
     if k != 1 {
         return Heading::Stop;
     }
-    let form = crate::rules::read_mode(w);
+    let form = clauses::read_mode(w);
     if form == 0 {
         return Heading::Stop;
     }
@@ -48,7 +48,7 @@ fn step_other(w: &[u8], m: Met, k: u32) -> Heading
         return Heading::Stop;
     }
     let form = m.form;
-    if crate::rules::holds(w, k, form) {
+    if clauses::holds(w, k, form) {
         return Heading::Go(meet(m, k));
     }
     Heading::Stop
@@ -58,13 +58,13 @@ fn step_other(w: &[u8], m: Met, k: u32) -> Heading
 pub fn step_header(c: &[u8], m: Met) -> Heading
     ensures { λ r. ⌜ r ≡ head-step m (now (c .entry)) ⌝ }
 {
-    if !lines::is_clean(c, false) {
+    if !commands::is_clean(c, false) {
         return Heading::Stop;
     }
     if lines::is_blank(c) {
         return Heading::Go(m);
     }
-    let k = lines::command_of(c);
+    let k = commands::command_of(c);
     if k == 13 {
         return Heading::Go(m);
     }
@@ -108,6 +108,6 @@ fn read_lines(s: &[u8]) -> Finding
 pub fn read_header(s: &[u8]) -> Finding
     ensures { λ r. ⌜ r ≡ headOf (header-lines (now (s .entry))) ⌝ }
 {
-    let e = crate::cut::header_size(s);
+    let e = cut::header_size(s);
     read_lines(&s[..e])
 }

@@ -8,8 +8,8 @@ ghost use Rattle.page.specs.Dates.{dateOf, timeOf};
 ghost use Rattle.page.specs.Places.{line-of};
 ghost use Rattle.page.specs.Head.{field-in, form-in, latin-in, text-span, span-if, header-values, latinOf};
 ghost use Rattle.page.specs.File.{limit};
-use crate::cut::header_size;
 use crate::find::find_line;
+use cut::header_size;
 use page::Date;
 use page::Header;
 use page::Span;
@@ -32,27 +32,27 @@ fn field_in(h: &[u8], k: u32, i: usize) -> &[u8]
     requires { ⌜ k < 16 ⌝ }
     ensures { λ r. ⌜ now r ≡ field-in k i (lines (now (h .entry))) ⌝ }
 {
-    lines::field_at(rest_in(h, k), i)
+    commands::field_at(rest_in(h, k), i)
 }
 
 fn charset_in(h: &[u8]) -> bool
     ensures { λ r. ⌜ r ≡ latin-in (lines (now (h .entry))) ⌝ }
 {
-    fields::is_latin_name(field_in(h, 3, 0))
+    clauses::is_latin_name(field_in(h, 3, 0))
 }
 
 // A date's form is what `mod` states.
 fn date_in(h: &[u8]) -> Date
     ensures { λ r. ⌜ r ≡ dateOf (form-in (lines (now (h .entry)))) (field-in Src 1 (lines (now (h .entry)))) ⌝ }
 {
-    let form = crate::rules::read_mode(rest_in(h, 1));
-    fields::read_date(field_in(h, 2, 1), form)
+    let form = clauses::read_mode(rest_in(h, 1));
+    dates::read_date(field_in(h, 2, 1), form)
 }
 
 fn time_in(h: &[u8]) -> Time
     ensures { λ r. ⌜ r ≡ timeOf (field-in Src 2 (lines (now (h .entry)))) ⌝ }
 {
-    fields::read_time(field_in(h, 2, 2))
+    dates::read_time(field_in(h, 2, 2))
 }
 
 fn one_less(n: usize) -> usize
@@ -72,7 +72,7 @@ fn text_in(h: &[u8], k: u32) -> Span
     let l = find_line(h, k);
     let a = l.from;
     let e = l.to;
-    let f = lines::find_field(&h[a..e], 0);
+    let f = commands::find_field(&h[a..e], 0);
     Span {
         from: a + (f.from + 1),
         to: a + one_less(f.to),

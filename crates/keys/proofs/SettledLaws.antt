@@ -17,7 +17,7 @@ use Rattle.page.specs.declared.Column.{Column}
 use Rattle.page.specs.declared.Row.{Row}
 use Rattle.page.proofs.CutLaws.{no-section}
 use Rattle.page.proofs.FileLaws.{no-row, first-section, by-section, repeats-by-section, unsound-none, again-apart}
-use Rattle.demands.proofs.Sections.{sections-begin}
+use Rattle.laws.proofs.Sections.{sections-begin}
 use Rattle.keys.proofs.SoundLaws.{Sound, sound-section}
 use Rattle.keys.proofs.FileKeyLaws.{at-map, every-get}
 

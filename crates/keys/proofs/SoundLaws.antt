@@ -21,9 +21,9 @@ use Rattle.page.specs.declared.Owner.{Owner}
 use Rattle.page.specs.declared.Column.{Column}
 use Rattle.page.proofs.TestLaws.{and-left, and-right}
 use Rattle.page.proofs.TableLaws.{each}
-use Rattle.demands.specs.Begins.{begins}
-use Rattle.demands.proofs.Accepts.{denotes-accepted}
-use Rattle.demands.proofs.Readings.{handed-denoted, denoted-known}
+use Rattle.laws.specs.Begins.{begins}
+use Rattle.grammar.proofs.Accepts.{denotes-accepted}
+use Rattle.grammar.proofs.Readings.{handed-denoted, denoted-known}
 use Rattle.keys.proofs.PackLaws.{byte}
 use Rattle.keys.proofs.SameLaws.{Fits, fits-number, fits-text, Fitting, no-value, a-value}
 

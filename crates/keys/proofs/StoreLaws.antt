@@ -15,8 +15,8 @@ use Rattle.page.specs.Fields.{with-byte, field-size}
 use Rattle.page.specs.Records.{own-bytes}
 use Rattle.page.proofs.TableLaws.{fill}
 use Rattle.page.proofs.FieldLaws.{from, from-end}
-use Rattle.fields.specs.Runs.{field-from}
-use Rattle.fields.proofs.RunLaws.{from-next}
+use Rattle.digits.specs.Runs.{field-from}
+use Rattle.digits.proofs.RunLaws.{from-next}
 use Rattle.keys.specs.Numbers.{push, packed-from, packed, seven, field-as, chosen}
 
 -- what does not fit is left out

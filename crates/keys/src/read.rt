@@ -9,7 +9,7 @@ ghost use Rattle.page.specs.Fields.{field-size, fields, bodyOf};
 ghost use Rattle.page.specs.Section.{record-text};
 ghost use Rattle.page.specs.Records.{own-bytes, valuesOf};
 ghost use Rattle.page.specs.Tables.{standing};
-ghost use Rattle.fields.specs.Runs.{field-from};
+ghost use Rattle.digits.specs.Runs.{field-from};
 ghost use Rattle.keys.specs.Numbers.{push, packed, seven, chosen, field-as, reference-at, refer-numbers};
 use crate::choice::choose_reference;
 use crate::key::Key;
@@ -83,7 +83,7 @@ fn take_field(w: &[u8], at: usize, kind: u64) -> Taken
         × (r .value ≡ pick (eqb kind 0) 0 (field-as kind (field-from (now (w .entry)) at))) ⌝ }
 {
     if kind == 1 {
-        let c = fields::number_at(w, at);
+        let c = digits::number_at(w, at);
         let n = c.number;
         let e = c.end;
         return Taken {
@@ -91,7 +91,7 @@ fn take_field(w: &[u8], at: usize, kind: u64) -> Taken
             end: e,
         };
     }
-    let e = lines::field_end(w, at);
+    let e = commands::field_end(w, at);
     if kind == 0 {
         return Taken { value: 0, end: e };
     }

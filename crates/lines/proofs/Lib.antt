@@ -1,3 +1,2 @@
 pub mod CursorLaws
-pub mod CommandLaws
 pub mod RunLaws

@@ -41,19 +41,19 @@ fn print_row(i: usize, row: Row) {
 fn print_sections(s: &[u8]) {
     let latin = headers::read_charset(s);
     let mut i: usize = 1;
-    let mut at = sections::find_section(s, 0);
+    let mut at = cut::find_section(s, 0);
     while at < s.len() {
         print_row(i, sections::read_section(s, at, latin));
-        let e = sections::section_end(s, at);
-        at = sections::find_section(s, e);
+        let e = cut::section_end(s, at);
+        at = cut::find_section(s, e);
         i += 1;
     }
 }
 
 // "trailer verdict"
 fn print_trailer(s: &[u8]) {
-    let n = headers::count_sections(s);
-    let found = headers::read_trailer(s, n);
+    let n = cut::count_sections(s);
+    let found = trailers::read_trailer(s, n);
     io::write_all(STDOUT_FILENO, b"trailer");
     print_number(found.verdict as u64);
     end_line();

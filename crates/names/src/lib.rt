@@ -5,6 +5,11 @@ ghost use Rattle.page.specs.Tables.{table-at, columns, standing, name-at, table
 ghost use Rattle.page.specs.Fields.{fields};
 ghost use Rattle.page.specs.Section.{names-same, formats-ok};
 ghost use Rattle.names.specs.Words.{word, Reads};
+
+mod formats;
+
+pub use formats::is_format;
+pub use formats::is_formed;
 use page::Span;
 use page::tables::TABLES;
 use page::tables::WIDEST;
@@ -163,7 +168,7 @@ pub fn names_match(w: &[u8], t: usize) -> bool
         if w.len() < at {
             return false;
         }
-        let e = lines::field_end(w, at);
+        let e = commands::field_end(w, at);
         if !is_name(lines::trimmed(&w[at..e]), t, k) {
             return false;
         }
@@ -184,9 +189,9 @@ pub fn formats_match(w: &[u8], t: usize) -> bool
         if w.len() < at {
             return false;
         }
-        let e = lines::field_end(w, at);
+        let e = commands::field_end(w, at);
         let c = page::tables::find_column(t, k);
-        if !fields::is_format(lines::trimmed(&w[at..e]), c.text) {
+        if !crate::formats::is_format(lines::trimmed(&w[at..e]), c.text) {
             return false;
         }
         at = e + 1;

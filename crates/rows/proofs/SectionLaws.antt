@@ -12,8 +12,8 @@ use Rattle.page.specs.Cut.{Section, begins-table, sections}
 use Rattle.page.specs.Reading.{no-section}
 use Rattle.page.proofs.LineLaws.{line-size, line-in}
 use Rattle.page.proofs.CutLaws.{sections-from, sections-all, sections-table, sections-end}
-use Rattle.sections.specs.Walk.{section-from, Settled, Next}
-use Rattle.sections.proofs.WalkLaws.{sections-other, next-stop, walk-here}
+use Rattle.cut.specs.Walk.{section-from, Settled, Next}
+use Rattle.cut.proofs.WalkLaws.{sections-other, next-stop, walk-here}
 use Rattle.rows.specs.Walk.{Begins, first-place}
 
 pub begins-settled : (s : Bytes) (at : ℕ) → Begins s at → Settled s at

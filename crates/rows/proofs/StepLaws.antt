@@ -10,8 +10,8 @@ use Rattle.page.specs.File.{row-of, rowOf}
 use Rattle.page.specs.declared.Row.{Row}
 use Rattle.page.proofs.LineLaws.{joined-lines}
 use Rattle.page.proofs.CutLaws.{sections-from}
-use Rattle.sections.specs.Walk.{section-size, section-from, Next}
-use Rattle.sections.proofs.WalkLaws.{section-within, walk-here}
+use Rattle.cut.specs.Walk.{section-size, section-from, Next}
+use Rattle.cut.proofs.WalkLaws.{section-within, walk-here}
 use Rattle.rows.specs.Walk.{Begins, first-place, stays, stepOf}
 use Rattle.rows.proofs.SectionLaws.{begins-settled, first-next}
 

@@ -45,7 +45,7 @@ fn begin_list(file: &[u8], room: usize) -> Start
     if r.number != 0 {
         return refuse_list(r);
     }
-    let n = headers::count_sections(file);
+    let n = cut::count_sections(file);
     if room < n {
         return refuse_list(Refusal {
             number: 21,
@@ -53,7 +53,7 @@ fn begin_list(file: &[u8], room: usize) -> Start
             line: 0,
         });
     }
-    let at = sections::find_section(file, 0);
+    let at = cut::find_section(file, 0);
     let latin = headers::read_charset(file);
     Start {
         refusal: Refusal {
@@ -83,7 +83,7 @@ fn read_step(file: &[u8], at: usize, latin: bool, before: bool) -> Step
     ensures { λ r. ⌜ r ≡ stepOf (now (file .entry)) at latin before ⌝ }
 {
     let row = sections::read_section(file, at, latin);
-    let next = sections::find_section(file, at + row.length);
+    let next = cut::find_section(file, at + row.length);
     let sound = stay_sound(before, row.verdict);
     Step {
         row: row,

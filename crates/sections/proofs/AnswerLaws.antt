@@ -17,8 +17,8 @@ use Rattle.page.specs.Reading.{row-at, find-refusal, sectionOf}
 use Rattle.page.specs.declared.Refusal.{Refusal}
 use Rattle.page.specs.declared.Listed.the-variants as Li
 use Rattle.page.proofs.LineLaws.{line-size}
-use Rattle.sections.specs.Walk.{section-from}
-use Rattle.sections.proofs.WalkLaws.{section-lines}
+use Rattle.cut.specs.Walk.{section-from}
+use Rattle.cut.proofs.WalkLaws.{section-lines}
 use Rattle.sections.specs.Located.{Begins}
 
 -- the section's answer, where it stands at a place

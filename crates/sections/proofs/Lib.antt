@@ -1,9 +1,3 @@
-pub mod RecordLaws
-pub mod WalkLaws
 pub mod RunLaws
-pub mod SoundLaws
-pub mod PlaceLaws
-pub mod ReachLaws
 pub mod LocatedLaws
 pub mod AnswerLaws
-pub mod ValueLaws

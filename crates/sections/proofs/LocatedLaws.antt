@@ -14,8 +14,8 @@ use Rattle.page.specs.Reading.{outside, section-at, find-refusal}
 use Rattle.page.specs.declared.Refusal.{Refusal}
 use Rattle.page.proofs.LimitLaws.{header-short}
 use Rattle.sections.specs.declared.walk.Located.the-variants as L
-use Rattle.sections.specs.Walk.{section-from, Reached}
-use Rattle.sections.proofs.ReachLaws.{reach-here}
+use Rattle.cut.specs.Walk.{section-from, Reached}
+use Rattle.cut.proofs.ReachLaws.{reach-here}
 use Rattle.sections.specs.Located.{located, Locates}
 
 module _ (s : Bytes) (i : ℕ) where

@@ -21,8 +21,8 @@ use Rattle.page.specs.declared.Step.the-variants as S
 use Rattle.page.specs.declared.Outcome.{Outcome}
 use Rattle.page.proofs.ScanLaws.{part-length}
 use Rattle.page.proofs.LineLaws.{line-size, cut-at, lines-end, joined-lines}
-use Rattle.sections.specs.Counts.{records-in}
-use Rattle.sections.specs.Walk.{section-size, section-from}
+use Rattle.machine.specs.Counts.{records-in}
+use Rattle.cut.specs.Walk.{section-size, section-from}
 
 -- the line at a place, that ends at e
 module _ (s : Bytes) (at e : ℕ) (h : at < length s) (q : e ≡ at + line-size (drop at s)) (latin : Bool) (p : Phase) (n : ℕ) where

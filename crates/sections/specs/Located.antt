@@ -8,7 +8,7 @@ use Rattle.page.specs.File.{limit}
 use Rattle.page.specs.Reading.{section-at, find-refusal}
 use Rattle.sections.specs.declared.walk.Located.{Located}
 use Rattle.sections.specs.declared.walk.Located.the-variants as L
-use Rattle.sections.specs.Walk.{section-from, Settled}
+use Rattle.cut.specs.Walk.{section-from, Settled}
 
 -- "the first of 1, 2, 24 for the section", or the place of section i, from 1
 unfoldable pub located : Bytes → ℕ → Located

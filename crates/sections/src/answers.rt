@@ -5,7 +5,7 @@ ghost use lib.ListN.{length};
 ghost use Rattle.page.specs.Lines.{lines};
 ghost use Rattle.page.specs.Records.{table-of};
 ghost use Rattle.page.specs.Reading.{sectionOf};
-ghost use Rattle.sections.specs.Walk.{section-from};
+ghost use Rattle.cut.specs.Walk.{section-from};
 use crate::reading::read_section;
 use crate::walk::Located;
 use crate::walk::locate;
@@ -34,5 +34,5 @@ pub fn table_at(s: &[u8], at: usize) -> usize
     let l = c.line(s);
     let e = l.span.to;
     let w = lines::rest_of(lines::content_of(&s[at..e]));
-    names::find_table(lines::field_at(w, 0))
+    names::find_table(commands::field_at(w, 0))
 }

@@ -1,32 +1,12 @@
 // One section of a file, by value.
-mod handed;
-mod seek;
 mod answers;
-mod machine;
 mod reading;
-mod records;
-mod values;
 mod walk;
 
 pub use answers::section;
 pub use answers::table_at;
-pub use handed::value;
-pub use machine::step;
 pub use reading::read_lines;
 pub use reading::read_section;
-pub use seek::section_end;
-pub use records::amount_at;
-pub use records::judge_record;
-pub use values::Place;
-pub use values::find_record;
-pub use values::is_record;
-pub use values::one_less;
-pub use values::owner_of;
-pub use values::place_fields;
-pub use values::value_in;
-pub use values::wait_on;
 pub use walk::Located;
-pub use seek::find_nth;
-pub use seek::find_section;
 pub use walk::locate;
 pub use walk::refuse_with;

@@ -2,7 +2,7 @@
 ghost use mathlib.Core.Path.{_≡_};
 ghost use Rattle.page.specs.Answers.{refusal};
 ghost use Rattle.sections.specs.Located.{located, Locates};
-use crate::seek::find_nth;
+use cut::find_nth;
 use page::Refusal;
 
 // A section's place, or why there is none.

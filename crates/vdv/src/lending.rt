@@ -6,11 +6,11 @@ ghost use Rattle.page.specs.File.{file-refusal};
 ghost use Rattle.page.specs.Handing.{textOut, text-after, tableOf, cells-after};
 ghost use Rattle.page.specs.Reading.{list-refusal, rows-after};
 ghost use Rattle.page.specs.Writing.{writeOf, write-after, stripOf, strip-after, fillOf, fill-after};
-ghost use Rattle.vdv.specs.Told.{told-written};
-use crate::answers::LengthAnswer;
-use crate::answers::tell_length;
+ghost use Rattle.told.specs.Told.{told-written};
 use page::Refusal;
 use page::Row;
+use told::LengthAnswer;
+use told::tell_length;
 
 // "Listing is refused by 1, 2 and 21 only and then writes no row; other verdicts go into the rows and the file's answer."
 #[no_mangle]
@@ -45,7 +45,7 @@ pub extern "C" fn vdv_table(file: &[u8], section: usize, cells: &mut [u64]) -> L
         ⌜ (r ≡ told-written (tableOf (now (file .entry)) section (length (now (cells .entry)))))
         × (now (cells .exit) ≡ cells-after (now (file .entry)) section (now (cells .entry))) ⌝ }
 {
-    tell_length(handing::table(file, section, cells))
+    tell_length(cells::table(file, section, cells))
 }
 
 // "Only a file with verdict 0 is written; else its verdict is given."

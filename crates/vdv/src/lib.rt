@@ -1,12 +1,7 @@
 // The library's public face: what Rust and C programs call. No call has a condition, and none keeps anything of the file.
-mod answers;
 mod lending;
 mod reading;
 
-pub use answers::HeaderAnswer;
-pub use answers::LengthAnswer;
-pub use answers::RowAnswer;
-pub use answers::ValueAnswer;
 pub use lending::vdv_fill;
 pub use lending::vdv_list;
 pub use lending::vdv_strip;

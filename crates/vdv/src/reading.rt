@@ -2,14 +2,14 @@
 ghost use mathlib.Core.Path.{_≡_};
 ghost use Rattle.page.specs.File.{file-refusal};
 ghost use Rattle.page.specs.Reading.{headerOf, sectionOf, valueOf};
-ghost use Rattle.vdv.specs.Told.{told-headed, told-listed, told-got};
-use crate::answers::HeaderAnswer;
-use crate::answers::RowAnswer;
-use crate::answers::ValueAnswer;
-use crate::answers::tell_header;
-use crate::answers::tell_row;
-use crate::answers::tell_value;
+ghost use Rattle.told.specs.Told.{told-headed, told-listed, told-got};
 use page::Refusal;
+use told::HeaderAnswer;
+use told::RowAnswer;
+use told::ValueAnswer;
+use told::tell_header;
+use told::tell_row;
+use told::tell_value;
 
 // The file's answer: number 0 is sound.
 #[no_mangle]
@@ -37,5 +37,5 @@ pub extern "C" fn vdv_section(file: &[u8], section: usize) -> RowAnswer
 pub extern "C" fn vdv_value(file: &[u8], section: usize, record: usize, field: usize) -> ValueAnswer
     ensures { λ r. ⌜ r ≡ told-got (valueOf (now (file .entry)) section «record» field) ⌝ }
 {
-    tell_value(sections::value(file, section, record, field))
+    tell_value(values::value(file, section, record, field))
 }

@@ -4,7 +4,7 @@ use borrow.Author.Needs.{needs}
 use Rattle.page.specs.Section.{record-text}
 use Rattle.page.specs.Fields.{textOf}
 use Rattle.page.proofs.TextLaws.{text-long}
-use Rattle.fields.proofs.SizeLaws.{size-some}
+use Rattle.quoted.proofs.SizeLaws.{size-some}
 use Rattle.fields.proofs.ColumnLaws.{text-over, text-fits, text-not}
 use Rattle.fields.proofs.columns.read_text_field.Statement.{statement}
 use Rattle.fields.proofs.columns.read_text_field.Tie as tie

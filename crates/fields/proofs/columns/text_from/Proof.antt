@@ -2,7 +2,7 @@
 use Rattle.page.specs.Bytes.{trim}
 use Rattle.page.specs.Fields.{field-size}
 use Rattle.page.proofs.FieldLaws.{end-in}
-use Rattle.fields.specs.Runs.{field-from}
+use Rattle.digits.specs.Runs.{field-from}
 use Prim.Native.Nat.{ℕ, _-_}
 use mathlib.Core.Path.{_≡_, ap, sym, _∙_}
 use mathlib.Core.Bool.{false}

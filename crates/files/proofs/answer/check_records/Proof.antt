@@ -1,6 +1,6 @@
 -- `files::answer::check_records` meets its contract. Assumes nothing.
 use Rattle.page.specs.File.{record-refusal}
-use Rattle.files.specs.Faults.{repeat-number}
+use Rattle.seats.specs.Faults.{repeat-number}
 use Rattle.files.proofs.AnswerLaws.{earlier-hit, earlier-more}
 use Rattle.files.proofs.answer.check_records.Statement.{statement}
 use Rattle.files.proofs.answer.check_records.Tie as tie

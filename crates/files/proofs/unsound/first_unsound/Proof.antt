@@ -1,6 +1,6 @@
 -- `files::unsound::first_unsound` meets its contract. Assumes nothing.
-use Rattle.files.proofs.WalkLaws.{row-end, unsound-here, unsound-more, unsound-end}
-use Rattle.sections.specs.Walk.{Settled}
+use Rattle.seats.proofs.WalkLaws.{row-end, unsound-here, unsound-more, unsound-end}
+use Rattle.cut.specs.Walk.{Settled}
 use Rattle.page.proofs.CutLaws.{sections-from, sections-all}
 use Rattle.page.specs.File.{rowOf, first-unsound}
 use Rattle.page.specs.Cut.{Section, sections}

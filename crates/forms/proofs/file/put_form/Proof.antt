@@ -1,5 +1,5 @@
 use Rattle.page.specs.Bytes.{bytes}
-use Rattle.output.proofs.LineLaws.{head-raw-length}
+use Rattle.frames.proofs.LineLaws.{head-raw-length}
 use Rattle.output.proofs.PutLaws.{puts, put-as}
 use Rattle.forms.proofs.SoundLaws.{accepted-passing}
 use Rattle.forms.proofs.RoomLaws.{accepted-short, accepted-room}

@@ -3,12 +3,12 @@ use Rattle.page.specs.Cut.{sections}
 use Rattle.page.specs.Form.{tables-form}
 use Rattle.page.proofs.ScanLaws.{part-length}
 use Rattle.page.proofs.CutLaws.{sections-from, sections-all, sections-end}
-use Rattle.sections.specs.Walk.{Settled}
-use Rattle.sections.proofs.WalkLaws.{walk-here}
+use Rattle.cut.specs.Walk.{Settled}
+use Rattle.cut.proofs.WalkLaws.{walk-here}
 use Rattle.output.proofs.PutLaws.{Todo, begin, left-is, next-by, at-end, same}
-use Rattle.forms.specs.Said.{said-in, PassingIn}
-use Rattle.forms.specs.Changed.{changed-tables}
-use Rattle.forms.proofs.SectionLaws.{tables-begin, tables-more, tables-end, lines-from, tables-fit, passing-here, passing-rest, passes-section}
+use Rattle.recording.specs.Said.{said-in, PassingIn}
+use Rattle.copies.specs.Changed.{changed-tables}
+use Rattle.recording.proofs.SectionLaws.{tables-begin, tables-more, tables-end, lines-from, tables-fit, passing-here, passing-rest, passes-section}
 use borrow.Author.Needs.{needs}
 use Prim.Native.Nat.{_+_, _-_, _≤_}
 use mathlib.Core.Path.{_≡_, ap, _∙_}

@@ -2,7 +2,7 @@
 use mathlib.Core.Path.{sym}
 use borrow.Author.Needs.{needs}
 use Rattle.page.specs.Head.{text-span}
-use Rattle.headers.proofs.TextLaws.{fields-some}
+use Rattle.clauses.proofs.TextLaws.{fields-some}
 use Rattle.headers.proofs.values.text_in.Statement.{statement}
 use Rattle.headers.proofs.values.text_in.Tie as tie
 

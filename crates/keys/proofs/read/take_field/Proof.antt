@@ -3,7 +3,7 @@ use Rattle.page.specs.Bytes.{trim}
 use Rattle.page.specs.Fields.{field-size}
 use Rattle.page.specs.Section.{amount}
 use Rattle.page.proofs.FieldLaws.{end-in}
-use Rattle.fields.specs.Runs.{field-from}
+use Rattle.digits.specs.Runs.{field-from}
 use Rattle.keys.specs.Numbers.{field-as}
 use Prim.Native.Nat.{ℕ, _-_}
 use mathlib.Core.Path.{_≡_, ap, sym, _∙_}

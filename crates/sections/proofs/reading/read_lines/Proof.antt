@@ -8,7 +8,7 @@ use Rattle.page.specs.Section.{run, outcome}
 use Rattle.page.specs.Lines.{lines}
 use Rattle.lines.proofs.CursorLaws.{handed}
 use Rattle.sections.proofs.RunLaws.{turn-go, turn-stop, run-end, step-small}
-use Rattle.sections.specs.Counts.{records-in}
+use Rattle.machine.specs.Counts.{records-in}
 use Rattle.sections.proofs.reading.read_lines.Statement.{statement}
 use Rattle.sections.proofs.reading.read_lines.Tie as tie
 

@@ -4,7 +4,7 @@ use native.Mathlib.Omega.{arith}
 use borrow.Author.Needs.{needs}
 use lib.ListN.{length}
 use Rattle.page.specs.Cut.{sections}
-use Rattle.sections.proofs.ReachLaws.{reach-past}
+use Rattle.cut.proofs.ReachLaws.{reach-past}
 use Rattle.sections.proofs.LocatedLaws.{refused-header, refused-none, located-at, outside-zero, outside-past}
 use Rattle.sections.proofs.walk.locate.Statement.{statement}
 use Rattle.sections.proofs.walk.locate.Tie as tie

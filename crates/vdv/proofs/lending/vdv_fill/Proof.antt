@@ -1,5 +1,5 @@
 use mathlib.Core.Path.{ap, _∙_}
-use Rattle.vdv.specs.Told.{told-written}
+use Rattle.told.specs.Told.{told-written}
 use borrow.Author.Needs.{needs}
 use Rattle.vdv.proofs.lending.vdv_fill.Statement.{statement}
 use Rattle.vdv.proofs.lending.vdv_fill.Tie as tie

@@ -1,6 +1,6 @@
 -- `vdv::lending::vdv_table` meets its contract. Assumes nothing.
 use mathlib.Core.Path.{ap, _∙_}
-use Rattle.vdv.specs.Told.{told-written}
+use Rattle.told.specs.Told.{told-written}
 use borrow.Author.Needs.{needs}
 use Rattle.vdv.proofs.lending.vdv_table.Statement.{statement}
 use Rattle.vdv.proofs.lending.vdv_table.Tie as tie

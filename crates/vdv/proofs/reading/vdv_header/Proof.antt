@@ -1,6 +1,6 @@
 use Prim.Native.Nat.{_-_}
 use mathlib.Core.Path.{ap, _∙_}
-use Rattle.vdv.specs.Told.{told-headed}
+use Rattle.told.specs.Told.{told-headed}
 use borrow.Author.Needs.{needs}
 use Rattle.vdv.proofs.reading.vdv_header.Statement.{statement}
 use Rattle.vdv.proofs.reading.vdv_header.Tie as tie

@@ -1,0 +1,11 @@
+pub mod Promises
+pub mod PromisesListing
+pub mod PromisesRoom
+pub mod PromisesHanding
+pub mod Turns
+pub mod CallNumbers
+pub mod FillNumbers
+pub mod CallAnswers
+pub mod Handed
+pub mod HandedCells
+pub mod CallVerdicts

@@ -1,0 +1,16 @@
+// The rules of a header's lines.
+mod met;
+mod names;
+mod rules;
+
+pub use met::end_header;
+pub use met::meet;
+pub use met::was_met;
+pub use names::form_named;
+pub use names::is_ascii_name;
+pub use names::is_latin_name;
+pub use rules::holds;
+pub use rules::holds_charset;
+pub use rules::holds_source;
+pub use rules::holds_text;
+pub use rules::read_mode;

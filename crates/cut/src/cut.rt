@@ -1,0 +1,74 @@
+// Where a file's header ends and its trailer starts, and how many sections it has.
+ghost use mathlib.Core.Path.{_≡_};
+ghost use mathlib.Core.Bool.{_||_};
+ghost use Prim.Native.Nat.{_≤_};
+ghost use lib.ListN.{length, take, drop};
+ghost use Rattle.page.specs.Lines.{lines, joined};
+ghost use Rattle.page.specs.Cut.{begins-table, begins-end, header-lines, trailer-lines, sections};
+use lines::Cursor;
+
+fn begins_part(l: &[u8]) -> bool
+    ensures { λ r. ⌜ r ≡ (begins-table (now (l .entry)) || begins-end (now (l .entry))) ⌝ }
+{
+    if commands::begins_table(l) {
+        return true;
+    }
+    commands::begins_end(l)
+}
+
+// "The header is every line before the first `tbl` or `eof` line": how many bytes it has.
+pub fn header_size(s: &[u8]) -> usize
+    ensures { λ r.
+        ⌜ (r ≡ length (joined (header-lines (now (s .entry)))))
+        × (r ≤ length (now (s .entry)))
+        × (lines (take r (now (s .entry))) ≡ header-lines (now (s .entry))) ⌝ }
+{
+    let mut c = Cursor { at: 0 };
+    while c.at < s.len() {
+        let at = c.at;
+        let l = c.line(s);
+        let e = l.span.to;
+        if begins_part(&s[at..e]) {
+            return at;
+        }
+        c = l.next;
+    }
+    s.len()
+}
+
+// "It starts at the first `eof` line": the place of that line, or the end of the bytes.
+pub fn find_end(s: &[u8]) -> usize
+    ensures { λ r.
+        ⌜ (r ≤ length (now (s .entry)))
+        × (lines (drop r (now (s .entry))) ≡ trailer-lines (now (s .entry))) ⌝ }
+{
+    let mut c = Cursor { at: 0 };
+    while c.at < s.len() {
+        let at = c.at;
+        let l = c.line(s);
+        let e = l.span.to;
+        if commands::begins_end(&s[at..e]) {
+            return at;
+        }
+        c = l.next;
+    }
+    s.len()
+}
+
+// "A section begins at each `tbl` line."
+pub fn count_sections(s: &[u8]) -> usize
+    ensures { λ r. ⌜ r ≡ length (sections (now (s .entry))) ⌝ }
+{
+    let mut c = Cursor { at: 0 };
+    let mut n: usize = 0;
+    while c.at < s.len() {
+        let at = c.at;
+        let l = c.line(s);
+        let e = l.span.to;
+        c = l.next;
+        if commands::begins_table(&s[at..e]) {
+            n += 1;
+        }
+    }
+    n
+}

@@ -1,0 +1,10 @@
+// The cut of a file into header, sections and trailer.
+mod cut;
+mod seek;
+
+pub use cut::count_sections;
+pub use cut::find_end;
+pub use cut::header_size;
+pub use seek::find_nth;
+pub use seek::find_section;
+pub use seek::section_end;

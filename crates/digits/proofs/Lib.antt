@@ -1,0 +1,2 @@
+pub mod MagnitudeLaws
+pub mod RunLaws

@@ -1,0 +1,72 @@
+-- `fills::filling::is_fillable` meets its contract. Assumes nothing.
+use mathlib.Core.Path.{ap, _∙_}
+use Prim.Native.Nat.{ℕ, _-_}
+use native.Mathlib.Omega.{arith}
+use borrow.Author.Needs.{needs}
+use Rattle.page.specs.Tables.{column-at}
+use Rattle.page.specs.declared.Column.{Column}
+use Rattle.page.specs.declared.Refusal.{Refusal}
+use Rattle.fills.proofs.FillingLaws.{from-some, table-begun}
+use Rattle.fills.proofs.filling.is_fillable.Statement.{statement}
+use Rattle.fills.proofs.filling.is_fillable.Tie as tie
+
+locate-requires : tie.Need-locate-requires
+locate-requires c κs = search needs
+
+enum-known-at : tie.Need-enum-known-at
+enum-known-at c = search needs
+
+sub-read-table : tie.Need-sub-read-table
+sub-read-table c =
+    let b = rw (c .before .at .given .1) at (c .before .before .before .locate .ensures .1) in
+    omega (arith, b .inside)
+
+part-read-table-start : tie.Need-part-read-table-start
+part-read-table-start c =
+    let b = rw (c .before .at .given .1) at (c .before .before .before .locate .ensures .1) in
+    omega (arith, b .inside)
+
+part-read-table-end : tie.Need-part-read-table-end
+part-read-table-end c = search needs
+
+read-table-requires : tie.Need-read-table-requires
+read-table-requires c κs =
+    let b = rw (c .before .before .at .given .1) at (c .before .before .before .before .locate .ensures .1) in
+    from-some (c .before .before .before .before .before .before .args .s .now) _ (b .inside)
+
+sub-find-column : tie.Need-sub-find-column
+sub-find-column c = search needs
+
+find-column-requires : tie.Need-find-column-requires
+find-column-requires c κs = search needs
+
+enum-told : tie.Need-enum-told
+enum-told c = search needs
+
+returns : tie.Need-returns
+returns c =
+    let a = c .before .before .before .before .before .before .before .before .args in
+    let b = rw (c .before .before .before .before .at .given .1) at (c .before .before .before .before .before .before .locate .ensures .1) in
+    let t = c .before .read-table .ensures ∙ table-begun (a .s .now) _ _ b in
+    ap (λ (x : Column). x .fillable) (c .find-column .ensures ∙ ap (λ (n : ℕ). column-at n (a .f - 1)) t)
+
+returns-2 : tie.Need-returns-2
+returns-2 c =
+    let b = rw (c .enum-told .given .1) at (c .before .before .locate .ensures .1) in
+    absurd (b .0 (ap (λ (x : Refusal). x .number) (b .1) ∙ c .before .before .before .before .pre .0))
+
+pub is-fillable-spec : {M : Type 1} → statement M
+is-fillable-spec =
+    tie.close
+    (tie.spec
+    locate-requires
+    enum-known-at
+    sub-read-table
+    part-read-table-start
+    part-read-table-end
+    read-table-requires
+    sub-find-column
+    find-column-requires
+    enum-told
+    returns
+    returns-2)

@@ -1,0 +1,4 @@
+// What refuses a fill.
+mod filling;
+
+pub use filling::refuse_fill;

@@ -1,0 +1,100 @@
+-- Laws of the lines that begin a section: their fields one by one, and how long they are at most, computed over the list of tables.
+-- Assumes nothing.
+use mathlib.Core.Path.{_≡_, refl, ap, sym, _∙_}
+use mathlib.Core.Bool.{Bool}
+use mathlib.Core.List.{List, [], _++_, map, append-assoc, append-nil}
+use Prim.Native.Nat.{ℕ, _+_, _<_, _≤_}
+use Prim.Native.String.{String}
+use native.Mathlib.Numerals.{add-one}
+use native.Mathlib.Omega.{arith}
+use borrow.Author.Tests.{leb-true}
+use lib.Dec.{leb}
+use lib.ListN.{length, getD, drop, length-append, length-map, List·getD-map, drop-of-length-le}
+use lib.Seq.{drop-cons}
+use Rattle.page.specs.Bytes.{Bytes, bytes}
+use Rattle.page.specs.Tables.{Named, Table, all-tables, no-column, table-at, columns, width, column-at, name-at}
+use Rattle.page.specs.Form.{line-end, separated, line, decimal, decimal-in, format-text, table-head}
+use Rattle.page.specs.declared.Column.{Column}
+use Rattle.page.proofs.TableLaws.{each, table-test}
+use Rattle.frames.specs.Titles.{tbl-line, names, formats}
+use Rattle.frames.proofs.LineLaws.{line-end-length}
+
+-- fields from one on
+
+pub separated-more : (fs : List Bytes) (k : ℕ) (f d : Bytes) → k < length fs → f ≡ getD fs k d
+    → separated (drop k fs) ≡ (bytes "; " ++ f) ++ separated (drop (k + 1) fs)
+unfolding separated
+separated-more fs k f d h e = rw (add-one, drop-cons fs k d h, e, append-assoc)
+
+pub separated-end : (fs : List Bytes) (k : ℕ) → length fs ≤ k → separated (drop k fs) ≡ []
+unfolding separated
+separated-end fs k h = rw (drop-of-length-le fs h)
+
+pub line-parts : (word : String) (fs : List Bytes) → bytes word ++ (separated fs ++ line-end) ≡ line word fs
+unfolding line
+line-parts word fs = refl
+
+-- the names and the formats of a table's columns
+
+pub names-count : (t : ℕ) → length (names t) ≡ width t
+unfolding names width
+names-count t = length-map (columns t) (λ (c : Named). bytes (c .name))
+
+pub formats-count : (t : ℕ) → length (formats t) ≡ width t
+unfolding formats width
+formats-count t = length-map (columns t) (λ (c : Named). format-text (c .column))
+
+pub name-of : (t k : ℕ) (w : String) → w ≡ name-at t k → bytes w ≡ getD (names t) k []
+unfolding names name-at bytes
+name-of t k w e = ap bytes e ∙ sym (List·getD-map (λ (c : Named). bytes (c .name)) (columns t) k no-column)
+
+pub format-of : (t k : ℕ) (c : Column) → c ≡ column-at t k → format-text c ≡ getD (formats t) k (format-text (no-column .column))
+unfolding formats column-at
+format-of t k c e = ap format-text e ∙ sym (List·getD-map (λ (x : Named). format-text (x .column)) (columns t) k no-column)
+
+-- how long they are
+
+abbrev title-small : Table → Bool
+title-small x = leb (length (bytes (x .name))) 32
+
+abbrev names-small : Table → Bool
+names-small x = leb (length (separated (map (λ (c : Named). bytes (c .name)) (x .columns)))) 256
+
+abbrev formats-small : Table → Bool
+formats-small x = leb (length (separated (map (λ (c : Named). format-text (c .column)) (x .columns)))) 256
+
+pub title-length : (t : ℕ) → length (bytes (table-at t .name)) ≤ 32
+unfolding all-tables each bytes
+title-length t = leb-true (length (bytes (table-at t .name))) 32 (table-test title-small refl refl t)
+
+pub names-length : (t : ℕ) → length (separated (names t)) ≤ 256
+unfolding all-tables each bytes separated names columns
+names-length t = leb-true (length (separated (names t))) 256 (table-test names-small refl refl t)
+
+pub formats-length : (t : ℕ) → length (separated (formats t)) ≤ 256
+unfolding all-tables each bytes separated formats columns format-text decimal decimal-in
+formats-length t = leb-true (length (separated (formats t))) 256 (table-test formats-small refl refl t)
+
+pub tbl-is : (t : ℕ) (w : String) → w ≡ table-at t .name → bytes "tbl; " ++ (bytes w ++ line-end) ≡ tbl-line t
+unfolding bytes tbl-line line separated
+tbl-is t w e = rw e (simp append-nil)
+
+pub tbl-length : (t : ℕ) → length (tbl-line t) ≤ 39
+unfolding bytes tbl-line line separated
+tbl-length t = simp length-append (omega (arith, title-length t, line-end-length))
+
+pub atr-length : (t : ℕ) → length (line "atr" (names t)) ≤ 261
+unfolding bytes line
+atr-length t = simp length-append (omega (arith, names-length t, line-end-length))
+
+pub frm-length : (t : ℕ) → length (line "frm" (formats t)) ≤ 261
+unfolding bytes line
+frm-length t = simp length-append (omega (arith, formats-length t, line-end-length))
+
+pub table-head-is : (t : ℕ) → tbl-line t ++ (line "atr" (names t) ++ line "frm" (formats t)) ≡ table-head (table-at t)
+unfolding table-head tbl-line names formats columns
+table-head-is t = refl
+
+pub table-head-length : (t : ℕ) → length (table-head (table-at t)) ≤ 561
+table-head-length t =
+    rw (← table-head-is t) (simp length-append (omega (arith, tbl-length t, atr-length t, frm-length t)))

@@ -1,0 +1,90 @@
+// The written header: "Order mod, src, chs, ver, ifv, dve, fft, present ones only".
+ghost use Prim.Native.Nat.{_+_, _*_, _<_, _^_};
+ghost use lib.ListN.{length};
+ghost use Rattle.output.specs.Put.{Put};
+ghost use Rattle.output.specs.Raw.{mod-line, src-line, chs-line, stated-line, head-raw};
+use crate::lines::put_text_line;
+use decimals::put_date;
+use decimals::put_time;
+use output::put_byte;
+use output::put_bytes;
+use output::put_line_end;
+use output::put_raw_part;
+use page::Date;
+use page::Header;
+use page::Span;
+use page::Stated;
+use page::Time;
+
+fn put_mod_line(out: &mut [u8], at: usize) -> usize
+    requires { ⌜ at + 33 < 2 ^ 62 ⌝ }
+    ensures { λ r. ⌜ Put (now (out .entry)) at mod-line (now (out .exit)) r ⌝ }
+{
+    let a = put_bytes(out, at, b"mod; DD.MM.YYYY; HH:MM:SS; free");
+    put_line_end(out, a)
+}
+
+fn put_src_line(
+    out: &mut [u8],
+    at: usize,
+    file: &[u8],
+    source: Span,
+    date: Date,
+    time: Time,
+) -> usize
+    requires { ⌜ at + length (now file) + 35 < 2 ^ 62 ⌝ }
+    ensures { λ r. ⌜ Put (now (out .entry)) at (src-line (now (file .entry)) source date time) (now (out .exit)) r ⌝ }
+{
+    let a = put_bytes(out, at, b"src; ");
+    let b = put_raw_part(out, a, file, source);
+    let c = put_bytes(out, b, b"; \"");
+    let d = put_date(out, c, date);
+    let e = put_bytes(out, d, b"\"; \"");
+    let f = put_time(out, e, time);
+    let g = put_byte(out, f, 34);
+    put_line_end(out, g)
+}
+
+// "`ISO8859-1` spelt thus"
+fn put_chs_line(out: &mut [u8], at: usize, latin: bool) -> usize
+    requires { ⌜ at + 18 < 2 ^ 62 ⌝ }
+    ensures { λ r. ⌜ Put (now (out .entry)) at (chs-line latin) (now (out .exit)) r ⌝ }
+{
+    if latin {
+        let a = put_bytes(out, at, b"chs; \"ISO8859-1\"");
+        return put_line_end(out, a);
+    }
+    let a = put_bytes(out, at, b"chs; \"ASCII\"");
+    put_line_end(out, a)
+}
+
+fn put_stated_line(out: &mut [u8], at: usize, word: &[u8], file: &[u8], stated: Stated) -> usize
+    requires { ⌜ at + length (now word) + length (now file) + 6 < 2 ^ 62 ⌝ }
+    ensures { λ r. ⌜ Put (now (out .entry)) at (stated-line (now (word .entry)) (now (file .entry)) stated) (now (out .exit)) r ⌝ }
+{
+    match stated {
+        Stated::Absent => at,
+        Stated::At(place) => put_text_line(out, at, word, file, place),
+    }
+}
+
+// A header's values, its texts as they stand in the file.
+pub fn put_head(out: &mut [u8], at: usize, file: &[u8], header: Header) -> usize
+    requires { ⌜ at + 5 * length (now file) + 122 < 2 ^ 62 ⌝ }
+    ensures { λ r. ⌜ Put (now (out .entry)) at (head-raw (now (file .entry)) header) (now (out .exit)) r ⌝ }
+{
+    let source = header.source;
+    let date = header.date;
+    let time = header.time;
+    let ver = header.ver;
+    let ifv = header.ifv;
+    let dve = header.dve;
+    let fft = header.fft;
+    let a = put_mod_line(out, at);
+    let b = put_src_line(out, a, file, source, date, time);
+    let c = put_chs_line(out, b, header.latin);
+    let d = put_text_line(out, c, b"ver", file, ver);
+    let e = put_text_line(out, d, b"ifv", file, ifv);
+    let f = put_stated_line(out, e, b"dve", file, dve);
+    put_stated_line(out, f, b"fft", file, fft)
+}

@@ -1,0 +1,268 @@
+-- One walk over the machine's tests: it refuses a line exactly by the first law that the line breaks, and goes on only where the grammar leads.
+use mathlib.Core.Path.{_≡_, refl, ap, _∙_}
+use mathlib.Core.Bool.{Bool, true, false, _&&_, false≢true}
+use mathlib.Core.List.{List, [], _∷_, _++_, List·Memᴰ}
+use mathlib.Core.Logic.{_⊎_, inl, inr, _↔_}
+use mathlib.Core.Option.{Option, none, some}
+use Prim.Native.Nat.{ℕ, zero, suc, _-_, _≤_}
+use native.Mathlib.Omega.{arith}
+use native.Mathlib.Numerals.{add-one}
+use borrow.Author.Tests.{ne-eqb}
+use lib.Dec.{eqb, leb}
+use lib.ListN.{length}
+use Rattle.page.specs.Bytes.{Bytes, bytes, pick}
+use Rattle.page.specs.Lines.{content, blank, command, rest, clean, Tbl, Atr, Frm, Rec, End, Com}
+use Rattle.page.specs.Fields.{fields, numberOf}
+use Rattle.page.specs.Tables.{Named, table-at, columns, standing, width}
+use Rattle.page.specs.Marks.{remarkOf}
+use Rattle.page.specs.Section
+use Rattle.page.specs.Records.{Datum, number, words, Record}
+use Rattle.page.specs.Grammar.{fields-of, Says, empty, remark, Holds, a-number, a-text, owner-by, Values, no-field, a-field, SamePoints}
+use Rattle.page.specs.Refusals.{Law, law, FirstBroken, either-laws, marks-of, InOrder, kind-law, fields-laws, rec-laws, end-laws, command-laws, GoodMark, laws, Leads, quiet, tbl, atr, frm, mark, record-line, end}
+use Rattle.page.specs.declared.Number.{Number}
+use Rattle.page.specs.declared.Number.the-variants as N
+use Rattle.page.specs.declared.Column.{Column}
+use Rattle.page.specs.declared.Owner.{Owner}
+use Rattle.page.specs.declared.Owner.the-variants as O
+use Rattle.page.specs.declared.Remark.{Remark}
+use Rattle.page.specs.declared.Remark.the-variants as R
+use Rattle.page.specs.declared.Phase.{Phase}
+use Rattle.page.specs.declared.Phase.the-variants as P
+use Rattle.page.specs.declared.Field.{Field}
+use Rattle.page.specs.declared.Field.the-variants as F
+use Rattle.page.specs.declared.Step.{Step}
+use Rattle.page.specs.declared.Step.the-variants as S
+use Rattle.page.proofs.TableLaws.{name-tells}
+use Rattle.laws.proofs.Decides.{Decides, holds, fails, fact, both, equal, at-most}
+use Rattle.laws.proofs.Tests.{is-d, names-d, formats-d, rises-d, unknown-d, one-d, named-d}
+use Rattle.grammar.proofs.Values.{values-once, points-d, empty-d}
+
+-- the step stops with v exactly if v is the first broken law's number, and goes on only to what G says
+pub record Agrees (G : Phase → Type 0) (s : Step) (ls : List Law) : Type 0 where
+  pub iff : (v : ℕ) → s ≡ S.Stop v ↔ FirstBroken ls v
+  pub led : (q : Phase) → s ≡ S.Go q → G q
+
+goes : {G : Phase → Type 0} {q : Phase} → G q → Agrees G (S.Go q) []
+goes {q} g = record { iff = λ v. (λ e. absurd (false≢true (cc)), λ x. absurd x); led = λ r e. let z : q ≡ r = cc in rw z at g }
+
+-- this law is broken
+hit : {G : Phase → Type 0} {v : ℕ} {L : Type 0} {ls : List Law} → L → Agrees G (S.Stop v) (law v L ∷ ls)
+hit a = record { iff = λ w. (λ e. inl (a, (cc)), λ s. elim s [ inl p ↦ ap S.Stop (p .1) | inr p ↦ absurd (p .0 a) ]); led = λ q e. absurd (false≢true (cc)) }
+
+-- this one is not
+miss : {G : Phase → Type 0} {v : ℕ} {L : Type 0} {s : Step} {ls : List Law} → ¬ L → Agrees G s ls → Agrees G s (law v L ∷ ls)
+miss n k = record { iff = λ w. (λ e. inr (n, k .iff w .0 e), λ s. elim s [ inl p ↦ absurd (n (p .0)) | inr p ↦ k .iff w .1 (p .1) ]); led = k .led }
+
+must-not : {G : Phase → Type 0} {v : ℕ} {b : Bool} {L : Type 0} {x : Step} {ls : List Law} → Decides L b → (¬ L → Agrees G x ls) → Agrees G (Section.choose b (S.Stop v) x) (law v L ∷ ls)
+unfolding Section.choose
+must-not (holds a) k = hit a
+must-not (fails n) k = miss n (k n)
+
+must : {G : Phase → Type 0} {v : ℕ} {b : Bool} {A : Type 0} {x : Step} {ls : List Law} → Decides A b → (A → Agrees G x ls) → Agrees G (Section.choose b x (S.Stop v)) (law v (¬ A) ∷ ls)
+unfolding Section.choose
+must (holds a) k = miss (λ n. n a) (k a)
+must (fails n) k = hit n
+
+branch : {G : Phase → Type 0} (b : Bool) {x y : Step} {u w : List Law} → (b ≡ true → Agrees G x u) → (b ≡ false → Agrees G y w) → Agrees G (Section.choose b x y) (either-laws b u w)
+unfolding Section.choose
+branch true s t = s refl
+branch false s t = t refl
+
+-- one of two commands, else 6
+two : {G : Phase → Type 0} {A B : Type 0} (a b : Bool) {x y : Step} {u w : List Law} → Decides A a → Decides B b → (A → Agrees G x u) → (B → Agrees G y w) →
+    Agrees G (Section.choose a x (Section.choose b y (S.Stop 6))) (law 6 (¬ (A ⊎ B)) ∷ either-laws a u w)
+unfolding Section.choose
+two true b (holds h) d s t = miss (λ n. n (inl h)) (s h)
+two false true (fails m) (holds h) s t = miss (λ n. n (inr h)) (t h)
+two false false (fails m) (fails n) s t = hit (λ x. elim x [ inl a ↦ m a | inr b ↦ n b ])
+
+-- a record's verdict is a number, 0 for none: the step that follows it
+unfoldable judged : Phase → ℕ → Step
+judged q v = Section.choose (eqb v 0) (S.Go q) (S.Stop v)
+
+judged-must : {G : Phase → Type 0} (q : Phase) {v : ℕ} {b : Bool} {A : Type 0} (x : ℕ) {ls : List Law} → eqb v 0 ≡ false → Decides A b → (A → Agrees G (judged q x) ls) →
+    Agrees G (judged q (pick b x v)) (law v (¬ A) ∷ ls)
+unfolding judged Section.choose
+judged-must q x e (holds a) k = miss (λ n. n a) (k a)
+judged-must q x e (fails n) k = rw e (hit n)
+
+judged-must-not : {G : Phase → Type 0} (q : Phase) {v : ℕ} {b : Bool} {L : Type 0} (x : ℕ) {ls : List Law} → eqb v 0 ≡ false → Decides L b → (¬ L → Agrees G (judged q x) ls) →
+    Agrees G (judged q (pick b v x)) (law v L ∷ ls)
+unfolding judged Section.choose
+judged-must-not q x e (holds a) k = rw e (hit a)
+judged-must-not q x e (fails n) k = miss n (k n)
+
+first-first : (a b c : ℕ) → Section.first-of (Section.first-of a b) c ≡ Section.first-of a (Section.first-of b c)
+first-first a b c = by (eqb a 0) refl
+  where
+    by : (d : Bool) → eqb a 0 ≡ d → pick (eqb (pick d b a) 0) c (pick d b a) ≡ pick d (pick (eqb b 0) c b) a
+    by true e = refl
+    by false e = rw e
+
+-- a field: 11 or 12, then 13; what follows may use that it is read
+module _ {G : Phase → Type 0} (q : Phase) (o : Owner) (c : Column) (f : Bytes) (y : ℕ) (more : List Law) (next : (v : Datum) → Holds o c f v → Agrees G (judged q y) more) where
+  abbrev holds-law : Law
+  holds-law = law 13 (¬ ((v : Datum) × Holds O.Operator c f v))
+
+  abbrev field-step : Field → Step
+  field-step x = judged q (Section.first-of (Section.field-number x) y)
+
+  number-agrees : (n : Number) → c .text ≡ false → numberOf f ≡ n → Agrees G (field-step (Section.number-field (c .lo) (c .hi) n)) (law 12 (numberOf f ≡ N.Nothing) ∷ holds-law ∷ more)
+  unfolding Section.number-field Section.field-number judged Section.choose
+  number-agrees N.Nothing t e = hit e
+  number-agrees (N.Minus n) t e = miss (λ h. absurd (false≢true (cc))) (hit (λ x. inv (x .0) (x .1)))
+    where
+      inv : (v : Datum) → Holds O.Operator c f v → ⊥
+      inv (number m) (a-number u h a b) = absurd (false≢true (cc))
+      inv (words p w) (a-text u h a) = absurd (false≢true (cc))
+  number-agrees (N.Plus n) t e = miss (λ h. absurd (false≢true (cc))) (by (leb (c .lo) n && leb n (c .hi)) (both (at-most (c .lo) n) (at-most n (c .hi))))
+    where
+      inv : (v : Datum) → Holds O.Operator c f v → (c .lo ≤ n) × (n ≤ c .hi)
+      inv (number m) (a-number u h a b) = let z : m ≡ n = cc in (rw z at a, rw z at b)
+      inv (words p w) (a-text u h a) = absurd (false≢true (cc))
+
+      by : (b : Bool) → Decides ((c .lo ≤ n) × (n ≤ c .hi)) b → Agrees G (field-step (pick b (F.Number n) (F.Refused 13))) (holds-law ∷ more)
+      by true (holds p) = miss (λ x. x (number n, a-number t e (p .0) (p .1))) (next (number n) (a-number t e (p .0) (p .1)))
+      by false (fails x) = hit (λ z. x (inv (z .0) (z .1)))
+
+  text-agrees : (x : Option Bytes) → c .text ≡ true → Section.record-text f ≡ x → Agrees G (field-step (Section.text-field (c .hi) f x)) (law 11 (Section.record-text f ≡ none) ∷ holds-law ∷ more)
+  unfolding Section.text-field Section.field-number judged Section.choose
+  text-agrees none t e = hit e
+  text-agrees (some w) t e = miss (λ h. absurd (false≢true (cc))) (by (leb (length w) (c .hi)) (at-most (length w) (c .hi)))
+    where
+      inv : (v : Datum) → Holds O.Operator c f v → length w ≤ c .hi
+      inv (number m) (a-number u h a b) = absurd (false≢true (cc))
+      inv (words p x) (a-text u h a) = let z : x ≡ w = cc in rw z at a
+
+      by : (b : Bool) → Decides (length w ≤ c .hi) b → Agrees G (field-step (pick b (F.Text (record { from = 1; to = length f - 1 })) (F.Refused 13))) (holds-law ∷ more)
+      by true (holds p) = miss (λ x. x (words O.Operator w, a-text t e p)) (next (words o w) (a-text t e p))
+      by false (fails x) = hit (λ z. x (inv (z .0) (z .1)))
+
+  field-agrees : Agrees G (field-step (Section.fieldOf c f)) (kind-law (c .text) f ∷ holds-law ∷ more)
+  unfolding Section.fieldOf
+  field-agrees = by (c .text) refl
+    where
+      by : (b : Bool) → c .text ≡ b →
+          Agrees G (field-step (pick b (Section.text-field (c .hi) f (Section.record-text f)) (Section.number-field (c .lo) (c .hi) (numberOf f)))) (kind-law b f ∷ holds-law ∷ more)
+      by true e = text-agrees (Section.record-text f) e refl
+      by false e = number-agrees (numberOf f) e refl
+
+-- "each field from the left"
+fields-agree : {G : Phase → Type 0} (q : Phase) (ms : List ℕ) (i : ℕ) (cs : List Named) (fs : List Bytes) (y : ℕ) (others : List Law) → length fs ≡ length cs →
+    ((vs : Record) → Values ms i cs fs vs → Agrees G (judged q y) others) → Agrees G (judged q (Section.first-of (Section.first-wrong cs fs) y)) (fields-laws cs fs ++ others)
+unfolding Section.first-wrong
+fields-agree q ms i [] [] y others e g = g [] no-field
+fields-agree q ms i [] (f ∷ fs) y others e g = absurd (let z : ⊥ = omega arith in z)
+fields-agree q ms i (c ∷ cs) [] y others e g = absurd (let z : ⊥ = omega arith in z)
+fields-agree q ms i (c ∷ cs) (f ∷ fs) y others e g =
+    rw (first-first (Section.field-number (Section.fieldOf (c .column) f)) (Section.first-wrong cs fs) y)
+    (field-agrees q (owner-by ms i) (c .column) f (Section.first-of (Section.first-wrong cs fs) y) (fields-laws cs fs ++ others)
+    (λ v h. fields-agree q ms (suc i) cs fs y others (omega arith) (λ vs x. g (v ∷ vs) (a-field h x))))
+
+-- a law on the record that the fields hold
+of-record : {ms : List ℕ} {cs : List Named} {fs : List Bytes} {vs : Record} {P : Record → Type 0} {b : Bool} → Values ms 1 cs fs vs → Decides (P vs) b →
+    Decides ((us : Record) × Values ms 1 cs fs us × P us) b
+of-record {vs} h (holds p) = holds (vs, h, p)
+of-record {vs} h (fails n) = fails (λ x. let z : x .0 ≡ vs = values-once (x .1) h in n (rw z at (x .2)))
+
+judged-goes : {G : Phase → Type 0} (q : Phase) → G q → Agrees G (judged q 0) []
+unfolding judged Section.choose
+judged-goes q g = goes g
+
+record-judged : (t m n : ℕ) (fs : List Bytes) → Section.rec-step t m n fs ≡ judged (P.Rows t 0 (suc n)) (Section.rec-verdict t m fs)
+unfolding Section.rec-step judged
+record-judged t m n fs = rw (add-one n)
+
+none-d : (m : ℕ) → Decides (marks-of m ≡ []) (eqb m 0)
+none-d zero = holds refl
+none-d (suc m) = rw (ne-eqb (suc m) 0 (λ e. omega arith)) (fails (λ e. absurd (false≢true (cc))))
+
+module _ (latin : Bool) (l : Bytes) where
+  abbrev last-laws : ℕ → ℕ → List Law
+  last-laws t m =
+      law 14 ((vs : Record) × Values (marks-of m) 1 (standing t) (fields-of l) vs × SamePoints t vs) ∷
+      law 15 ((vs : Record) × Values (marks-of m) 1 (standing t) (fields-of l) vs × List·Memᴰ (words O.Suggestion []) vs) ∷ []
+
+  abbrev last-verdict : ℕ → ℕ → ℕ
+  last-verdict t m = pick (Section.same-points t (fields-of l)) 14 (pick (Section.empty-marked m (fields-of l)) 15 0)
+
+  last-agree : (t m n : ℕ) → Says latin Rec l → (vs : Record) → Values (marks-of m) 1 (standing t) (fields-of l) vs →
+      Agrees (Leads latin l (P.Rows t m n)) (judged (P.Rows t 0 (suc n)) (last-verdict t m)) (last-laws t m)
+  last-agree t m n s vs h =
+      judged-must-not (P.Rows t 0 (suc n)) (pick (Section.empty-marked m (fields-of l)) 15 0) refl (of-record h (points-d t m h)) (λ a.
+      judged-must-not (P.Rows t 0 (suc n)) 0 refl (of-record h (empty-d m h)) (λ b.
+      judged-goes (P.Rows t 0 (suc n)) (record-line (record { says = s; fields = h; points = λ x. a (vs, h, x); filled = λ x. b (vs, h, x) }))))
+
+  record-agrees : (t m n : ℕ) → Says latin Rec l → Agrees (Leads latin l (P.Rows t m n)) (Section.rec-step t m n (fields-of l)) (rec-laws t (marks-of m) (fields-of l))
+  unfolding Section.rec-verdict width standing
+  record-agrees t m n s =
+      rw (record-judged t m n (fields-of l))
+      (judged-must (P.Rows t 0 (suc n)) (Section.first-of (Section.first-wrong (standing t) (fields-of l)) (last-verdict t m)) refl (equal (length (fields-of l)) (length (standing t))) (λ e.
+      fields-agree (P.Rows t 0 (suc n)) (marks-of m) 1 (standing t) (fields-of l) (last-verdict t m) (last-laws t m) e (last-agree t m n s)))
+
+  count-agrees : (t n : ℕ) (f : Bytes) (c : Number) → Says latin End l → fields-of l ≡ f ∷ [] → numberOf f ≡ c →
+      Agrees (Leads latin l (P.Rows t 0 n)) (Section.count-step t n c)
+      (law 12 ((g : Bytes) × (f ∷ [] ≡ g ∷ []) × (numberOf g ≡ N.Nothing)) ∷ law 16 (¬ ((g : Bytes) × (f ∷ [] ≡ g ∷ []) × (numberOf g ≡ N.Plus n))) ∷ [])
+  unfolding Section.count-step
+  count-agrees t n f N.Nothing s a e = hit (f, refl, e)
+  count-agrees t n f (N.Minus c) s a e = miss (λ x. let a = x .1 in let b = x .2 in absurd (false≢true (cc))) (hit (λ x. let a = x .1 in let b = x .2 in absurd (false≢true (cc))))
+  count-agrees t n f (N.Plus c) s a e =
+      miss (λ x. let a = x .1 in let b = x .2 in absurd (false≢true (cc)))
+      (must (by (eqb c n) (equal c n)) (λ x. goes (end (record { says = s; count = x .0; alone = a ∙ x .1; reads = x .2 }))))
+    where
+      by : (b : Bool) → Decides (c ≡ n) b → Decides ((g : Bytes) × (f ∷ [] ≡ g ∷ []) × (numberOf g ≡ N.Plus n)) b
+      by true (holds h) = holds (f, refl, e ∙ ap N.Plus h)
+      by false (fails k) = fails (λ x. let a = x .1 in let b = x .2 in k (cc))
+
+  end-agrees : (t m n : ℕ) (fs : List Bytes) → Says latin End l → fields-of l ≡ fs → Agrees (Leads latin l (P.Rows t m n)) (Section.end-step t m n fs) (end-laws (marks-of m) n fs)
+  unfolding Section.end-step
+  end-agrees t m n fs s a = must (none-d m) (λ e. must (one-d fs) (λ o. rw (o .1, unmarked m e) (count-agrees t n (o .0) (numberOf (o .0)) s (a ∙ o .1) refl)))
+    where
+      unmarked : (m : ℕ) → marks-of m ≡ [] → m ≡ 0
+      unmarked zero e = refl
+      unmarked (suc m) e = absurd (false≢true (cc))
+
+  tbl-agrees : (k : ℕ) (fs : List Bytes) → Says latin Tbl l → fields-of l ≡ fs → Agrees (Leads latin l P.Tbl) (Section.tbl-step fs) (command-laws P.Tbl k fs)
+  unfolding Section.tbl-step
+  tbl-agrees k fs s a = must (one-d fs) (λ o. rw (o .1) (must (named-d (o .0)) (λ x.
+      let h = x .1 in
+      let q = x .2 in
+      let e : o .0 ≡ bytes (table-at (x .0) .name) = cc in
+      rw (e, name-tells (x .0) h) (goes (tbl (record { says = s; known = h; name = a ∙ o .1 ∙ q }))))))
+
+  mark-agrees : (p : Phase) (r : Remark) → Says latin Com l → remarkOf (rest (content l)) ≡ r → Agrees (Leads latin l p) (Section.com-step p r) (law 15 (¬ GoodMark p r) ∷ [])
+  unfolding Section.com-step Section.mark-step
+  mark-agrees p R.Comment s e = miss (λ n. n tt) (goes (quiet (remark s e)))
+  mark-agrees p R.Unreadable s e = hit (λ x. x)
+  mark-agrees P.Tbl (R.Mark i) s e = hit (λ x. x)
+  mark-agrees (P.Atr t) (R.Mark i) s e = hit (λ x. x)
+  mark-agrees (P.Frm t) (R.Mark i) s e = hit (λ x. x)
+  mark-agrees (P.Rows t m n) (R.Mark i) s e = must (rises-d t i m) (λ k. goes (mark (record { says = s; reads = e; may = k .0; rises = k .1 })))
+  mark-agrees (P.Ended t n) (R.Mark i) s e = hit (λ x. x)
+
+  module _ (ok : clean latin (content l) ≡ true) where
+    says : (k : ℕ) → command (content l) ≡ k → Says latin k l
+    says k e = record { clean = ok; named = e }
+
+    line-agrees : (p : Phase) →
+        Agrees (Leads latin l p) (Section.line-step p (command (content l)) (rest (content l))) (law 6 (¬ InOrder p (command (content l))) ∷ command-laws p (command (content l)) (fields-of l))
+    unfolding Section.line-step Section.atr-step Section.frm-step
+    line-agrees P.Tbl = must (equal (command (content l)) Tbl) (λ e. tbl-agrees (command (content l)) (fields-of l) (says Tbl e) refl)
+    line-agrees (P.Atr t) =
+        must (equal (command (content l)) Atr) (λ e. must (names-d (columns t) (fields-of l)) (λ h. goes (atr (record { says = says Atr e; names = h }))))
+    line-agrees (P.Frm t) =
+        must (equal (command (content l)) Frm) (λ e. must (formats-d (standing t) (fields-of l)) (λ h. goes (frm (record { says = says Frm e; formats = h }))))
+    line-agrees (P.Rows t m n) =
+        two (eqb (command (content l)) Rec) (eqb (command (content l)) End) (equal (command (content l)) Rec) (equal (command (content l)) End)
+        (λ e. record-agrees t m n (says Rec e)) (λ e. end-agrees t m n (fields-of l) (says End e) refl)
+    line-agrees (P.Ended t n) = hit (λ x. x)
+
+  -- every line, in every phase
+  pub step-agrees : (p : Phase) → Agrees (Leads latin l p) (Section.step latin p l) (laws latin p l)
+  unfolding Section.step Section.content-step laws
+  step-agrees p =
+      must (is-d (clean latin (content l))) (λ ok.
+      branch (blank (content l)) (λ b. goes (quiet (empty ok b))) (λ b.
+      must-not (unknown-d (content l)) (λ m.
+      branch (eqb (command (content l)) Com) (λ e. mark-agrees p (remarkOf (rest (content l))) (says ok Com (fact (equal (command (content l)) Com) e)) refl) (λ e.
+      line-agrees ok p))))

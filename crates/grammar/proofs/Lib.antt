@@ -1,0 +1,10 @@
+pub mod Values
+pub mod Agrees
+pub mod Steps
+pub mod Ranged
+pub mod Accepts
+pub mod Readings
+pub mod Refuses
+pub mod Counts
+pub mod Marks
+pub mod Own

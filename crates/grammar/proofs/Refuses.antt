@@ -1,0 +1,143 @@
+-- The machine refuses a section exactly as the order of refusals says: each number 4 to 16, at its line, with the table's number.
+use mathlib.Core.Path.{_≡_, refl, ap, sym, _∙_}
+use mathlib.Core.Bool.{Bool, true, false, false≢true}
+use mathlib.Core.List.{List, [], _∷_, _++_, append-nil}
+use mathlib.Core.Logic.{_⊎_, inl, inr, _↔_}
+use Prim.Native.Nat.{ℕ, suc, _+_, _≤_}
+use native.Mathlib.Omega.{arith}
+use native.Mathlib.Nat.{zero-add}
+use lib.ListN.{length}
+use Rattle.page.specs.Bytes.{Bytes}
+use Rattle.page.specs.Section.{step, continue, finish, run, outcome, refused, table-in}
+use Rattle.page.specs.Records.{Record}
+use Rattle.page.specs.Grammar.{Denotes}
+use Rattle.page.specs.Refusals.{FirstBroken, laws, Leads, Reaches, stay, move, is-ended, Refused, at-line, unfinished}
+use Rattle.page.specs.declared.Phase.{Phase}
+use Rattle.page.specs.declared.Phase.the-variants as P
+use Rattle.page.specs.declared.Step.{Step}
+use Rattle.page.specs.declared.Step.the-variants as S
+use Rattle.page.specs.declared.Outcome.{Outcome}
+use Rattle.grammar.proofs.Steps.{go-exactly, stop-exactly, leads-go}
+use Rattle.grammar.proofs.Ranged.{laws-ranged}
+use Rattle.grammar.proofs.Accepts.{denotes-accepted}
+
+-- refused from a phase on, j lines further
+data From (latin : Bool) (p : Phase) (ls : List Bytes) (k v j : ℕ) : Type 0 where
+  here : (before after : List Bytes) (l : Bytes) (q : Phase) → ls ≡ before ++ (l ∷ after) → Reaches latin p before q → FirstBroken (laws latin q l) v → k ≡ table-in q →
+      j ≡ suc (length before) → From latin p ls k v j
+  nowhere : (q : Phase) → Reaches latin p ls q → is-ended q ≡ false → k ≡ table-in q → v ≡ 6 → j ≡ length ls → From latin p ls k v j
+
+module _ (latin : Bool) where
+  finish-six : (p : Phase) (m : ℕ) → is-ended p ≡ false → finish p m ≡ refused (table-in p) 6 m
+  unfolding finish is-ended table-in
+  finish-six P.Tbl m e = refl
+  finish-six (P.Atr t) m e = refl
+  finish-six (P.Frm t) m e = refl
+  finish-six (P.Rows t w n) m e = refl
+  finish-six (P.Ended t n) m e = absurd (false≢true (sym e))
+
+  finish-sound : (p : Phase) (m : ℕ) → is-ended p ≡ true → finish p m .verdict ≡ 0
+  unfolding finish is-ended
+  finish-sound P.Tbl m e = absurd (false≢true e)
+  finish-sound (P.Atr t) m e = absurd (false≢true e)
+  finish-sound (P.Frm t) m e = absurd (false≢true e)
+  finish-sound (P.Rows t w n) m e = absurd (false≢true e)
+  finish-sound (P.Ended t n) m e = refl
+
+  longer : (p q : Phase) (l : Bytes) (ls : List Bytes) (k v j : ℕ) → Leads latin l p q → From latin q ls k v j → From latin p (l ∷ ls) k v (suc j)
+  longer p q l ls k v j h (here before after x r e g f a b) = here (l ∷ before) after x r (ap (λ (z : List Bytes). l ∷ z) e) (move h g) f a (ap suc b)
+  longer p q l ls k v j h (nowhere r g c a f b) = nowhere r (move h g) c a f (ap suc b)
+
+  into : (p : Phase) (m : ℕ) (ls : List Bytes) (k v n : ℕ) → ¬ (v ≡ 0) → run latin p m ls ≡ refused k v n → (j : ℕ) × (n ≡ j + m) × From latin p ls k v j
+  unfolding run continue
+  into p m [] k v n z e = by (is-ended p) refl
+    where
+      by : (b : Bool) → is-ended p ≡ b → (j : ℕ) × (n ≡ j + m) × From latin p [] k v j
+      by true h = absurd (z (sym (ap (λ (o : Outcome). o .verdict) e) ∙ finish-sound p m h))
+      by false h =
+          let f : refused (table-in p) 6 m ≡ refused k v n = sym (finish-six p m h) ∙ e in (
+            0,
+            sym (ap (λ (o : Outcome). o .line) f) ∙ sym (zero-add m),
+            nowhere p stay h (sym (ap (λ (o : Outcome). o .table) f)) (sym (ap (λ (o : Outcome). o .verdict) f)) refl,
+          )
+  into p m (l ∷ ls) k v n z e = by (λ q. into q (suc m) ls k v n z) (step latin p l) refl e
+    where
+      by : ((q : Phase) → run latin q (suc m) ls ≡ refused k v n → (j : ℕ) × (n ≡ j + suc m) × From latin q ls k v j) → (s : Step) → step latin p l ≡ s →
+          continue s (table-in p) (suc m) (λ q. run latin q (suc m) ls) ≡ refused k v n → (j : ℕ) × (n ≡ j + m) × From latin p (l ∷ ls) k v j
+      by ih (S.Go q) f e = let x = ih q e in (suc (x .0), omega (arith, x .1), longer p q l ls k v (x .0) (go-exactly latin l p q .0 f) (x .2))
+      by ih (S.Stop w) f e =
+          let a : w ≡ v = ap (λ (o : Outcome). o .verdict) e in
+          let b : suc m ≡ n = ap (λ (o : Outcome). o .line) e in
+          (1, omega arith, here [] ls l p refl stay (stop-exactly latin l p v .0 (f ∙ ap S.Stop a)) (sym (ap (λ (o : Outcome). o .table) e)) refl)
+
+  -- lines that lead from p to q are read so
+  pub reach-run : {p q : Phase} {ls : List Bytes} (m : ℕ) (ms : List Bytes) → Reaches latin p ls q → run latin p m (ls ++ ms) ≡ run latin q (length ls + m) ms
+  unfolding run continue
+  reach-run m ms stay = rw zero-add
+  reach-run m ms (move {q} {r} {ls} h g) = rw (leads-go h) (reach-run (suc m) ms g ∙ ap (λ (x : ℕ). run latin r x ms) (omega arith))
+
+  from : (ls : List Bytes) (k v n : ℕ) → Refused latin ls k v n → run latin P.Tbl 0 ls ≡ refused k v n
+  unfolding run continue
+  from ls k v n (at-line before after x r e g f a b) =
+      rw (e, reach-run 0 (x ∷ after) g, stop-exactly latin x r v .1 f, a, b) (ap (refused (table-in r) v) (omega arith))
+  from ls k v n (unfinished r g c a f b) =
+      let z : run latin P.Tbl 0 (ls ++ []) ≡ refused k v n = reach-run 0 [] g ∙ finish-six r (length ls + 0) c ∙ rw (a, f, b) (ap (refused (table-in r) 6) (omega arith)) in
+      rw append-nil at z
+
+  -- the number of a refusal is one of 4 to 16
+  pub refused-ranged : (ls : List Bytes) (k v n : ℕ) → Refused latin ls k v n → (4 ≤ v) × (v ≤ 16)
+  refused-ranged ls k v n (at-line before after l q s g f a b) = laws-ranged latin q l v f
+  refused-ranged ls k v n (unfinished q g c a f b) = (omega arith, omega arith)
+
+  -- either the verdict is 0, or the outcome is a refusal
+  settled : (p : Phase) (m : ℕ) (ls : List Bytes) → (run latin p m ls .verdict ≡ 0) ⊎ ((k : ℕ) × (v : ℕ) × (n : ℕ) × (¬ (v ≡ 0)) × (run latin p m ls ≡ refused k v n))
+  unfolding run continue
+  settled p m [] = by (is-ended p) refl
+    where
+      by : (b : Bool) → is-ended p ≡ b → (finish p m .verdict ≡ 0) ⊎ ((k : ℕ) × (v : ℕ) × (n : ℕ) × (¬ (v ≡ 0)) × (finish p m ≡ refused k v n))
+      by true h = inl (finish-sound p m h)
+      by false h = inr (table-in p, 6, m, (λ e. omega arith), finish-six p m h)
+  settled p m (l ∷ ls) = by (λ q. settled q (suc m) ls) (step latin p l) refl
+    where
+      by : ((q : Phase) → (run latin q (suc m) ls .verdict ≡ 0) ⊎ ((k : ℕ) × (v : ℕ) × (n : ℕ) × (¬ (v ≡ 0)) × (run latin q (suc m) ls ≡ refused k v n))) → (s : Step) → step latin p l ≡ s →
+          (continue s (table-in p) (suc m) (λ q. run latin q (suc m) ls) .verdict ≡ 0) ⊎
+          ((k : ℕ) × (v : ℕ) × (n : ℕ) × (¬ (v ≡ 0)) × (continue s (table-in p) (suc m) (λ q. run latin q (suc m) ls) ≡ refused k v n))
+      by ih (S.Go q) f = ih q
+      by ih (S.Stop w) f = inr (table-in p, w, suc m, (λ e. let z = laws-ranged latin p l w (stop-exactly latin l p w .0 f) in omega arith), refl)
+
+-- a section has table number k, verdict v (not 0) and line n exactly if it is refused so by the order of refusals
+pub refuses-exactly : (latin : Bool) (ls : List Bytes) (k v n : ℕ) → ((outcome latin ls ≡ refused k v n) × ¬ (v ≡ 0)) ↔ Refused latin ls k v n
+unfolding outcome
+refuses-exactly latin ls k v n = (there, λ r. (from latin ls k v n r, λ e. let z = refused-ranged latin ls k v n r in omega arith))
+  where
+    named : (j : ℕ) → n ≡ j → From latin P.Tbl ls k v j → Refused latin ls k v n
+    named j e (here before after l q s g f a b) = at-line before after l q s g f a (e ∙ b)
+    named j e (nowhere q g c a f b) = unfinished q g c a f (e ∙ b)
+
+    there : (run latin P.Tbl 0 ls ≡ refused k v n) × ¬ (v ≡ 0) → Refused latin ls k v n
+    there x = let y = into latin P.Tbl 0 ls k v n (x .1) (x .0) in named (y .0) (let z = y .1 in omega arith) (y .2)
+
+-- every section is accepted with verdict 0, or refused by one of 4 to 16
+pub section-settled : (latin : Bool) (ls : List Bytes) → (outcome latin ls .verdict ≡ 0) ⊎ ((k : ℕ) × (v : ℕ) × (n : ℕ) × (outcome latin ls ≡ refused k v n) × Refused latin ls k v n)
+unfolding outcome
+section-settled latin ls = by (settled latin P.Tbl 0 ls)
+  where
+    by : (run latin P.Tbl 0 ls .verdict ≡ 0) ⊎ ((k : ℕ) × (v : ℕ) × (n : ℕ) × (¬ (v ≡ 0)) × (run latin P.Tbl 0 ls ≡ refused k v n)) →
+        (run latin P.Tbl 0 ls .verdict ≡ 0) ⊎ ((k : ℕ) × (v : ℕ) × (n : ℕ) × (run latin P.Tbl 0 ls ≡ refused k v n) × Refused latin ls k v n)
+    by (inl e) = inl e
+    by (inr x) = inr (x .0, x .1, x .2, x .4, refuses-exactly latin ls (x .0) (x .1) (x .2) .0 (x .4, x .3))
+
+-- a section's verdict is 0 or one of 4 to 16
+pub verdict-ranged : (latin : Bool) (ls : List Bytes) → (outcome latin ls .verdict ≡ 0) ⊎ ((4 ≤ outcome latin ls .verdict) × (outcome latin ls .verdict ≤ 16))
+verdict-ranged latin ls = by (section-settled latin ls)
+  where
+    by : (outcome latin ls .verdict ≡ 0) ⊎ ((k : ℕ) × (v : ℕ) × (n : ℕ) × (outcome latin ls ≡ refused k v n) × Refused latin ls k v n) →
+        (outcome latin ls .verdict ≡ 0) ⊎ ((4 ≤ outcome latin ls .verdict) × (outcome latin ls .verdict ≤ 16))
+    by (inl e) = inl e
+    by (inr x) = inr (rw (x .3) (refused-ranged latin ls (x .0) (x .1) (x .2) (x .4)))
+
+-- what is refused denotes nothing
+pub refused-denotes-nothing : (latin : Bool) (ls : List Bytes) (k v n t : ℕ) (rs : List Record) → Refused latin ls k v n → ¬ Denotes latin ls t rs
+refused-denotes-nothing latin ls k v n t rs r d =
+    let x = refuses-exactly latin ls k v n .1 r in
+    x .1 (ap (λ (o : Outcome). o .verdict) (sym (x .0) ∙ denotes-accepted latin ls t rs d))

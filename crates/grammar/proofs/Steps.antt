@@ -1,0 +1,82 @@
+-- The machine's step goes on exactly where the grammar leads on, and stops exactly by the first broken law.
+use mathlib.Core.Path.{_≡_, refl}
+use mathlib.Core.Bool.{Bool, true, false}
+use mathlib.Core.List.{List}
+use mathlib.Core.Logic.{_↔_}
+use Prim.Native.Nat.{ℕ, _<_}
+use native.Mathlib.Omega.{arith}
+use native.Mathlib.Numerals.{add-one}
+use lib.Dec.{eqb}
+use lib.ListN.{length}
+use borrow.Author.Tests.{lt-ltb, lt-leb}
+use Rattle.page.specs.Bytes.{Bytes}
+use Rattle.page.specs.Lines.{content, blank, command, rest, clean, Tbl, Atr, Frm, Rec, End, Com, Unknown, Missing}
+use Rattle.page.specs.Fields.{fields}
+use Rattle.page.specs.Tables.{Named, table-count, columns, standing, width}
+use Rattle.page.specs.Marks.{remarkOf}
+use Rattle.page.specs.Section
+use Rattle.page.specs.Records.{Datum, Record}
+use Rattle.page.specs.Grammar.{fields-of, Says, empty, remark, Holds, a-number, a-text, Values, no-field, a-field}
+use Rattle.page.specs.Refusals.{FirstBroken, laws, Leads, quiet, tbl, atr, frm, mark, record-line, end}
+use Rattle.page.specs.declared.Column.{Column}
+use Rattle.page.specs.declared.Owner.{Owner}
+use Rattle.page.specs.declared.Phase.{Phase}
+use Rattle.page.specs.declared.Phase.the-variants as P
+use Rattle.page.specs.declared.Step.the-variants as S
+use Rattle.page.proofs.TableLaws.{name-tells}
+use Rattle.laws.proofs.Decides.{tested, untested, both, equal, at-most}
+use Rattle.laws.proofs.Tests.{names-d, formats-d, rises-d, blank-missing}
+use Rattle.grammar.proofs.Values.{values-length, points-d, empty-d}
+use Rattle.grammar.proofs.Agrees.{step-agrees}
+
+-- a line with a command is not blank
+pub not-blank : (c : Bytes) (k : ℕ) → command c ≡ k → k < Missing → blank c ≡ false
+not-blank c k e h = by (blank c) refl
+  where
+    by : (b : Bool) → blank c ≡ b → b ≡ false
+    by false q = refl
+    by true q = absurd (let z = blank-missing c q in let y : ⊥ = omega arith in y)
+
+-- what a clean line of a known command does
+known-step : {latin : Bool} {l : Bytes} (k : ℕ) → Says latin k l → k < Unknown → (p : Phase) →
+    Section.step latin p l ≡ Section.choose (eqb k Com) (Section.com-step p (remarkOf (rest (content l)))) (Section.line-step p k (rest (content l)))
+unfolding Section.step Section.content-step Section.choose
+known-step {latin} {l} k s h p = rw (s .clean, not-blank (content l) k (s .named) (omega arith), s .named, lt-leb Unknown k h)
+
+field-right : {o : Owner} {c : Column} {f : Bytes} {v : Datum} → Holds o c f v → Section.field-number (Section.fieldOf c f) ≡ 0
+unfolding Section.fieldOf Section.field-number Section.text-field Section.number-field
+field-right {c = c} (a-number {n} t e g h) = rw (t, e, tested (both (at-most (c .lo) n) (at-most n (c .hi))) (g, h))
+field-right {c = c} (a-text {t = w} t e h) = rw (t, e, tested (at-most (length w) (c .hi)) h)
+
+fields-right : {ms : List ℕ} {i : ℕ} {cs : List Named} {fs : List Bytes} {vs : Record} → Values ms i cs fs vs → Section.first-wrong cs fs ≡ 0
+unfolding Section.first-wrong
+fields-right no-field = refl
+fields-right (a-field h k) = rw (field-right h, fields-right k)
+
+-- where the grammar leads, the step goes
+pub leads-go : {latin : Bool} {l : Bytes} {p q : Phase} → Leads latin l p q → Section.step latin p l ≡ S.Go q
+unfolding Section.step Section.content-step Section.choose Section.com-step Section.mark-step Section.line-step Section.tbl-step Section.atr-step Section.frm-step Section.rec-step Section.rec-verdict Section.end-step Section.count-step width standing
+leads-go (quiet (empty ok b)) = rw (ok, b)
+leads-go (quiet {p} (remark s e)) = rw (known-step Com s (omega arith) p, e)
+leads-go (tbl {t} h) = rw (known-step Tbl (h .says) (omega arith) P.Tbl, h .name, name-tells t (h .known), lt-ltb t table-count (h .known))
+leads-go {l = l} (atr {t} h) = rw (known-step Atr (h .says) (omega arith) (P.Atr t), tested (names-d (columns t) (fields-of l)) (h .names))
+leads-go {l = l} (frm {t} h) = rw (known-step Frm (h .says) (omega arith) (P.Frm t), tested (formats-d (standing t) (fields-of l)) (h .formats))
+leads-go (mark {t} {m} {n} {i} h) = rw (known-step Com (h .says) (omega arith) (P.Rows t m n), h .reads, tested (rises-d t i m) (h .may, h .rises))
+leads-go {l = l} (record-line {t} {m} {n} h) =
+    rw (
+      known-step Rec (h .says) (omega arith) (P.Rows t m n),
+      tested (equal (length (fields-of l)) (length (standing t))) (values-length (h .fields)),
+      fields-right (h .fields),
+      untested (points-d t m (h .fields)) (h .points),
+      untested (empty-d m (h .fields)) (h .filled),
+      add-one,
+    )
+leads-go (end {t} {n} h) = rw (known-step End (h .says) (omega arith) (P.Rows t 0 n), h .alone, h .reads, tested (equal n n) refl)
+
+-- a line leads from one phase to another exactly if the grammar says so
+pub go-exactly : (latin : Bool) (l : Bytes) (p q : Phase) → Section.step latin p l ≡ S.Go q ↔ Leads latin l p q
+go-exactly latin l p q = (step-agrees latin l p .led q, leads-go)
+
+-- a line is refused with v exactly if v is the number of the first law that it breaks
+pub stop-exactly : (latin : Bool) (l : Bytes) (p : Phase) (v : ℕ) → Section.step latin p l ≡ S.Stop v ↔ FirstBroken (laws latin p l) v
+stop-exactly latin l p v = step-agrees latin l p .iff v

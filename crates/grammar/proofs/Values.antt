@@ -1,0 +1,181 @@
+-- A record's fields: what the grammar reads in them is read once, is what `valuesOf` gives, and the tests on fields decide the rules on values.
+use mathlib.Core.Path.{_≡_, refl, ap, _∙_}
+use mathlib.Core.Bool.{Bool, true, false, not, _&&_, _||_, false≢true}
+use mathlib.Core.List.{List, [], _∷_, List·Memᴰ, List·Memᴰ·head, List·Memᴰ·tail, List·Memᴰ·not-nil, List·Memᴰ·cases-cons}
+use mathlib.Core.Logic.{inl, inr}
+use mathlib.Core.Option.{Option, none, some}
+use Prim.Native.Nat.{ℕ, zero, suc, _+_, _-_, _≤_}
+use native.Mathlib.Omega.{arith}
+use lib.Dec.{eqb, leb}
+use lib.ListN.{length, getD}
+use borrow.Author.Tests.{ne-eqb, le-leb, lt-leb}
+use Rattle.page.specs.Bytes.{Bytes, pick, all}
+use Rattle.page.specs.Fields.{textOf, bodyOf, numberOf, digit, digits, value}
+use Rattle.page.specs.Tables.{Named, no-column, standing, columns, table-at, all-tables, points-from}
+use Rattle.page.specs.Marks.{owner-of}
+use Rattle.page.specs.Section.{record-text, amount-at, points-same, same-points, no-bytes, empty-marked}
+use Rattle.page.specs.Records.{Datum, number, words, Record, datumOf, valuesOf}
+use Rattle.page.specs.Grammar.{Holds, a-number, a-text, marked, owner-by, Values, no-field, a-field, SamePoints}
+use Rattle.page.specs.Refusals.{marks-of}
+use Rattle.page.specs.declared.Column.{Column}
+use Rattle.page.specs.declared.Number.the-variants as N
+use Rattle.page.specs.declared.Owner.{Owner}
+use Rattle.page.specs.declared.Owner.the-variants as O
+use Rattle.laws.proofs.Decides.{Decides, holds, fails, when, both, one-of, equal, at-most}
+
+and-false : (b : Bool) → (b && false) ≡ false
+and-false true = refl
+and-false false = refl
+
+-- one field a column
+pub values-length : {ms : List ℕ} {i : ℕ} {cs : List Named} {fs : List Bytes} {vs : Record} → Values ms i cs fs vs → length fs ≡ length cs
+values-length no-field = refl
+values-length (a-field h k) = ap suc (values-length k)
+
+-- a field holds one value
+holds-once : {o : Owner} {c : Column} {f : Bytes} {v w : Datum} → Holds o c f v → Holds o c f w → v ≡ w
+holds-once (a-number t e g h) (a-number u d p q) = cc
+holds-once (a-number t e g h) (a-text u d p) = absurd (false≢true (cc))
+holds-once (a-text t e g) (a-number u d p q) = absurd (false≢true (cc))
+holds-once (a-text t e g) (a-text u d p) = cc
+
+-- a record's fields are read in one way only
+pub values-once : {ms : List ℕ} {i : ℕ} {cs : List Named} {fs : List Bytes} {vs us : Record} → Values ms i cs fs vs → Values ms i cs fs us → vs ≡ us
+values-once no-field no-field = refl
+values-once (a-field h k) (a-field g l) = let a = holds-once h g in let b = values-once k l in cc
+
+-- the machine's one mark is the grammar's list of it
+owner-one : (m i : ℕ) → 1 ≤ i → owner-by (marks-of m) i ≡ owner-of m i
+unfolding owner-by owner-of marked
+owner-one zero i h = rw (ne-eqb 0 i (λ e. omega arith))
+owner-one (suc m) i h = by (eqb (suc m) i)
+  where
+    by : (b : Bool) → pick (b || false) O.Suggestion O.Operator ≡ pick b O.Suggestion O.Operator
+    by true = refl
+    by false = refl
+
+holds-datum : {o : Owner} {c : Column} {f : Bytes} {v : Datum} → Holds o c f v → v ≡ datumOf o c f
+unfolding datumOf
+holds-datum (a-number t e g h) = rw (t, e)
+holds-datum (a-text t e g) = rw (t, e)
+
+-- the grammar's values are those handed out
+pub values-are : (m : ℕ) {i : ℕ} {cs : List Named} {fs : List Bytes} {vs : Record} → 1 ≤ i → Values (marks-of m) i cs fs vs → vs ≡ valuesOf m i cs fs
+unfolding valuesOf
+values-are m l no-field = refl
+values-are m {i} l (a-field h k) = let a = holds-datum h in let b = owner-one m i l in let d = values-are m (omega arith) k in cc
+
+-- the value of a number's column is the field's number
+number-at-field : (m i : ℕ) (cs : List Named) (fs : List Bytes) (k : ℕ) → length fs ≡ length cs → getD cs k no-column .column .text ≡ false →
+    getD (valuesOf m i cs fs) k (number 0) ≡ number (amount-at fs k)
+unfolding valuesOf amount-at datumOf numberOf digits
+number-at-field m i [] [] k l e = refl
+number-at-field m i [] (f ∷ fs) k l e = absurd (let z : ⊥ = omega arith in z)
+number-at-field m i (c ∷ cs) [] k l e = absurd (let z : ⊥ = omega arith in z)
+number-at-field m i (c ∷ cs) (f ∷ fs) zero l e = rw e
+number-at-field m i (c ∷ cs) (f ∷ fs) (suc k) l e = number-at-field m (suc i) cs fs k (omega arith) e
+
+-- the four columns of the two points are numbers
+abbrev NumberAt : ℕ → ℕ → Type 0
+NumberAt t k = getD (standing t) k no-column .column .text ≡ false
+
+points-numbers : (t : ℕ) → ¬ (points-from t ≡ 0) → NumberAt t (points-from t) × NumberAt t (points-from t + 1) × NumberAt t (points-from t + 2) × NumberAt t (points-from t + 3)
+unfolding points-from standing columns table-at all-tables
+points-numbers zero n = absurd (n refl)
+points-numbers (suc zero) n = absurd (n refl)
+points-numbers (suc (suc zero)) n = absurd (n refl)
+points-numbers (suc (suc (suc zero))) n = absurd (n refl)
+points-numbers (suc (suc (suc (suc zero)))) n = absurd (n refl)
+points-numbers (suc (suc (suc (suc (suc zero))))) n = absurd (n refl)
+points-numbers (suc (suc (suc (suc (suc (suc zero)))))) n = (refl, refl, refl, refl)
+points-numbers (suc (suc (suc (suc (suc (suc (suc zero))))))) n = (refl, refl, refl, refl)
+points-numbers (suc (suc (suc (suc (suc (suc (suc (suc t)))))))) n = absurd (n refl)
+
+-- 14: the machine compares the fields' numbers, the grammar the values
+pub points-d : (t m : ℕ) {fs : List Bytes} {vs : Record} → Values (marks-of m) 1 (standing t) fs vs → Decides (SamePoints t vs) (same-points t fs)
+unfolding same-points points-same
+points-d t m {fs} {vs} h = by (eqb (points-from t) 0) (equal (points-from t) 0)
+  where
+    at : (k : ℕ) → NumberAt t k → getD vs k (number 0) ≡ number (amount-at fs k)
+    at k e = ap (λ (x : Record). getD x k (number 0)) (values-are m (omega arith) h) ∙ number-at-field m 1 (standing t) fs k (values-length h) e
+
+    by : (b : Bool) → Decides (points-from t ≡ 0) b →
+        Decides (SamePoints t vs) (not b && (eqb (amount-at fs (points-from t)) (amount-at fs (points-from t + 2)) && eqb (amount-at fs (points-from t + 1)) (amount-at fs (points-from t + 3))))
+    by true (holds e) = fails (λ s. s .has e)
+    by false (fails n) =
+        let k = points-numbers t n in
+        let a = at (points-from t) (k .0) in
+        let b = at (points-from t + 1) (k .1) in
+        let c = at (points-from t + 2) (k .2) in
+        let d = at (points-from t + 3) (k .3) in
+        when (λ p. record { has = n; types = let x = p .0 in cc; places = let x = p .1 in cc }) (λ s. ((let x = s .types in cc), (let x = s .places in cc)))
+        (both (equal (amount-at fs (points-from t)) (amount-at fs (points-from t + 2))) (equal (amount-at fs (points-from t + 1)) (amount-at fs (points-from t + 3))))
+
+-- no number is a text
+quoted-no-number : (f : Bytes) → numberOf (34 ∷ f) ≡ N.Nothing
+unfolding numberOf digits all digit
+quoted-no-number f = by (leb 1 (suc (length f)) && leb (suc (length f)) 18)
+  where
+    by : (b : Bool) → pick (b && false) (N.Plus (value 0 (34 ∷ f))) N.Nothing ≡ N.Nothing
+    by true = refl
+    by false = refl
+
+number-no-text : (f : Bytes) (n : ℕ) → numberOf f ≡ N.Plus n → no-bytes (record-text f) ≡ false
+unfolding record-text textOf
+number-no-text [] n e = refl
+number-no-text (b ∷ f) n e = by (eqb b 34) (equal b 34)
+  where
+    by : (d : Bool) → Decides (b ≡ 34) d → no-bytes (pick d (bodyOf false f) none) ≡ false
+    by true (holds q) = let z : numberOf (34 ∷ f) ≡ N.Plus n = rw q at e in let y = quoted-no-number f in absurd (false≢true (cc))
+    by false (fails q) = refl
+
+no-bytes-d : (o : Option Bytes) (t : Bytes) → o ≡ some t → Decides (t ≡ []) (no-bytes o)
+no-bytes-d none t e = absurd (false≢true (cc))
+no-bytes-d (some []) t e = holds (cc)
+no-bytes-d (some (b ∷ u)) t e = fails (λ q. absurd (false≢true (cc)))
+
+-- field i holds an empty suggestion exactly if the mark is its own and its text is empty
+here-d : (m i : ℕ) {c : Column} {f : Bytes} {v : Datum} → 1 ≤ i → Holds (owner-by (marks-of m) i) c f v → Decides (words O.Suggestion [] ≡ v) (eqb m i && no-bytes (record-text f))
+unfolding owner-of
+here-d m i l (a-number {n} t e g h) = rw (number-no-text _ n e, and-false) (fails (λ q. absurd (false≢true (cc))))
+here-d m i {f = f} l (a-text {t} u e g) = rw (owner-one m i l) (by (eqb m i) (no-bytes (record-text f)) (no-bytes-d (record-text f) t e))
+  where
+    by : (b d : Bool) → Decides (t ≡ []) d → Decides (words O.Suggestion [] ≡ words (pick b O.Suggestion O.Operator) t) (b && d)
+    by true true (holds q) = holds (rw q)
+    by true false (fails n) = fails (λ q. n (cc))
+    by false d k = fails (λ q. absurd (false≢true (cc)))
+
+-- 15: the machine looks at the marked field, the grammar at every value
+further : (m i : ℕ) (f : Bytes) (fs : List Bytes) →
+    (eqb m i && no-bytes (record-text f) || leb (suc i) m && no-bytes (record-text (getD fs (m - suc i) []))) ≡ (leb i m && no-bytes (record-text (getD (f ∷ fs) (m - i) [])))
+further m i f fs = by (eqb m i) (equal m i) (leb (suc i) m) (at-most (suc i) m)
+  where
+    at-zero : m - i ≡ 0 → getD (f ∷ fs) (m - i) [] ≡ f
+    at-zero e = rw e
+
+    at-more : m - i ≡ suc (m - suc i) → getD (f ∷ fs) (m - i) [] ≡ getD fs (m - suc i) []
+    at-more e = rw e
+
+    or-false : (b : Bool) → (b || false) ≡ b
+    or-false true = refl
+    or-false false = refl
+
+    by : (a : Bool) → Decides (m ≡ i) a → (b : Bool) → Decides (suc i ≤ m) b →
+        (a && no-bytes (record-text f) || b && no-bytes (record-text (getD fs (m - suc i) []))) ≡ (leb i m && no-bytes (record-text (getD (f ∷ fs) (m - i) [])))
+    by true (holds e) true (holds h) = absurd (let z : ⊥ = omega arith in z)
+    by true (holds e) false d = rw (at-zero (omega arith), le-leb i m (omega arith), or-false)
+    by false (fails n) true (holds h) = rw (at-more (omega arith), le-leb i m (omega arith))
+    by false (fails n) false (fails k) = rw (lt-leb i m (omega arith))
+
+empty-from : (m i : ℕ) {cs : List Named} {fs : List Bytes} {vs : Record} → 1 ≤ i → Values (marks-of m) i cs fs vs →
+    Decides (List·Memᴰ (words O.Suggestion []) vs) (leb i m && no-bytes (record-text (getD fs (m - i) [])))
+unfolding record-text textOf
+empty-from m i l no-field = rw and-false (fails List·Memᴰ·not-nil)
+empty-from m i l (a-field {f} {fs} h k) =
+    rw (further m i f fs) at
+    (when (λ s. elim s [ inl e ↦ List·Memᴰ·head e | inr x ↦ List·Memᴰ·tail x ]) (λ x. List·Memᴰ·cases-cons x) (one-of (here-d m i l h) (empty-from m (suc i) (omega arith) k)))
+
+-- the whole record
+pub empty-d : (m : ℕ) {cs : List Named} {fs : List Bytes} {vs : Record} → Values (marks-of m) 1 cs fs vs → Decides (List·Memᴰ (words O.Suggestion []) vs) (empty-marked m fs)
+unfolding empty-marked
+empty-d m h = empty-from m 1 (omega arith) h

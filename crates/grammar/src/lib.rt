@@ -1,0 +1,1 @@
+// A section's reading is the grammar's: accepted exactly, refused exactly, counted.

@@ -1,0 +1,6 @@
+pub mod WrittenScans
+pub mod Decides
+pub mod Tests
+pub mod Lists
+pub mod Sections
+pub mod Stages

@@ -1,0 +1,4 @@
+// The machine over a section's lines.
+mod machine;
+
+pub use machine::step;

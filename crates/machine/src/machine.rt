@@ -1,0 +1,201 @@
+// The machine of a section: what each line leads to.
+ghost use mathlib.Core.Path.{_≡_};
+ghost use mathlib.Core.Bool.{_&&_};
+ghost use Prim.Native.Nat.{_+_, _<_};
+ghost use lib.Dec.{eqb};
+ghost use Rattle.page.specs.Lines.{Rec};
+ghost use Rattle.page.specs.Fields.{fields, numberOf};
+ghost use Rattle.page.specs.Marks.{remarkOf};
+ghost use Rattle.page.specs.Section.{tbl-step, atr-step, frm-step, rec-step, count-step, end-step, mark-step, com-step, line-step, content-step, step};
+ghost use Rattle.page.specs.declared.Phase.the-variants as P;
+ghost use Rattle.machine.specs.Counts.{records-in};
+use judging::judge_record;
+use page::Number;
+use page::Phase;
+use page::Remark;
+use page::Step;
+use page::tables::TABLES;
+
+// "`tbl` 10, 7"
+pub fn step_tbl(w: &[u8]) -> Step
+    ensures { λ r. ⌜ r ≡ tbl-step (fields (now (w .entry))) ⌝ }
+{
+    if commands::count_fields(w) != 1 {
+        return Step::Stop(10);
+    }
+    let t = names::find_table(commands::field_at(w, 0));
+    if t < TABLES {
+        return Step::Go(Phase::Atr(t));
+    }
+    Step::Stop(7)
+}
+
+// "`atr` 8"
+pub fn step_atr(w: &[u8], t: usize) -> Step
+    ensures { λ r. ⌜ r ≡ atr-step t (fields (now (w .entry))) ⌝ }
+{
+    if names::names_match(w, t) {
+        return Step::Go(Phase::Frm(t));
+    }
+    Step::Stop(8)
+}
+
+// "`frm` 9"
+pub fn step_frm(w: &[u8], t: usize) -> Step
+    ensures { λ r. ⌜ r ≡ frm-step t (fields (now (w .entry))) ⌝ }
+{
+    if names::formats_match(w, t) {
+        return Step::Go(Phase::Rows(t, 0, 0));
+    }
+    Step::Stop(9)
+}
+
+// A record takes the mark that waits with it.
+pub fn step_rec(w: &[u8], t: usize, m: u64, n: usize) -> Step
+    requires { ⌜ n + 1 < 18446744073709551616 ⌝ }
+    ensures { λ r. ⌜ r ≡ rec-step t m n (fields (now (w .entry))) ⌝ }
+{
+    let v = judge_record(w, t, m);
+    if v == 0 {
+        return Step::Go(Phase::Rows(t, 0, n + 1));
+    }
+    Step::Stop(v)
+}
+
+// "The count equals the number of `rec` lines": f is the field of the `end` line.
+fn step_count(f: &[u8], t: usize, n: usize) -> Step
+    ensures { λ r. ⌜ r ≡ count-step t n (numberOf (now (f .entry))) ⌝ }
+{
+    match digits::read_number(f) {
+        Number::Plus(c) => {
+            if c == n as u64 {
+                return Step::Go(Phase::Ended(t, n));
+            }
+            Step::Stop(16)
+        }
+        Number::Minus(_) => Step::Stop(16),
+        Number::Nothing => Step::Stop(12),
+    }
+}
+
+// "`end` 15 for a mark without record, 10, 12, 16"
+pub fn step_end(w: &[u8], t: usize, m: u64, n: usize) -> Step
+    ensures { λ r. ⌜ r ≡ end-step t m n (fields (now (w .entry))) ⌝ }
+{
+    if m != 0 {
+        return Step::Stop(15);
+    }
+    if commands::count_fields(w) != 1 {
+        return Step::Stop(10);
+    }
+    step_count(commands::field_at(w, 0), t, n)
+}
+
+// "A mark that is unreadable, not allowed, not rising, before `frm` or after `end` is 15 at its own line."
+pub fn step_mark(p: Phase, i: u64) -> Step
+    ensures { λ r. ⌜ r ≡ mark-step p i ⌝ }
+{
+    match p {
+        Phase::Tbl => Step::Stop(15),
+        Phase::Atr(_) => Step::Stop(15),
+        Phase::Frm(_) => Step::Stop(15),
+        Phase::Rows(t, m, n) => {
+            if !page::tables::may_mark(t, i) {
+                return Step::Stop(15);
+            }
+            if m < i {
+                return Step::Go(Phase::Rows(t, i, n));
+            }
+            Step::Stop(15)
+        }
+        Phase::Ended(_, _) => Step::Stop(15),
+    }
+}
+
+pub fn step_com(w: &[u8], p: Phase) -> Step
+    ensures { λ r. ⌜ r ≡ com-step p (remarkOf (now (w .entry))) ⌝ }
+{
+    match quoted::read_remark(w) {
+        Remark::Comment => Step::Go(p),
+        Remark::Unreadable => Step::Stop(15),
+        Remark::Mark(i) => step_mark(p, i),
+    }
+}
+
+fn step_rows(w: &[u8], t: usize, m: u64, n: usize, k: u32) -> Step
+    requires { ⌜ n + 1 < 18446744073709551616 ⌝ }
+    ensures { λ r. ⌜ r ≡ line-step (P.Rows t m n) k (now (w .entry)) ⌝ }
+{
+    if k == commands::REC {
+        return step_rec(w, t, m, n);
+    }
+    if k == commands::END {
+        return step_end(w, t, m, n);
+    }
+    Step::Stop(6)
+}
+
+// A line of a known command k, other than `com`, with w after its first `;`: "known command out of its order" is 6.
+pub fn step_line(w: &[u8], p: Phase, k: u32) -> Step
+    requires { ⌜ records-in p + 1 < 18446744073709551616 ⌝ }
+    ensures { λ r. ⌜ r ≡ line-step p k (now (w .entry)) ⌝ }
+{
+    match p {
+        Phase::Tbl => {
+            if k == commands::TBL {
+                return step_tbl(w);
+            }
+            Step::Stop(6)
+        }
+        Phase::Atr(t) => {
+            if k == commands::ATR {
+                return step_atr(w, t);
+            }
+            Step::Stop(6)
+        }
+        Phase::Frm(t) => {
+            if k == commands::FRM {
+                return step_frm(w, t);
+            }
+            Step::Stop(6)
+        }
+        Phase::Rows(t, m, n) => step_rows(w, t, m, n, k),
+        Phase::Ended(_, _) => Step::Stop(6),
+    }
+}
+
+// "in `rec` lines under ISO8859-1 also every byte 161..255"
+fn is_wide(latin: bool, k: u32) -> bool
+    ensures { λ r. ⌜ r ≡ (latin && eqb k Rec) ⌝ }
+{
+    if latin { k == commands::REC } else { false }
+}
+
+// "in that line the first of 4, 5, 6, then" its command's own: c is the line's content.
+pub fn step_content(c: &[u8], p: Phase, latin: bool) -> Step
+    requires { ⌜ records-in p + 1 < 18446744073709551616 ⌝ }
+    ensures { λ r. ⌜ r ≡ content-step latin p (now (c .entry)) ⌝ }
+{
+    let k = commands::command_of(c);
+    if !lines::all_allowed(c, is_wide(latin, k)) {
+        return Step::Stop(4);
+    }
+    if lines::is_blank(c) {
+        return Step::Go(p);
+    }
+    if commands::UNKNOWN <= k {
+        return Step::Stop(5);
+    }
+    let w = lines::rest_of(c);
+    if k == commands::COM {
+        return step_com(w, p);
+    }
+    step_line(w, p, k)
+}
+
+pub fn step(l: &[u8], p: Phase, latin: bool) -> Step
+    requires { ⌜ records-in p + 1 < 18446744073709551616 ⌝ }
+    ensures { λ r. ⌜ r ≡ step latin p (now (l .entry)) ⌝ }
+{
+    step_content(lines::content_of(l), p, latin)
+}

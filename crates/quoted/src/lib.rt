@@ -1,0 +1,10 @@
+// Quoted texts, and the marks that they make.
+mod marks;
+mod texts;
+
+pub use marks::read_remark;
+pub use texts::Size;
+pub use texts::is_empty_text;
+pub use texts::own_size;
+pub use texts::text_size;
+pub use texts::texts_equal;

@@ -1,0 +1,84 @@
+// "A text field is one closed quoted string with nothing beside it; a doubled quote inside stands for one." A text is read where it
+// stands: nothing here copies it.
+ghost use mathlib.Core.Path.{_≡_};
+ghost use mathlib.Core.Bool.{false};
+ghost use lib.ListN.{length};
+ghost use Rattle.page.specs.Bytes.{same};
+ghost use Rattle.page.specs.Fields.{bodyOf, textOf};
+ghost use Rattle.page.specs.Section.{record-text, no-bytes};
+ghost use Rattle.page.specs.Records.{own-bytes};
+ghost use Rattle.quoted.specs.Sizes.{sizeOf};
+
+// How many bytes a text stands for.
+pub enum Size {
+    Is(usize),
+    Nothing,
+}
+
+// What follows the opening quote.
+fn body_size(w: &[u8]) -> Size
+    ensures { λ r. ⌜ r ≡ sizeOf (bodyOf false (now (w .entry))) ⌝ }
+{
+    let mut met = false;
+    let mut n: usize = 0;
+    let mut i = 0;
+    while i < w.len() {
+        let b = w[i];
+        i += 1;
+        if met {
+            if b != 34 {
+                return Size::Nothing;
+            }
+            met = false;
+            n += 1; // the pair
+        } else {
+            if b == 34 {
+                met = true;
+            } else {
+                n += 1;
+            }
+        }
+    }
+    if met { Size::Is(n) } else { Size::Nothing }
+}
+
+pub fn text_size(f: &[u8]) -> Size
+    ensures { λ r. ⌜ r ≡ sizeOf (textOf (now (f .entry))) ⌝ }
+{
+    if f.len() == 0 {
+        return Size::Nothing;
+    }
+    if f[0] != 34 {
+        return Size::Nothing;
+    }
+    body_size(&f[1..])
+}
+
+// How many bytes a record's text stands for, and 0 for a field that is no text.
+pub fn own_size(f: &[u8]) -> usize
+    ensures { λ r. ⌜ r ≡ length (own-bytes (record-text (now (f .entry)))) ⌝ }
+{
+    match text_size(f) {
+        Size::Is(n) => n,
+        Size::Nothing => 0,
+    }
+}
+
+// Two fields, with their quotes, as a record's texts: different bytes are different texts, so neither is undone.
+pub fn texts_equal(f: &[u8], g: &[u8]) -> bool
+    ensures { λ r. ⌜ r ≡ same (own-bytes (record-text (now (f .entry)))) (own-bytes (record-text (now (g .entry)))) ⌝ }
+{
+    if lines::equal(f, g) {
+        return true;
+    }
+    if own_size(f) != 0 {
+        return false;
+    }
+    own_size(g) == 0
+}
+
+pub fn is_empty_text(f: &[u8]) -> bool
+    ensures { λ r. ⌜ r ≡ no-bytes (record-text (now (f .entry))) ⌝ }
+{
+    lines::equal(f, b"\"\"")
+}

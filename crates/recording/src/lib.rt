@@ -1,0 +1,7 @@
+// Records and sections of the written file.
+mod record;
+mod section;
+
+pub use section::Progress;
+pub use section::put_section;
+pub use section::read_table;

@@ -1,0 +1,137 @@
+-- Where the references of a table go, and what is reached there. Assumes nothing.
+use mathlib.Core.Path.{_≡_, refl, ap, sym, _∙_}
+use mathlib.Core.Bool.{Bool, true, false, not}
+use mathlib.Core.List.{List, [], _∷_, _++_}
+use Prim.Native.Nat.{ℕ, zero, suc, _+_, _-_, _<_, _≤_}
+use native.Mathlib.Omega.{arith}
+use borrow.Author.Count.{below-more}
+use borrow.Author.Tests.{leb-true, eq-eqb, ne-eqb, eqb-true, eqb-false}
+use lib.Dec.{eqb, leb}
+use lib.ListN.{length, getD, take, drop}
+use Rattle.page.specs.Bytes.{Bytes, pick}
+use Rattle.page.specs.Lines.{lines, content, command, rest, Rec}
+use Rattle.page.specs.Fields.{fields}
+use Rattle.page.specs.Tables.{Table, all-tables, table-at, standing}
+use Rattle.page.specs.Records.{valuesOf}
+use Rattle.page.specs.File.{any, by-primary, lost, first-record, filedOf}
+use Rattle.page.specs.declared.Refusal.{Refusal}
+use Rattle.page.proofs.TableLaws.{each, table-test}
+use Rattle.keys.specs.Numbers.{key-choice, refer-numbers, reference-at, target-at}
+use Rattle.references.specs.declared.aims.Aim.{Aim}
+use Rattle.references.specs.declared.aims.Aims.{Aims}
+use Rattle.seats.specs.declared.seating.Seat.{Seat}
+use Rattle.seats.specs.declared.seating.Seats.{Seats}
+use Rattle.scans.specs.Scan.{is-record, first-line, some}
+use Rattle.seats.specs.Seating.{seat-at, Ready}
+use Rattle.seats.specs.Faults.{misses, loses, loses-any, lost-line, Looked}
+use Rattle.references.specs.Aims.{aim-at, reached, lacks, lacks-some, lacks-any, Aimed, Within, Aiming}
+use Rattle.references.proofs.LostLaws.{place-few, reaches-none, reaches-some, lost-none, lost-at}
+use Rattle.seats.proofs.RepeatLaws.{seat-bounds}
+
+pub few-references : (t n : ℕ) → n ≡ length (table-at t .references) → n ≤ 3
+unfolding each all-tables
+few-references t n e =
+    let l : length (table-at t .references) ≤ 3 = leb-true _ _ (table-test (λ (x : Table). leb (length (x .references)) 3) refl refl t) in
+    omega arith
+
+module _ (s : Bytes) (seats : Seats) (z : Ready s seats) (t r u : ℕ) (x : u ≡ target-at t r) (p : ℕ) (q : p ≡ getD (seats .place) u 0) where
+  -- a target without a section
+  pub aimed-none : p ≡ 0 → (f : ℕ) → Aimed s seats t r (record { refer = f; target = u; from = 0; to = 0; key = 0 })
+  unfolding reached lines any
+  aimed-none e f = record { low = omega arith; high = omega arith; is = λ fs. reaches-none s seats z t r fs u x p q e }
+
+  pub aimed-some : (p ≡ 0 → ⊥) → (a : Seat) → a ≡ seat-at seats (p - 1) → (k : ℕ) → k ≡ key-choice by-primary u
+      → (g : ℕ) → Aimed s seats t r (record { refer = g; target = u; from = a .from; to = a .to; key = k })
+  unfolding reached
+  aimed-some n a e k f g =
+      let b = seat-bounds s seats z (p - 1) (place-few s seats z u p q n) a e in
+      record { low = b .0; high = b .1; is = λ fs. reaches-some s seats z t r fs u x p q n a e k f _ refl }
+
+pub aiming-three : (s : Bytes) (seats : Seats) (t : ℕ) (aims : Aims) → Aimed s seats t 0 (aim-at aims 0) → Aimed s seats t 1 (aim-at aims 1) → Aimed s seats t 2 (aim-at aims 2) → Aiming s seats t aims
+aiming-three s seats t aims a b c = record { each = by }
+  where
+    by : (r : ℕ) → r < 3 → Aimed s seats t r (aim-at aims r)
+    by zero h = a
+    by (suc zero) h = b
+    by (suc (suc zero)) h = c
+    by (suc (suc (suc r))) h = absurd (omega arith)
+
+pub aims-within : {s : Bytes} {seats : Seats} {t : ℕ} {aims : Aims} → Aiming s seats t aims → Within s aims
+aims-within z = record { each = λ r h. (z .each r h .low, z .each r h .high) }
+
+pub aim-bounds : {s : Bytes} {aims : Aims} → Within s aims → (r : ℕ) → r < 3 → (a : Aim) → a ≡ aim-at aims r → (a .from ≤ a .to) × (a .to ≤ length s)
+aim-bounds z r h a e = rw e (z .each r h)
+
+pub reached-at : (s : Bytes) (aims : Aims) (r : ℕ) (a : Aim) → a ≡ aim-at aims r → (k : List ℕ) (x : Bool) → x ≡ reached s a k → x ≡ reached s (aim-at aims r) k
+reached-at s aims r a e k x q = q ∙ ap (λ (y : Aim). reached s y k) e
+
+some-same : (p q : ℕ → Bool) (i n : ℕ) → ((k : ℕ) → k < i + n → p k ≡ q k) → some p i n ≡ some q i n
+unfolding some
+some-same p q i zero h = refl
+some-same p q i (suc n) h = rw (h i (omega arith), some-same p q (suc i) n (λ k l. h k (omega arith)))
+
+-- a line that lacks a record by its aims loses it
+pub loses-is : {s : Bytes} {seats : Seats} {t : ℕ} {aims : Aims} → Aiming s seats t aims → (l : Bytes) → loses s seats t l ≡ lacks-some s aims t l
+unfolding loses lacks-some misses lacks
+loses-is {s} {seats} {t} {aims} z l =
+    let n = length (table-at t .references) in
+    let fs = fields (rest (content l)) in
+    let few : n ≤ 3 = few-references t n refl in
+    ap (λ (b : Bool). pick (is-record l) b false) (some-same (misses s seats t fs) (lacks s aims t fs) 0 n (λ k h. ap not (z .each k (omega arith) .is fs)))
+
+line-same : (f g : List Bytes → Bytes → Bool) → ((b : List Bytes) (l : Bytes) → f b l ≡ g b l) → (b : List Bytes) (n : ℕ) (ls : List Bytes) → first-line f b n ls ≡ first-line g b n ls
+unfolding first-line
+line-same f g h b n [] = refl
+line-same f g h b n (l ∷ ls) = rw (h b l, line-same f g h (b ++ l ∷ []) (suc n) ls)
+
+-- the first line of a seat that lacks a record is the first that loses one
+pub lost-by : (s : Bytes) (seats : Seats) (i : ℕ) (a : Seat) → a ≡ seat-at seats i → (aims : Aims) → Aiming s seats (a .table) aims
+    → (n : ℕ) → first-line (lacks-any s aims (a .table)) [] 0 (lines (take (a .to - a .from) (drop (a .from) s))) ≡ n → lost-line s seats (seat-at seats i) ≡ n
+unfolding lost-line
+lost-by s seats i a e aims z n q =
+    rw (sym e) (line-same (loses-any s seats (a .table)) (lacks-any s aims (a .table)) (λ b l. loses-is z l) [] 0 (lines (take (a .to - a .from) (drop (a .from) s))) ∙ q)
+
+module _ (s : Bytes) (aims : Aims) (t : ℕ) where
+  pub lacks-is : (fs : List Bytes) (k : ℕ) (key : List ℕ) → key ≡ refer-numbers (reference-at t k .columns) (valuesOf 0 1 (standing t) fs)
+      → (x b : Bool) → x ≡ reached s (aim-at aims k) key → not x ≡ b → lacks s aims t fs k ≡ b
+  unfolding lacks
+  lacks-is fs k key e x b q f = rw (sym e, sym q) f
+
+  module _ (l c : Bytes) (k : ℕ) (a : c ≡ content l) (b : k ≡ command c) where
+    pub lacks-other : (k ≡ 11 → ⊥) → lacks-some s aims t l ≡ false
+    unfolding lacks-some is-record
+    lacks-other n = rw (sym a, sym b, ne-eqb k Rec n)
+
+    pub lacks-record : k ≡ 11 → (f : Bytes) → f ≡ rest c → (n : ℕ) → n ≡ length (table-at t .references) → lacks-some s aims t l ≡ some (lacks s aims t (fields f)) 0 n
+    unfolding lacks-some is-record
+    lacks-record e f x n y = rw (x, y, a, ap command (sym a) ∙ sym b, eq-eqb k Rec e)
+
+-- section after section
+module _ (s : Bytes) (seats : Seats) (z : Ready s seats) where
+  pub looked-none : (n : ℕ) → n ≡ 0 → Looked s seats n (record { number = 0; section = 0; line = 0 })
+  looked-none n z = record { none = λ e. (refl, λ m h. absurd (omega arith)); some = λ n. absurd (n refl) }
+
+  module _ (n : ℕ) (k : n ≡ 0 → ⊥) (r : Refusal) (y : Looked s seats (n - 1) r) where
+    pub looked-some : (r .number ≡ 0 → ⊥) → Looked s seats n r
+    looked-some e = record { none = λ q. absurd (e q); some = y .some }
+
+    module _ (e : r .number ≡ 0) (l : ℕ) (q : l ≡ lost-line s seats (seat-at seats (n - 1))) where
+      pub looked-more : l ≡ 0 → Looked s seats n r
+      looked-more f =
+          let o : n ≡ (n - 1) + 1 = omega arith in
+          let b = y .none e in
+          record { none = λ q2. (b .0, λ m h. below-more _ _ (b .1) (sym q ∙ f) m (omega arith)); some = λ x. absurd (x e) }
+
+      pub looked-lost : (l ≡ 0 → ⊥) → n ≤ seats .count → Looked s seats n (record { number = 20; section = n; line = l })
+      looked-lost f h =
+          let o : (n - 1) + 1 ≡ n = omega arith in
+          let p : (l - 1) + 1 ≡ l = omega arith in
+          let a = lost-at s seats z (n - 1) (l - 1) (omega arith) (y .none e .1) (sym q ∙ sym p) in
+          record { none = λ x. absurd (omega arith); some = λ x. sym (rw (o, p) at a) }
+
+  pub looked-all : (r : Refusal) → Looked s seats (seats .count) r → r ≡ first-record 20 (λ before. lost (filedOf s)) [] (filedOf s)
+  looked-all r y = by (eqb (r .number) 0) refl
+    where
+      by : (b : Bool) → eqb (r .number) 0 ≡ b → r ≡ first-record 20 (λ before. lost (filedOf s)) [] (filedOf s)
+      by true e = let b = y .none (eqb-true (r .number) 0 e) in b .0 ∙ sym (lost-none s seats z (b .1))
+      by false e = y .some (eqb-false (r .number) 0 e)

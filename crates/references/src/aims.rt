@@ -1,0 +1,94 @@
+// Where the references of a table go: asked for once a section.
+ghost use mathlib.Core.Path.{_≡_};
+ghost use lib.ListN.{getD};
+ghost use Rattle.seats.specs.Seating.{Ready};
+ghost use Rattle.references.specs.Aims.{aim-at, Aimed, Aiming};
+use page::tables::TABLES;
+use seats::Seats;
+use seats::find_seat;
+
+// The most references that a table has.
+pub const MOST: usize = 3;
+
+// A reference's fields, its target by its place in the list of tables, the bytes of the target's section, none if it has no section, and
+// the fields of the target's key.
+pub struct Aim {
+    pub refer: u64,
+    pub target: usize,
+    pub from: usize,
+    pub to: usize,
+    pub key: u64,
+}
+
+// Each has its own field, not a place in an array, so that what a loop needs of them stays in the machine's registers.
+pub struct Aims {
+    pub first: Aim,
+    pub second: Aim,
+    pub third: Aim,
+}
+
+// The section of a table, from 1, or 0.
+fn find_place(seats: Seats, t: usize) -> usize
+    ensures { λ r. ⌜ r ≡ getD (seats .place) t 0 ⌝ }
+{
+    let all = seats.place;
+    if t < TABLES {
+        return all[t];
+    }
+    0
+}
+
+fn take_aim(s: &[u8], seats: Seats, t: usize, r: usize) -> Aim
+    requires { ⌜ Ready (now s) seats ⌝ }
+    ensures { λ x. ⌜ Aimed (now (s .entry)) seats t r x ⌝ }
+{
+    let refer = keys::choose_reference(t, r);
+    let u = keys::find_target(t, r);
+    let k = find_place(seats, u);
+    if k == 0 {
+        return Aim {
+            refer: refer,
+            target: u,
+            from: 0,
+            to: 0,
+            key: 0,
+        };
+    }
+    let seat = find_seat(seats, k - 1);
+    let from = seat.from;
+    let to = seat.to;
+    let key = keys::choose_key(u, false);
+    Aim {
+        refer: refer,
+        target: u,
+        from: from,
+        to: to,
+        key: key,
+    }
+}
+
+pub fn take_aims(s: &[u8], seats: Seats, t: usize) -> Aims
+    requires { ⌜ Ready (now s) seats ⌝ }
+    ensures { λ x. ⌜ Aiming (now (s .entry)) seats t x ⌝ }
+{
+    let a = take_aim(s, seats, t, 0);
+    let b = take_aim(s, seats, t, 1);
+    let c = take_aim(s, seats, t, 2);
+    Aims {
+        first: a,
+        second: b,
+        third: c,
+    }
+}
+
+pub fn find_aim(aims: Aims, r: usize) -> Aim
+    ensures { λ x. ⌜ x ≡ aim-at aims r ⌝ }
+{
+    if r == 0 {
+        return aims.first;
+    }
+    if r == 1 {
+        return aims.second;
+    }
+    aims.third
+}

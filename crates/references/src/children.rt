@@ -1,0 +1,114 @@
+// Guesses for the references of the records of a section, from one record on until the room is used up: one walk over these records, and one
+// over the records of each target.
+ghost use mathlib.Core.Path.{_≡_};
+ghost use Prim.Native.Nat.{_<_, _≤_};
+ghost use lib.ListN.{length};
+ghost use Rattle.references.specs.Aims.{Within};
+use crate::aims::Aim;
+use crate::aims::Aims;
+use crate::aims::MOST;
+use crate::aims::find_aim;
+use guesses::Known;
+use guesses::MOST_KEYS;
+use guesses::hash_line;
+use guesses::is_guessed;
+use guesses::keep_end;
+use guesses::note_key;
+use guesses::note_place;
+use guesses::wipe;
+use lines::Cursor;
+
+fn widen(t: usize) -> u64 {
+    t as u64
+}
+
+// Of the record that a line refers to: its table and its key.
+pub fn hash_reference(w: &[u8], at: usize, a: Aim) -> u64 {
+    hash_line(w, at, a.refer).hash ^ widen(a.target)
+}
+
+// How many keys that were not marked a line refers to.
+fn note_record(w: &[u8], at: usize, aims: Aims, known: Known, g: &mut [u32]) -> usize
+    requires { ⌜ length (now g) ≡ 57344 ⌝ }
+    ensures { λ r. ⌜ r ≤ 3 ⌝ }
+{
+    let mut new: usize = 0;
+    let mut next: usize = 0;
+    while next < MOST {
+        let r = next;
+        next += 1;
+        if is_guessed(known, r) {
+            new += note_key(g, hash_reference(w, at, find_aim(aims, r)));
+        }
+    }
+    new
+}
+
+// Where the guesses end.
+fn note_records(w: &[u8], at: usize, aims: Aims, known: Known, g: &mut [u32]) -> usize
+    requires { ⌜ length (now g) ≡ 57344 ⌝ }
+{
+    let mut count: usize = 0;
+    let mut from = at;
+    while from < w.len() {
+        if MOST_KEYS <= count {
+            return from;
+        }
+        let here = from;
+        let l = Cursor { at: here }.line(w);
+        from = l.span.to;
+        count += note_record(w, here, aims, known, g);
+    }
+    from
+}
+
+fn note_targets(w: &[u8], t: usize, choice: u64, g: &mut [u32])
+    requires { ⌜ length (now g) ≡ 57344 ⌝ }
+{
+    let mut from: usize = 0;
+    while from < w.len() {
+        let here = from;
+        let x = hash_line(w, here, choice);
+        from = x.next;
+        if from <= here {
+            return;
+        }
+        note_place(g, x.hash ^ widen(t), here);
+    }
+}
+
+// Are the records of the third reference's target noted already, for the second?
+fn is_noted(aims: Aims, known: Known, r: usize) -> bool {
+    if r != 2 {
+        return false;
+    }
+    is_guessed(known, 1) && aims.second.target == aims.third.target
+}
+
+// Are the records of a reference's target to be noted?
+fn wants_targets(aims: Aims, known: Known, r: usize) -> bool {
+    if is_noted(aims, known, r) {
+        return false;
+    }
+    is_guessed(known, r)
+}
+
+// `w` is the section, `at` the record's line in it.
+pub fn guess_from(s: &[u8], w: &[u8], at: usize, aims: Aims, known: Known, g: &mut [u32]) -> Known
+    requires { ⌜ Within (now s) aims × (length (now g) ≡ 57344) ⌝ }
+{
+    wipe(g);
+    let until = note_records(w, at, aims, known, g);
+    let mut next: usize = 0;
+    while next < MOST {
+        let r = next;
+        next += 1;
+        if wants_targets(aims, known, r) {
+            let a = find_aim(aims, r);
+            let from = a.from;
+            let to = a.to;
+            note_targets(&s[from..to], a.target, a.key, g);
+        }
+    }
+    keep_end(known, until)
+}

@@ -1,0 +1,6 @@
+// 20: "a reference finds no record".
+mod aims;
+mod children;
+mod references;
+
+pub use references::first_lost;

@@ -1,0 +1,252 @@
+// 20: "a reference finds no record".
+ghost use mathlib.Core.Path.{_≡_};
+ghost use mathlib.Core.Bool.{true};
+ghost use mathlib.Core.List.{[]};
+ghost use Prim.Native.Nat.{_-_, _<_, _≤_};
+ghost use lib.ListN.{length, take, drop};
+ghost use Rattle.page.specs.File.{lost, first-record, filedOf};
+ghost use Rattle.seats.specs.Seating.{seat-at, Ready};
+ghost use Rattle.seats.specs.Faults.{lost-line, Looked};
+ghost use Rattle.references.specs.Aims.{aim-at, reached, lacks-some, Within};
+use crate::aims::Aim;
+use crate::aims::Aims;
+use crate::aims::find_aim;
+use crate::aims::take_aims;
+use crate::children::guess_from;
+use crate::children::hash_reference;
+use guesses::Known;
+use guesses::ROOM;
+use guesses::finds_guessed;
+use guesses::finds_near;
+use guesses::is_guessed;
+use guesses::keep_place;
+use guesses::last_place;
+use guesses::let_guess;
+use guesses::nothing_known;
+use keys::Key;
+use lines::Cursor;
+use page::Refusal;
+use scans::Find;
+use scans::finds_from;
+use seats::Seats;
+use seats::find_seat;
+
+// Whether a reference finds its record, and what is known then.
+struct Reach {
+    met: bool,
+    known: Known,
+}
+
+// How many lines from the last record on are read before guesses are made.
+const NEAR: usize = 16;
+
+// Is the record that a key names soon found? `at` is the place in section w of the line that refers to it.
+fn reaches_soon(
+    s: &[u8],
+    w: &[u8],
+    at: usize,
+    a: Aim,
+    r: usize,
+    key: Key,
+    known: Known,
+    g: &[u32],
+) -> Find
+    requires { ⌜ (a .from ≤ a .to) × (a .to ≤ length (now s)) × (length (now g) ≡ 57344) ⌝ }
+    ensures { λ x. ⌜ (x .met ≡ true → reached (now (s .entry)) a (key .k) ≡ true) ⌝ }
+{
+    let from = a.from;
+    let to = a.to;
+    if at < known.until {
+        if is_guessed(known, r) {
+            return finds_guessed(&s[from..to], g, hash_reference(w, at, a), a.key, key);
+        }
+    }
+    finds_near(&s[from..to], last_place(known, r), NEAR, a.key, key)
+}
+
+// With guesses for a reference, unless it has them at a place.
+fn guess_more(
+    s: &[u8],
+    w: &[u8],
+    at: usize,
+    aims: Aims,
+    r: usize,
+    known: Known,
+    g: &mut [u32],
+) -> Known
+    requires { ⌜ Within (now s) aims × (length (now g) ≡ 57344) ⌝ }
+{
+    if at < known.until {
+        if is_guessed(known, r) {
+            return known;
+        }
+    }
+    guess_from(s, w, at, aims, let_guess(known, r), g)
+}
+
+fn reaches_late(
+    s: &[u8],
+    w: &[u8],
+    at: usize,
+    a: Aim,
+    r: usize,
+    key: Key,
+    known: Known,
+    g: &[u32],
+) -> Find
+    requires { ⌜ (a .from ≤ a .to) × (a .to ≤ length (now s)) × (length (now g) ≡ 57344) ⌝ }
+    ensures { λ x. ⌜ x .met ≡ reached (now (s .entry)) a (key .k) ⌝ }
+{
+    let x = reaches_soon(s, w, at, a, r, key, known, g);
+    if x.met {
+        return x;
+    }
+    let from = a.from;
+    let to = a.to;
+    finds_from(&s[from..to], last_place(known, r), a.key, key)
+}
+
+// Does reference r of the record at a place of section w find the record that has the key?
+fn reaches(
+    s: &[u8],
+    w: &[u8],
+    at: usize,
+    aims: Aims,
+    r: usize,
+    key: Key,
+    known: Known,
+    g: &mut [u32],
+) -> Reach
+    requires { ⌜ Within (now s) aims × (r < 3) × (length (now g) ≡ 57344) ⌝ }
+    ensures { λ x. ⌜ x .met ≡ reached (now (s .entry)) (aim-at aims r) (key .k) ⌝ }
+{
+    let a = find_aim(aims, r);
+    let soon = reaches_soon(s, w, at, a, r, key, known, &g[..]);
+    if soon.met {
+        return Reach {
+            met: true,
+            known: keep_place(known, r, soon.at),
+        };
+    }
+    let more = guess_more(s, w, at, aims, r, known, g);
+    let late = reaches_late(s, w, at, a, r, key, more, &g[..]);
+    Reach {
+        met: late.met,
+        known: keep_place(more, r, late.at),
+    }
+}
+
+// Whether a reference of a line finds no record, and what is known then.
+struct Loss {
+    lost: bool,
+    known: Known,
+}
+
+// Is the line from a place to e a record of table t with a reference that finds none?
+fn loses(
+    s: &[u8],
+    w: &[u8],
+    at: usize,
+    e: usize,
+    t: usize,
+    aims: Aims,
+    last: Known,
+    g: &mut [u32],
+) -> Loss
+    requires { ⌜ Within (now s) aims × (at ≤ e) × (e ≤ length (now w)) × (length (now g) ≡ 57344) ⌝ }
+    ensures { λ r. ⌜ r .lost ≡ lacks-some (now (s .entry)) aims t (take (e - at) (drop at (now (w .entry)))) ⌝ }
+{
+    let c = lines::content_of(&w[at..e]);
+    if commands::command_of(c) != commands::REC {
+        return Loss {
+            lost: false,
+            known: last,
+        };
+    }
+    let f = lines::rest_of(c);
+    let n = keys::count_references(t);
+    let mut known = last;
+    let mut r: usize = 0;
+    while r < n {
+        let key = keys::read_reference(f, t, r);
+        let x = reaches(s, w, at, aims, r, key, known, g);
+        if !x.met {
+            return Loss {
+                lost: true,
+                known: known,
+            };
+        }
+        known = x.known;
+        r += 1;
+    }
+    Loss {
+        lost: false,
+        known: known,
+    }
+}
+
+// The first line of section i with a reference that finds no record, from 1; 0 if there is none.
+fn lost_line(s: &[u8], seats: Seats, i: usize) -> usize
+    requires { ⌜ Ready (now s) seats × (i < seats .count) ⌝ }
+    ensures { λ r. ⌜ r ≡ lost-line (now (s .entry)) seats (seat-at seats i) ⌝ }
+{
+    let mut guesses: [u32; ROOM] = [0; ROOM];
+    let seat = find_seat(seats, i);
+    let from = seat.from;
+    let to = seat.to;
+    let t = seat.table;
+    let size = to - from;
+    let aims = take_aims(s, seats, t);
+    let mut known = nothing_known();
+    let mut at: usize = 0;
+    let mut n: usize = 0;
+    while at < size {
+        let here = at;
+        let l = Cursor { at: here }.line(&s[from..to]);
+        let e = l.span.to;
+        at = e;
+        n += 1;
+        let x = loses(s, &s[from..to], here, e, t, aims, known, &mut guesses);
+        known = x.known;
+        if x.lost {
+            return n;
+        }
+    }
+    0
+}
+
+// Among the first n sections. A function that calls itself is never made a part of its caller, nor is one with so much room made a part of
+// it: so the room of `lost_line` and that of the search for repeated keys are not on the stack together.
+fn lost_before(s: &[u8], seats: Seats, n: usize) -> Refusal
+    requires { ⌜ Ready (now s) seats × (n ≤ seats .count) ⌝ }
+    ensures { λ r. ⌜ Looked (now (s .entry)) seats n r ⌝ }
+{
+    if n == 0 {
+        return Refusal {
+            number: 0,
+            section: 0,
+            line: 0,
+        };
+    }
+    let before = lost_before(s, seats, n - 1);
+    if before.number != 0 {
+        return before;
+    }
+    let line = lost_line(s, seats, n - 1);
+    if line == 0 {
+        return before;
+    }
+    Refusal {
+        number: 20,
+        section: n,
+        line: line,
+    }
+}
+
+// "each at the first record in file order that breaks it"
+pub fn first_lost(s: &[u8], seats: Seats) -> Refusal
+    requires { ⌜ Ready (now s) seats ⌝ }
+    ensures { λ r. ⌜ r ≡ first-record 20 (λ before. lost (filedOf (now (s .entry)))) [] (filedOf (now (s .entry))) ⌝ }
+{
+    lost_before(s, seats, seats.count)
+}

@@ -1,0 +1,3 @@
+pub mod Local
+pub mod Round
+pub mod RoundKeys

@@ -1,0 +1,4 @@
+pub mod WalkLaws
+pub mod SeatLaws
+pub mod FiledLaws
+pub mod RepeatLaws

@@ -1,0 +1,87 @@
+// Where each table stands.
+ghost use mathlib.Core.Path.{_≡_};
+ghost use Prim.Native.Nat.{_<_};
+ghost use lib.ListN.{length};
+ghost use Rattle.page.specs.Records.{table-of};
+ghost use Rattle.page.specs.Answers.{sound};
+ghost use Rattle.page.specs.File.{rowsOf, first-unsound};
+ghost use Rattle.cut.specs.Walk.{Settled, section-from};
+ghost use Rattle.seats.specs.Seating.{seat-at, Seating};
+use lines::Cursor;
+use page::tables::TABLES;
+
+// A section: its table by its place in the list of tables, and its bytes.
+pub struct Seat {
+    pub table: usize,
+    pub from: usize,
+    pub to: usize,
+}
+
+// The sections in file order; the section of each table, from 1, or 0; and the first section whose table stands before it, or 0.
+pub struct Seats {
+    pub again: usize,
+    pub count: usize,
+    pub seats: [Seat; TABLES],
+    pub place: [usize; TABLES],
+}
+
+// The table that a section's first line names.
+fn read_table(s: &[u8], from: usize) -> usize
+    requires { ⌜ (from < length (now s)) × Settled (now s) from ⌝ }
+    ensures { λ r. ⌜ r ≡ table-of (section-from (now (s .entry)) from .lines) ⌝ }
+{
+    let l = Cursor { at: from }.line(s);
+    let e = l.span.to;
+    let c = lines::content_of(&s[from..e]);
+    names::find_table(commands::field_at(lines::rest_of(c), 0))
+}
+
+// One walk over the sections, so that the file is never searched for a table again.
+pub fn seat_tables(s: &[u8]) -> Seats
+    requires { ⌜ first-unsound 1 (rowsOf (now s)) ≡ sound ⌝ }
+    ensures { λ r. ⌜ Seating (now (s .entry)) r ⌝ }
+{
+    let mut seats = [Seat {
+        table: 0,
+        from: 0,
+        to: 0,
+    }; TABLES];
+    let mut place = [0; TABLES];
+    let mut n: usize = 0;
+    let mut at = cut::find_section(s, 0);
+    while at < s.len() {
+        let from = at;
+        let to = cut::section_end(s, from);
+        let t = read_table(s, from);
+        at = cut::find_section(s, to);
+        if place[t] != 0 {
+            return Seats {
+                again: n + 1,
+                count: n,
+                seats: seats,
+                place: place,
+            };
+        }
+        seats[n] = Seat {
+            table: t,
+            from: from,
+            to: to,
+        };
+        n += 1;
+        place[t] = n;
+    }
+    Seats {
+        again: 0,
+        count: n,
+        seats: seats,
+        place: place,
+    }
+}
+
+pub fn find_seat(seats: Seats, i: usize) -> Seat
+    requires { ⌜ i < 8 ⌝ }
+    ensures { λ r. ⌜ r ≡ seat-at seats i ⌝ }
+{
+    let all = seats.seats;
+    all[i]
+}

@@ -1,0 +1,4 @@
+// A file's trailer.
+mod trailer;
+
+pub use trailer::read_trailer;

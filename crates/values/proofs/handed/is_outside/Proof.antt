@@ -1,0 +1,19 @@
+-- `values::handed::is_outside` meets its contract. Assumes nothing.
+use Prim.Native.Nat.{_-_}
+use borrow.Author.Tests.{eq-eqb, ne-eqb}
+use Rattle.page.specs.Reading.{outside}
+use Rattle.values.proofs.handed.is_outside.Statement.{statement}
+use Rattle.values.proofs.handed.is_outside.Tie as tie
+
+returns : tie.Need-returns
+unfolding outside
+returns c =
+    rw (eq-eqb (c .before .args .i) 0 (c .if1 .taken))
+
+returns-2 : tie.Need-returns-2
+unfolding outside
+returns-2 c =
+    rw (ne-eqb (c .before .args .i) 0 (c .if1 .left))
+
+pub is-outside-spec : {M : Type 1} → statement M
+is-outside-spec = tie.close (tie.spec returns returns-2)

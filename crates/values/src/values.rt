@@ -1,0 +1,140 @@
+// One value of a record.
+ghost use mathlib.Core.Path.{_≡_};
+ghost use Prim.Native.Nat.{_+_, _-_, _<_, _≤_};
+ghost use lib.Dec.{eqb};
+ghost use lib.ListN.{length, take, drop};
+ghost use Rattle.page.specs.Lines.{lines, content, command, Rec};
+ghost use Rattle.page.specs.Fields.{fields};
+ghost use Rattle.page.specs.Marks.{owner-of};
+ghost use Rattle.page.specs.Records.{waits};
+ghost use Rattle.page.specs.Places.{stands, record-at};
+ghost use Rattle.page.specs.File.{limit};
+ghost use Rattle.page.specs.Reading.{words-in, value-in};
+ghost use Rattle.page.proofs.LineLaws.{line-size};
+ghost use Rattle.values.specs.Values.{Placed};
+use judging::amount_at;
+use lines::Cursor;
+use page::Owner;
+use page::Remark;
+use page::Text;
+use page::Value;
+
+// A record's fields: what stands after its line's first `;`, and the field of the mark that waits for it (0: none).
+pub struct Place {
+    pub from: usize,
+    pub to: usize,
+    pub mark: u64,
+}
+
+pub fn is_record(l: &[u8]) -> bool
+    ensures { λ r. ⌜ r ≡ eqb (command (content (now (l .entry)))) Rec ⌝ }
+{
+    commands::command_of(lines::content_of(l)) == commands::REC
+}
+
+// The mark that waits after a line: "It speaks of the next `rec`."
+pub fn wait_on(l: &[u8], m: u64) -> u64
+    ensures { λ r. ⌜ r ≡ waits m (content (now (l .entry))) ⌝ }
+{
+    let c = lines::content_of(l);
+    if commands::command_of(c) != commands::COM {
+        return m;
+    }
+    match quoted::read_remark(lines::rest_of(c)) {
+        Remark::Comment => m,
+        Remark::Unreadable => m,
+        Remark::Mark(i) => i,
+    }
+}
+
+// The fields of the `rec` line from `at` to `e`.
+pub fn place_fields(s: &[u8], at: usize, e: usize, m: u64) -> Place
+    requires { ⌜ (at < length (now s))
+        × (e ≡ at + line-size (drop at (now s)))
+        × (command (content (take (e - at) (drop at (now s)))) ≡ Rec) ⌝ }
+    ensures { λ r. ⌜ Placed (now (s .entry)) (stands at (take (e - at) (drop at (now (s .entry)))) m) r ⌝ }
+{
+    let to = at + lines::content_len(&s[at..e]);
+    let i = lines::find_semicolon(&s[at..to]);
+    Place {
+        from: at + i + 1,
+        to: to,
+        mark: m,
+    }
+}
+
+// The record after r others, among the lines from a place on.
+pub fn find_record(s: &[u8], from: usize, r: usize) -> Place
+    requires { ⌜ from ≤ length (now s) ⌝ }
+    ensures { λ x. ⌜ Placed (now (s .entry)) (record-at r 0 from (lines (drop from (now (s .entry))))) x ⌝ }
+{
+    let mut c = Cursor { at: from };
+    let mut m: u64 = 0;
+    let mut k = r;
+    while c.at < s.len() {
+        let at = c.at;
+        let l = c.line(s);
+        let e = l.span.to;
+        c = l.next;
+        if is_record(&s[at..e]) {
+            if k == 0 {
+                return place_fields(s, at, e, m);
+            }
+            k -= 1;
+            m = 0;
+        } else {
+            m = wait_on(&s[at..e], m);
+        }
+    }
+    Place {
+        from: 0,
+        to: 0,
+        mark: 0,
+    }
+}
+
+// "Each text handed out says whose it is."
+pub fn owner_of(m: u64, f: usize) -> Owner
+    ensures { λ r. ⌜ r ≡ owner-of m f ⌝ }
+{
+    if m == f as u64 {
+        return Owner::Suggestion;
+    }
+    Owner::Operator
+}
+
+pub fn one_less(n: usize) -> usize
+    ensures { λ r. ⌜ r ≡ n - 1 ⌝ }
+{
+    if n == 0 {
+        return 0;
+    }
+    n - 1
+}
+
+// Field f, from 1, of the record whose fields are w and stand at a place of the file.
+fn find_words(w: &[u8], at: usize, m: u64, f: usize) -> Text
+    requires { ⌜ (0 < f) × (f - 1 < length (fields (now w))) × (at + length (now w) ≤ limit) ⌝ }
+    ensures { λ r. ⌜ r ≡ words-in (record { at = at; rest = now (w .entry); mark = m }) f ⌝ }
+{
+    let sp = commands::find_field(w, f - 1);
+    let a = sp.from;
+    let e = sp.to;
+    Text {
+        from: at + (a + 1),
+        to: at + one_less(e),
+        owner: owner_of(m, f),
+    }
+}
+
+pub fn value_in(w: &[u8], at: usize, m: u64, t: usize, f: usize) -> Value
+    requires { ⌜ (0 < f) × (f - 1 < length (fields (now w))) × (at + length (now w) ≤ limit) ⌝ }
+    ensures { λ r. ⌜ r ≡ value-in t (record { at = at; rest = now (w .entry); mark = m }) f ⌝ }
+{
+    let k = f - 1;
+    let column = page::tables::find_column(t, k);
+    if column.text {
+        return Value::Words(find_words(w, at, m, f));
+    }
+    Value::Number(amount_at(w, k))
+}

@@ -1,0 +1,12 @@
+pub mod HeaderLines
+pub mod Headers
+pub mod Trailers
+pub mod Firsts
+pub mod Contents
+pub mod Offenders
+pub mod Splits
+pub mod Keys
+pub mod Files
+pub mod Witnesses
+pub mod Completions
+pub mod Numbers

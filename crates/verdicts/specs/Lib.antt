@@ -1,0 +1,4 @@
+pub mod Headers
+pub mod Trailers
+pub mod First
+pub mod Files

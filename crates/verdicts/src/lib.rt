@@ -1,0 +1,1 @@
+// The file's answer, number by number.
