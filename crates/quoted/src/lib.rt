@@ -5,6 +5,4 @@ mod texts;
 pub use marks::read_remark;
 pub use texts::Size;
 pub use texts::is_empty_text;
-pub use texts::own_size;
 pub use texts::text_size;
-pub use texts::texts_equal;
