@@ -33,7 +33,7 @@ use Rattle.calls.proofs.Handed.{value-says}
 use Rattle.cut.specs.Walk.{section-from}
 use Rattle.sections.specs.Located.{Begins}
 use Rattle.values.proofs.ValueLaws.{inside}
-use Rattle.sections.proofs.AnswerLaws.{table-from}
+use Rattle.names.proofs.TitleLaws.{table-from}
 use Rattle.handing.specs.Own.{Spans}
 use Rattle.handing.proofs.PassLaws.{every-at}
 use Rattle.handing.proofs.TextLaws.{value-spans}
