@@ -62,5 +62,3 @@ module _ (c : Bytes) (i : ℕ) (e : i ≡ until semicolon c) where
   rest-none h =
       let k : length c ≤ i + 1 = omega arith in
       sym rest-at ∙ drop-of-length-le c k
-
-module _ (wide : Bool) (b : ℕ) where
