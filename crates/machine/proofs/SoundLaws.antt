@@ -10,10 +10,10 @@ use borrow.Author.Tests.{eqb-true, eqb-false, eq-eqb}
 use Rattle.page.specs.Bytes.{Bytes}
 use Rattle.page.specs.Lines.{content, blank, command, rest, Tbl, Atr, Frm, Rec, End, Com, Missing}
 use Rattle.page.specs.Fields.{fields, numberOf}
-use Rattle.page.specs.Tables.{table-named, width}
+use Rattle.page.specs.Tables.{table-named, width, standing}
 use Rattle.page.specs.Marks.{remarkOf}
 use Rattle.page.specs.Cut.{begins-table}
-use Rattle.page.specs.Section.{choose, tbl-step, atr-step, frm-step, rec-verdict, rec-step, count-step, end-step, mark-step, com-step, line-step, content-step, step, table-in, finish, continue, run, outcome}
+use Rattle.page.specs.Section.{choose, tbl-step, atr-step, frm-step, rec-verdict, rec-step, count-step, end-step, mark-step, com-step, line-step, content-step, step, table-in, finish, continue, run, outcome, first-wrong}
 use Rattle.page.specs.Records.{waits, table-of}
 use Rattle.page.specs.Places.{stands, record-at}
 use Rattle.page.specs.declared.Number.{Number}
