@@ -3,6 +3,12 @@ ghost use mathlib.Core.Path.{_≡_};
 ghost use mathlib.Core.Bool.{_||_};
 ghost use lib.Dec.{eqb};
 ghost use Rattle.page.specs.Header.{met-before, meet, complete, head-end};
+use commands::CHS;
+use commands::DVE;
+use commands::FFT;
+use commands::IFV;
+use commands::SRC;
+use commands::VER;
 use page::Finding;
 use page::Met;
 
@@ -11,12 +17,12 @@ pub fn was_met(m: Met, k: u32) -> bool
     ensures { λ r. ⌜ r ≡ met-before k m ⌝ }
 {
     match k {
-        2 => m.src,
-        3 => m.chs,
-        4 => m.ver,
-        5 => m.ifv,
-        6 => m.dve,
-        7 => m.fft,
+        SRC => m.src,
+        CHS => m.chs,
+        VER => m.ver,
+        IFV => m.ifv,
+        DVE => m.dve,
+        FFT => m.fft,
         _ => true,
     }
 }
@@ -35,12 +41,12 @@ pub fn meet(m: Met, k: u32) -> Met
 {
     Met {
         form: m.form,
-        src: met_with(m.src, k, 2),
-        chs: met_with(m.chs, k, 3),
-        ver: met_with(m.ver, k, 4),
-        ifv: met_with(m.ifv, k, 5),
-        dve: met_with(m.dve, k, 6),
-        fft: met_with(m.fft, k, 7),
+        src: met_with(m.src, k, SRC),
+        chs: met_with(m.chs, k, CHS),
+        ver: met_with(m.ver, k, VER),
+        ifv: met_with(m.ifv, k, IFV),
+        dve: met_with(m.dve, k, DVE),
+        fft: met_with(m.fft, k, FFT),
     }
 }
 

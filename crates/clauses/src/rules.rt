@@ -7,6 +7,8 @@ ghost use Rattle.page.specs.Header.{is-text, mod-form, src-ok, names-ascii, nam
 use crate::names::form_named;
 use crate::names::is_ascii_name;
 use crate::names::is_latin_name;
+use commands::CHS;
+use commands::SRC;
 use commands::count_fields;
 use commands::field_at;
 use dates::is_date;
@@ -100,10 +102,10 @@ pub fn holds_text(w: &[u8]) -> bool
 pub fn holds(w: &[u8], k: u32, form: u32) -> bool
     ensures { λ r. ⌜ r ≡ holds k form (fields (now (w .entry))) ⌝ }
 {
-    if k == 2 {
+    if k == SRC {
         return holds_source(w, form);
     }
-    if k == 3 {
+    if k == CHS {
         return holds_charset(w);
     }
     holds_text(w)

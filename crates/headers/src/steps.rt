@@ -30,7 +30,7 @@ fn begin(form: u32) -> Met
 fn step_mode(w: &[u8], k: u32) -> Heading
     ensures { λ r. ⌜ r ≡ mod-step k (fields (now (w .entry))) ⌝ }
 {
-    if k != 1 {
+    if k != commands::MOD {
         return Heading::Stop;
     }
     let form = clauses::read_mode(w);
@@ -65,7 +65,7 @@ pub fn step_header(c: &[u8], m: Met) -> Heading
         return Heading::Go(m);
     }
     let k = commands::command_of(c);
-    if k == 13 {
+    if k == commands::COM {
         return Heading::Go(m);
     }
     let w = lines::rest_of(c);

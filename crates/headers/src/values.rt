@@ -9,6 +9,13 @@ ghost use Rattle.page.specs.Places.{line-of};
 ghost use Rattle.page.specs.Head.{field-in, form-in, latin-in, text-span, span-if, header-values, latinOf};
 ghost use Rattle.page.specs.File.{limit};
 use crate::find::find_line;
+use commands::CHS;
+use commands::DVE;
+use commands::FFT;
+use commands::IFV;
+use commands::MOD;
+use commands::SRC;
+use commands::VER;
 use cut::header_size;
 use page::Date;
 use page::Header;
@@ -38,21 +45,21 @@ fn field_in(h: &[u8], k: u32, i: usize) -> &[u8]
 fn charset_in(h: &[u8]) -> bool
     ensures { λ r. ⌜ r ≡ latin-in (lines (now (h .entry))) ⌝ }
 {
-    clauses::is_latin_name(field_in(h, 3, 0))
+    clauses::is_latin_name(field_in(h, CHS, 0))
 }
 
 // A date's form is what `mod` states.
 fn date_in(h: &[u8]) -> Date
     ensures { λ r. ⌜ r ≡ dateOf (form-in (lines (now (h .entry)))) (field-in Src 1 (lines (now (h .entry)))) ⌝ }
 {
-    let form = clauses::read_mode(rest_in(h, 1));
-    dates::read_date(field_in(h, 2, 1), form)
+    let form = clauses::read_mode(rest_in(h, MOD));
+    dates::read_date(field_in(h, SRC, 1), form)
 }
 
 fn time_in(h: &[u8]) -> Time
     ensures { λ r. ⌜ r ≡ timeOf (field-in Src 2 (lines (now (h .entry)))) ⌝ }
 {
-    dates::read_time(field_in(h, 2, 2))
+    dates::read_time(field_in(h, SRC, 2))
 }
 
 // Where the text of the line of command k stands, between its quotes.
@@ -85,14 +92,14 @@ fn values_in(h: &[u8]) -> Header
     requires { ⌜ length (now h) ≤ limit ⌝ }
     ensures { λ r. ⌜ r ≡ header-values (lines (now (h .entry))) ⌝ }
 {
-    let source = text_in(h, 2);
+    let source = text_in(h, SRC);
     let date = date_in(h);
     let time = time_in(h);
     let latin = charset_in(h);
-    let ver = text_in(h, 4);
-    let ifv = text_in(h, 5);
-    let dve = state_text(h, 6);
-    let fft = state_text(h, 7);
+    let ver = text_in(h, VER);
+    let ifv = text_in(h, IFV);
+    let dve = state_text(h, DVE);
+    let fft = state_text(h, FFT);
     Header {
         source: source,
         date: date,
