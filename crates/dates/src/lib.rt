@@ -2,7 +2,6 @@
 mod dates;
 mod places;
 
-pub use dates::days_in;
 pub use dates::is_date;
 pub use dates::is_time;
 pub use dates::read_date;

@@ -4,5 +4,4 @@ mod numbers;
 pub use numbers::put_date;
 pub use numbers::put_decimal;
 pub use numbers::put_format;
-pub use numbers::put_padded;
 pub use numbers::put_time;

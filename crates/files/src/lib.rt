@@ -5,4 +5,3 @@ mod unsound;
 pub use answer::check;
 pub use answer::check_file;
 pub use answer::check_known;
-pub use unsound::first_unsound;

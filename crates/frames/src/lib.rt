@@ -6,5 +6,4 @@ mod tables;
 pub use heads::put_head;
 pub use lines::put_count_line;
 pub use lines::put_mark;
-pub use lines::put_text_line;
 pub use tables::put_table_head;

@@ -6,9 +6,6 @@ mod values;
 
 pub use answer::header;
 pub use answer::refuse_header;
-pub use find::find_line;
-pub use find::stands_in;
 pub use steps::read_header;
-pub use steps::step_header;
 pub use values::read_charset;
 pub use values::read_values;

@@ -5,8 +5,6 @@ pub use scan::Find;
 pub use scan::bears_key;
 pub use scan::find_rise;
 pub use scan::find_start;
-pub use scan::finds;
 pub use scan::finds_from;
 pub use scan::is_again;
 pub use scan::is_record;
-pub use scan::was_met;
