@@ -1,7 +1,8 @@
 //! The calls that are measured, each with room enough.
 
-use face::{all_rows, cells_of, Library, Refusal, Row, LIMIT};
+use compare::{all_rows, Library};
 use samples::large::EMPTY;
+use vdv::{cells_of, number, Refusal, Row, LIMIT};
 
 #[derive(Clone, Copy, Debug, PartialEq, Eq)]
 pub enum Call {
@@ -43,6 +44,15 @@ impl Call {
         matches!(self, Call::Write | Call::Fill | Call::Strip)
     }
 
+    /// The number that the call is to answer with a file of this answer: a
+    /// table is handed out whatever the file's answer is.
+    pub fn meant(self, answer: u32) -> u32 {
+        match self {
+            Call::Table => number::SOUND,
+            _ => answer,
+        }
+    }
+
     /// What is lent is made once, so that only the call is measured.
     pub fn prepare<'a>(self, library: &'a dyn Library, file: &'a [u8]) -> Prepared<'a> {
         let found = match self {
@@ -53,7 +63,10 @@ impl Call {
             Call::Table => largest(&found),
             _ => (0, 0),
         };
-        let bytes = if self.puts_out() { LIMIT } else { 0 };
+        let bytes = match self.puts_out() {
+            true => LIMIT.min(2 * file.len()),
+            false => 0,
+        };
         Prepared {
             call: self,
             library,
@@ -96,15 +109,6 @@ impl Prepared<'_> {
             Call::Strip => library.strip(file, &mut self.out),
         };
         put.err().unwrap_or(Refusal::SOUND)
-    }
-
-    /// The number that the call is to answer with a file of this answer: a
-    /// table is handed out whatever the file's answer is.
-    pub fn meant(&self, answer: u32) -> u32 {
-        match self.call {
-            Call::Table => face::number::SOUND,
-            _ => answer,
-        }
     }
 
     /// Whether another implementation put out the same.

@@ -22,9 +22,16 @@
 //! assert_eq!(owner, vdv::Owner::Suggestion);
 //! ```
 
+mod ample;
+mod answers;
 mod boundary;
+pub mod number;
+pub mod tables;
 
-pub use face::{number, value_in, At, Date, Header, Owner, Refusal, Row, Span, Time, Value, CELLS};
+pub use ample::{all_rows, cells_of, form_of, listing_of, table_cells, width_of, Listing};
+pub use answers::{
+    own_bytes, value_in, At, Date, Header, Owner, Refusal, Row, Span, Time, Value, CELLS, LIMIT,
+};
 
 use boundary::{HeaderAnswer, ValueAnswer};
 
@@ -33,6 +40,8 @@ use boundary::{HeaderAnswer, ValueAnswer};
 /// ```
 /// let refusal = vdv::check(b"").unwrap_err();
 /// assert_eq!(refusal, vdv::Refusal::new(vdv::number::HEADER, 0, 0));
+/// let words = "refused with 2 at header, line 0: header breaks a rule";
+/// assert_eq!(refusal.to_string(), words);
 /// ```
 pub fn check(file: &[u8]) -> Result<(), Refusal> {
     // SAFETY: a slice's pointer and count, borrowed during the call; the
