@@ -17,6 +17,32 @@ pub fn number_at(file: &[u8], place: usize) -> usize {
     1 + before.iter().filter(|byte| **byte == b'\n').count()
 }
 
+/// Line numbers of places that rise through the file, each byte counted once.
+pub struct LineCount<'a> {
+    file: &'a [u8],
+    place: usize,
+    line: usize,
+}
+
+impl LineCount<'_> {
+    pub fn new(file: &[u8]) -> LineCount<'_> {
+        LineCount {
+            file,
+            place: 0,
+            line: 1,
+        }
+    }
+
+    pub fn at(&mut self, place: usize) -> usize {
+        if place < self.place {
+            return number_at(self.file, place);
+        }
+        self.line += number_at(&self.file[self.place..], place - self.place) - 1;
+        self.place = place;
+        self.line
+    }
+}
+
 /// A line, counted from 1, of those that begin at a place.
 pub fn line_from(file: &[u8], place: usize, line: usize) -> Option<Shown<'_>> {
     let rest = file.get(place..)?;
@@ -39,6 +65,12 @@ fn without_end(line: &[u8]) -> &[u8] {
 pub fn command(content: &[u8]) -> Option<&[u8]> {
     let stop = content.iter().position(|byte| *byte == b';')?;
     Some(&content[trimmed(content, 0..stop)])
+}
+
+/// What stands behind the first `;`, spaces trimmed.
+pub fn rest(content: &[u8]) -> Option<&[u8]> {
+    let stop = content.iter().position(|byte| *byte == b';')?;
+    Some(&content[trimmed(content, stop + 1..content.len())])
 }
 
 /// The first byte of the first line with one of these commands.
@@ -109,9 +141,20 @@ mod tests {
     }
 
     #[test]
+    fn lines_are_counted_forwards_and_back() {
+        let mut lines = LineCount::new(b"a\nb\n\nc");
+        assert_eq!(
+            [0, 2, 5, 5, 3].map(|place| lines.at(place)),
+            [1, 2, 4, 4, 2]
+        );
+    }
+
+    #[test]
     fn commands() {
         assert_eq!(command(b" rec ;1"), Some(&b"rec"[..]));
         assert_eq!(command(b"rec"), None);
+        assert_eq!(rest(b"com ; a; b "), Some(&b"a; b"[..]));
+        assert_eq!(rest(b"com"), None);
         let file = b"mod; x\n tbl ; A\neof; 1";
         assert_eq!(first_with(file, &[b"tbl"]), Some(7));
         assert_eq!(first_with(file, &[b"eof"]), Some(16));

@@ -7,6 +7,8 @@ use std::io;
 #[derive(Clone, Copy, Debug, PartialEq, Eq, PartialOrd, Ord)]
 pub enum Outcome {
     Fine,
+    /// Sound, but advised of, where --strict is given.
+    Advised,
     Refused,
     /// A file among several could not be read at all; it was told of.
     Unread,
@@ -18,6 +20,10 @@ impl Outcome {
             true => Outcome::Fine,
             false => Outcome::Refused,
         }
+    }
+
+    pub fn is_sound(self) -> bool {
+        matches!(self, Outcome::Fine | Outcome::Advised)
     }
 }
 

@@ -3,9 +3,12 @@
 mod common;
 
 use std::io::Write;
+use std::os::unix::process::ExitStatusExt;
 use std::process::{Command, Stdio};
 
 use common::{examples, run_in, Folder};
+
+const SIGPIPE: i32 = 13;
 
 const COMMANDS: [&str; 7] = ["check", "list", "show", "marks", "write", "fill", "strip"];
 
@@ -77,7 +80,7 @@ fn no_colours_beside_a_terminal() {
     }
 }
 
-/// Whoever stops reading is not told of it at length.
+/// Whoever stops reading ends the tool as it ends others: by SIGPIPE.
 #[test]
 fn a_reader_that_has_gone() {
     let mut child = Command::new(env!("CARGO_BIN_EXE_nhachudep"))
@@ -95,6 +98,6 @@ fn a_reader_that_has_gone() {
         .write_all(common::SMALL.as_bytes())
         .unwrap();
     let output = child.wait_with_output().unwrap();
-    assert_eq!(output.status.code(), Some(2));
+    assert_eq!(output.status.signal(), Some(SIGPIPE));
     assert!(output.stderr.is_empty());
 }

@@ -8,6 +8,7 @@ mod show;
 
 use face::Library;
 
+use crate::advice::Advice;
 use crate::arguments::{Command, Order};
 use crate::outlets::Outlets;
 use crate::trouble::{Outcome, Trouble};
@@ -17,6 +18,17 @@ pub struct Work<'a, 'o> {
     pub library: &'a dyn Library,
     pub outlets: &'a mut Outlets<'o>,
     pub json: bool,
+    pub strict: bool,
+}
+
+impl Work<'_, '_> {
+    /// "An advice is no refusal", unless --strict is asked for.
+    fn outcome(&self, is_sound: bool, advice: &[Advice<'_>]) -> Outcome {
+        match Outcome::of(is_sound) {
+            Outcome::Fine if self.strict && !advice.is_empty() => Outcome::Advised,
+            outcome => outcome,
+        }
+    }
 }
 
 pub fn run(
@@ -28,6 +40,7 @@ pub fn run(
         library,
         outlets,
         json: order.json,
+        strict: order.strict,
     };
     match &order.command {
         Command::Check(sources) => check::check(&mut work, sources),
