@@ -8,10 +8,11 @@ use face::{all_rows, Library, Row};
 
 use crate::input::Source;
 use crate::json::Json;
-use crate::lines::{command, lines_of, rest, LineCount, Shown};
+use crate::lines::{command, each_line, rest, LineCount, Shown};
 use crate::outlets::Outlets;
 use crate::picture::Picture;
 use crate::pointing::is_text;
+use crate::trouble::Trouble;
 
 const WORD: &[u8] = b"SUGGESTED";
 
@@ -65,7 +66,7 @@ impl Advice<'_> {
 /// Every such line of a file's sound sections, in file order. Of a refused
 /// section no text is handed out, so that none is mistaken for another's.
 pub fn of<'f>(library: &dyn Library, file: &'f [u8]) -> Vec<Advice<'f>> {
-    if !lines_of(file).into_iter().any(is_look_alike) {
+    if !each_line(file).any(is_look_alike) {
         return Vec::new();
     }
     let Ok(listing) = all_rows(library, file) else {
@@ -82,7 +83,7 @@ fn in_section(file: &[u8], section: usize, row: Row, first: usize) -> Vec<Advice
     let may_be_marked = tables::numbered(row.table).is_some_and(has_markable);
     let mut records = 0;
     let mut found = Vec::new();
-    for (index, content) in lines_of(row.span().of(file)).into_iter().enumerate() {
+    for (index, content) in each_line(row.span().of(file)).enumerate() {
         records += usize::from(command(content) == Some(b"rec"));
         if is_look_alike(content) {
             let next = records + 1;
@@ -145,7 +146,16 @@ fn is_one_off(word: &[u8]) -> bool {
 }
 
 /// On standard error, each with its line.
-pub fn tell(outlets: &mut Outlets<'_>, source: &Source, advice: &[Advice<'_>], fate: Fate) {
+pub fn tell(
+    outlets: &mut Outlets<'_>,
+    source: &Source,
+    advice: &[Advice<'_>],
+    fate: Fate,
+) -> Result<(), Trouble> {
+    if advice.is_empty() {
+        return Ok(());
+    }
+    outlets.flush()?;
     let paint = outlets.paint_err;
     for one in advice.iter().take(TOLD) {
         let sentence = one.sentence(fate);
@@ -153,10 +163,17 @@ pub fn tell(outlets: &mut Outlets<'_>, source: &Source, advice: &[Advice<'_>], f
         outlets.note(&format_args!("{source}: {sentence}\n{picture}"));
     }
     if advice.len() > TOLD {
-        let more = advice.len() - TOLD;
-        outlets.note(&format_args!(
-            "{source}: {more} more look like a mark but are none\n"
-        ));
+        let more = count_in_words(advice.len() - TOLD, " more");
+        outlets.note(&format_args!("{source}: {more}\n"));
+    }
+    Ok(())
+}
+
+/// `2 lines look like a mark but are none`.
+pub fn count_in_words(count: usize, more: &str) -> String {
+    match count {
+        1 => format!("1{more} line looks like a mark but is none"),
+        _ => format!("{count}{more} lines look like a mark but are none"),
     }
 }
 

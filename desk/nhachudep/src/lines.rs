@@ -93,8 +93,12 @@ pub fn header_lines(file: &[u8]) -> Vec<&[u8]> {
 
 /// Lines without their ends.
 pub fn lines_of(bytes: &[u8]) -> Vec<&[u8]> {
+    each_line(bytes).collect()
+}
+
+pub fn each_line(bytes: &[u8]) -> impl Iterator<Item = &[u8]> {
     let lines = bytes.split_inclusive(|byte| *byte == b'\n');
-    lines.map(without_end).collect()
+    lines.map(without_end)
 }
 
 /// Where the trimmed fields after the command stand.

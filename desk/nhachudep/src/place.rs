@@ -13,6 +13,9 @@ use crate::system::Calm;
 /// Names tried for the new file.
 const TRIES: usize = 100;
 
+/// Files taken for one that another run has replaced meanwhile.
+const TURNS: usize = 10_000;
+
 /// Modes a new file begins with: for its owner alone until it has the rights
 /// of the file that it replaces; as the system would have it if there is none.
 const PRIVATE: u32 = 0o600;
@@ -71,7 +74,7 @@ impl Held {
     /// Waits for the lock. Whoever had it may have replaced the file, and then
     /// another one stands under the name, with a lock of its own.
     fn take(path: PathBuf) -> io::Result<Held> {
-        loop {
+        for _ in 0..TURNS {
             expect_writable(&fs::metadata(&path)?)?;
             let file = OpenOptions::new().read(true).write(true).open(&path)?;
             file.lock()?;
@@ -85,6 +88,9 @@ impl Held {
                 });
             }
         }
+        Err(io::Error::other(
+            "is another file whenever it is looked at; nothing is written",
+        ))
     }
 
     fn read(&mut self) -> io::Result<Vec<u8>> {

@@ -2,7 +2,7 @@
 
 mod common;
 
-use common::{cases, run_in, Folder, SMALL};
+use common::{cases, examples, run_in, Folder, SMALL};
 
 const MARK: &str = "com; \"SUGGESTED 2\"\n";
 
@@ -68,7 +68,8 @@ fn marks_and_show_advise_too() {
     folder.put("a.x10", with_line("com; \"SUGGESTED 2"));
     let marks = folder.run(&["marks", "a.x10"]);
     let told = advised("com; \"SUGGESTED 2");
-    marks.expect(0, "0 of 2 texts are ours, 1 is empty\n", &told);
+    let said = "1 line looks like a mark but is none\n\n0 of 2 texts are ours, 1 is empty\n";
+    marks.expect(0, said, &told);
     let show = folder.run(&["show", "a.x10"]);
     assert_eq!((show.code, show.err), (0, told));
     for command in ["check", "marks", "show"] {
@@ -128,7 +129,7 @@ fn strict_puts_nothing_out() {
     folder.put("a.x10", with_line(line));
     let told = format!(
         "{}a.x10: nothing is put out, for --strict is given\n",
-        warned(line)
+        advised(line)
     );
     for arguments in [
         &["write", "a.x10", "--strict"][..],
@@ -209,7 +210,7 @@ fn many_are_told_in_few_words() {
     assert_eq!(run.err.matches("looks like a mark").count(), 10);
     assert!(run
         .err
-        .ends_with("a.x10: 15 more look like a mark but are none\n"));
+        .ends_with("a.x10: 15 more lines look like a mark but are none\n"));
     let json = folder.run(&["check", "a.x10", "--json"]);
     assert_eq!(json.text().matches("looks like a mark").count(), 25);
 }
@@ -230,4 +231,19 @@ fn cases_of_marks_that_are_comments() {
             "line 14 looks like a mark but is none; the text after it counts as the operator's";
         assert!(run.err.contains(told), "{name}");
     }
+}
+
+#[test]
+fn the_example_with_a_lost_mark() {
+    let run = run_in(&examples(), &["marks", "lost-mark.x10"]);
+    assert_eq!(run.code, 0);
+    assert!(run.text().ends_with(
+        "1 line looks like a mark but is none\n\n4 of 11 texts are ours, 3 are empty\n"
+    ));
+    assert_eq!(
+        run.err,
+        "lost-mark.x10: line 23 looks like a mark but is none; \
+         the text after it counts as the operator's\n    \
+         23 | com; \"SUGGESTED 3\n       = section 2, line 10, before record 4\n"
+    );
 }

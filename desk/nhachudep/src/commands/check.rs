@@ -55,7 +55,7 @@ fn check_one(work: &mut Work<'_, '_>, source: &Source) -> Result<Outcome, Troubl
             work.outlets.print(&format_args!("{source}: {words}\n"))?;
         }
         tell_refusal(work, source, &file, answer)?;
-        advice::tell(work.outlets, source, &advice, Fate::Stays);
+        advice::tell(work.outlets, source, &advice, Fate::Stays)?;
     }
     Ok(work.outcome(answer.is_sound(), &advice))
 }

@@ -1,5 +1,7 @@
 //! `write`, `fill`, `strip`: forms put out.
 
+use std::path::Path;
+
 use face::{form_of, number, Refusal};
 
 use super::Work;
@@ -30,29 +32,39 @@ pub fn put_out(
             return Ok(Outcome::Refused);
         }
     };
-    if !work.json {
-        advice::tell(work.outlets, source, &advice, Fate::Goes);
-    }
     if work.outcome(true, &advice) == Outcome::Advised {
         hold_back(work, source, &advice)?;
         return Ok(Outcome::Advised);
+    }
+    if !work.json {
+        advice::tell(work.outlets, source, &advice, Fate::Goes)?;
     }
     let Some(target) = target else {
         work.outlets.put(&form)?;
         return Ok(Outcome::Fine);
     };
-    let put = held.map_or_else(|| Place::find(&target), Ok);
-    let put = put.and_then(|place| place.put(&form));
+    let place = held.map_or_else(|| Place::find(&target), Ok);
+    let put = place.and_then(|place| place.put(&form));
     put.map_err(|error| Trouble::with(Name::of(&target), &error))?;
     if work.json {
-        let mut members = refusals::members(source, Refusal::SOUND);
-        members.push(("out", Json::text(target.display().to_string())));
-        members.push(("bytes", Json::size(form.len())));
-        members.push(advice::member(&advice, Fate::Goes));
-        let object = Json::Object(members);
-        work.outlets.print(&format_args!("{object}\n"))?;
+        answer_put(work, source, &target, form.len(), &advice)?;
     }
     Ok(Outcome::Fine)
+}
+
+fn answer_put(
+    work: &mut Work<'_, '_>,
+    source: &Source,
+    target: &Path,
+    length: usize,
+    advice: &[Advice<'_>],
+) -> Result<(), Trouble> {
+    let mut members = refusals::members(source, Refusal::SOUND);
+    members.push(("out", Json::text(target.display().to_string())));
+    members.push(("bytes", Json::size(length)));
+    members.push(advice::member(advice, Fate::Goes));
+    let object = Json::Object(members);
+    work.outlets.print(&format_args!("{object}\n"))
 }
 
 /// The file, and its place, held from before it is read if it is the one to be
@@ -80,6 +92,7 @@ fn hold_back(
         let object = Json::Object(members);
         return work.outlets.print(&format_args!("{object}\n"));
     }
+    advice::tell(work.outlets, source, advice, Fate::Stays)?;
     work.outlets.note(&format_args!(
         "{source}: nothing is put out, for --strict is given\n"
     ));

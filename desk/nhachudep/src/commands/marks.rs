@@ -59,9 +59,9 @@ pub fn marks(work: &mut Work<'_, '_>, source: &Source) -> Result<Outcome, Troubl
         let object = Json::Object(members);
         work.outlets.print(&format_args!("{object}\n"))?;
     } else {
-        print(work, &findings)?;
+        print(work, &findings, advice.len())?;
         tell_refusal(work, source, &file, answer)?;
-        advice::tell(work.outlets, source, &advice, Fate::Stays);
+        advice::tell(work.outlets, source, &advice, Fate::Stays)?;
     }
     Ok(work.outcome(answer.is_sound(), &advice))
 }
@@ -174,7 +174,8 @@ fn key(table: &Table, record: &[Value]) -> Vec<u64> {
     table.primary.iter().filter_map(number).collect()
 }
 
-fn print(work: &mut Work<'_, '_>, findings: &Findings) -> Result<(), Trouble> {
+/// Whatever leaves a doubt stands on standard output too, before the count.
+fn print(work: &mut Work<'_, '_>, findings: &Findings, look_alikes: usize) -> Result<(), Trouble> {
     for (section, ours) in &findings.sections {
         if !ours.is_empty() {
             let title = work.outlets.paint_out.tone(Tone::Heading, title(section));
@@ -191,6 +192,10 @@ fn print(work: &mut Work<'_, '_>, findings: &Findings) -> Result<(), Trouble> {
         return work
             .outlets
             .print(&format_args!("cannot be said of any text:\n  {words}\n"));
+    }
+    if look_alikes > 0 {
+        let words = advice::count_in_words(look_alikes, "");
+        work.outlets.print(&format_args!("{words}\n\n"))?;
     }
     let sentence = findings.count().sentence();
     let scope = match findings.are_complete() {

@@ -90,7 +90,7 @@ pub fn show(
             ));
         }
         tell_refusal(work, source, &file, answer)?;
-        advice::tell(work.outlets, source, &advice, Fate::Stays);
+        advice::tell(work.outlets, source, &advice, Fate::Stays)?;
     }
     Ok(work.outcome(answer.is_sound() && !is_missing, &advice))
 }
