@@ -8,7 +8,7 @@ use std::os::unix::fs::{fchown, MetadataExt, OpenOptionsExt};
 use std::path::{Path, PathBuf};
 
 use crate::input::read_limited;
-use crate::system::Calm;
+use crate::system::{copy_access_list, Calm};
 
 /// Names tried for the new file.
 const TRIES: usize = 100;
@@ -103,7 +103,7 @@ impl Held {
         let calm = Calm::begin();
         let mut new = NewFile::create_beside(&self.path, PRIVATE)?;
         new.file.write_all(bytes)?;
-        new.take_rights_of(&self.found)?;
+        new.take_rights_of(self)?;
         new.file.sync_all()?;
         self.expect_unchanged()?;
         new.rename(&self.path)?;
@@ -186,8 +186,9 @@ impl NewFile {
         Err(taken)
     }
 
-    /// The owner first: giving a file away may change its mode.
-    fn take_rights_of(&self, found: &Metadata) -> io::Result<()> {
+    /// The mode last: giving a file away and its access list may change it.
+    fn take_rights_of(&self, held: &Held) -> io::Result<()> {
+        let found = &held.found;
         let (user, group) = (found.uid(), found.gid());
         let own = self.file.metadata()?;
         if (own.uid(), own.gid()) != (user, group) {
@@ -198,6 +199,7 @@ impl NewFile {
                 ))
             })?;
         }
+        copy_access_list(&held.file, &self.file)?;
         self.file.set_permissions(found.permissions())
     }
 

@@ -1,11 +1,11 @@
-//! What std has no way for: signals, and whether standard output was open at
-//! the start. The numbers are those of Linux on x86-64 and Arm.
+//! What std has no way for: signals, access lists, and whether standard output
+//! was open at the start. The numbers are those of Linux on x86-64 and Arm.
 
-use std::ffi::c_int;
+use std::ffi::{c_char, c_int, CStr};
 use std::fs::File;
 use std::io::{self, Write};
 use std::mem::ManuallyDrop;
-use std::os::fd::FromRawFd;
+use std::os::fd::{AsRawFd, FromRawFd};
 use std::process::exit;
 use std::ptr;
 use std::sync::atomic::{AtomicBool, Ordering};
@@ -22,6 +22,12 @@ const BY_DEFAULT: usize = 0;
 const IGNORED: usize = 1;
 const SET_MASK: c_int = 2;
 
+/// The attribute in which a file has its access list, POSIX 1003.1e.
+const ACCESS_LIST: &CStr = c"system.posix_acl_access";
+const LONGEST_ATTRIBUTE: usize = 65_536;
+const NO_ATTRIBUTE: i32 = 61;
+const NOT_SUPPORTED: i32 = 95;
+
 /// `sigset_t`: 1024 bits.
 #[repr(C)]
 struct Signals([u64; 16]);
@@ -33,6 +39,15 @@ impl Signals {
 
 extern "C" {
     fn fcntl(descriptor: c_int, command: c_int, ...) -> c_int;
+    fn fgetxattr(file: c_int, name: *const c_char, value: *mut u8, size: usize) -> isize;
+    fn fremovexattr(file: c_int, name: *const c_char) -> c_int;
+    fn fsetxattr(
+        file: c_int,
+        name: *const c_char,
+        value: *const u8,
+        size: usize,
+        how: c_int,
+    ) -> c_int;
     fn pthread_sigmask(how: c_int, new: *const Signals, old: *mut Signals) -> c_int;
     fn raise(signal: c_int) -> c_int;
     fn signal(signal: c_int, handler: usize) -> usize;
@@ -115,6 +130,55 @@ impl Drop for Calm {
     fn drop(&mut self) {
         // SAFETY: the set is the one that the system handed out.
         unsafe { pthread_sigmask(SET_MASK, &self.before, ptr::null_mut()) };
+    }
+}
+
+/// Gives a file the access list of another, or takes its own if that has none:
+/// a new file may have one from its folder.
+pub fn copy_access_list(from: &File, to: &File) -> io::Result<()> {
+    match access_list(from)? {
+        Some(list) => set_access_list(to, &list),
+        None => remove_access_list(to),
+    }
+}
+
+fn access_list(file: &File) -> io::Result<Option<Vec<u8>>> {
+    let mut list = vec![0; LONGEST_ATTRIBUTE];
+    let (file, name) = (file.as_raw_fd(), ACCESS_LIST.as_ptr());
+    // SAFETY: the name ends with 0, and no more than the list's size is written.
+    let size = unsafe { fgetxattr(file, name, list.as_mut_ptr(), list.len()) };
+    match usize::try_from(size) {
+        Ok(size) => {
+            list.truncate(size);
+            Ok(Some(list))
+        }
+        Err(_) => expect_no_list().map(|()| None),
+    }
+}
+
+fn set_access_list(file: &File, list: &[u8]) -> io::Result<()> {
+    let (file, name) = (file.as_raw_fd(), ACCESS_LIST.as_ptr());
+    // SAFETY: the name ends with 0, and no more than the list is read.
+    match unsafe { fsetxattr(file, name, list.as_ptr(), list.len(), 0) } {
+        0 => Ok(()),
+        _ => Err(io::Error::last_os_error()),
+    }
+}
+
+fn remove_access_list(file: &File) -> io::Result<()> {
+    // SAFETY: the name ends with 0.
+    match unsafe { fremovexattr(file.as_raw_fd(), ACCESS_LIST.as_ptr()) } {
+        0 => Ok(()),
+        _ => expect_no_list(),
+    }
+}
+
+/// The last error is one only if it does not say that there is no list.
+fn expect_no_list() -> io::Result<()> {
+    let error = io::Error::last_os_error();
+    match error.raw_os_error() {
+        Some(NO_ATTRIBUTE | NOT_SUPPORTED) => Ok(()),
+        _ => Err(error),
     }
 }
 

@@ -2,10 +2,12 @@
 
 mod common;
 
-use std::ffi::c_int;
+use std::ffi::{c_char, c_int, CStr, CString};
 use std::fs;
+use std::os::unix::ffi::OsStrExt;
 use std::os::unix::fs::{chown, MetadataExt, PermissionsExt};
 use std::os::unix::process::CommandExt;
+use std::path::Path;
 use std::process::{Child, Command, Stdio};
 
 use common::meanwhile::{meanwhile, watched};
@@ -168,7 +170,85 @@ fn owner_and_group_stay() {
 }
 
 extern "C" {
+    fn getxattr(path: *const c_char, name: *const c_char, value: *mut u8, size: usize) -> isize;
     fn prctl(option: c_int, ...) -> c_int;
+    fn setxattr(
+        path: *const c_char,
+        name: *const c_char,
+        value: *const u8,
+        size: usize,
+        how: c_int,
+    ) -> c_int;
+}
+
+/// The attribute that has a file's access list, and the one with which a
+/// folder gives one to its new files.
+const OF_A_FILE: &CStr = c"system.posix_acl_access";
+const FOR_NEW_FILES: &CStr = c"system.posix_acl_default";
+
+/// An access list of version 2 that lets one more user read.
+fn access_list() -> Vec<u8> {
+    const NOBODY: u32 = u32::MAX;
+    let entries: [(u16, u16, u32); 5] = [
+        (0x01, 6, NOBODY),
+        (0x02, 4, 12_345),
+        (0x04, 4, NOBODY),
+        (0x10, 4, NOBODY),
+        (0x20, 0, NOBODY),
+    ];
+    let mut list = 2_u32.to_le_bytes().to_vec();
+    for (tag, rights, user) in entries {
+        list.extend(tag.to_le_bytes());
+        list.extend(rights.to_le_bytes());
+        list.extend(user.to_le_bytes());
+    }
+    list
+}
+
+fn set_attribute(path: &Path, name: &CStr, value: &[u8]) -> bool {
+    let path = CString::new(path.as_os_str().as_bytes()).unwrap();
+    let (size, value) = (value.len(), value.as_ptr());
+    // SAFETY: both names end with 0, and the size is the value's.
+    unsafe { setxattr(path.as_ptr(), name.as_ptr(), value, size, 0) == 0 }
+}
+
+fn attribute(path: &Path, name: &CStr) -> Vec<u8> {
+    let path = CString::new(path.as_os_str().as_bytes()).unwrap();
+    let mut value = vec![0; 1024];
+    // SAFETY: both names end with 0, and no more than the size is written.
+    let size = unsafe {
+        getxattr(
+            path.as_ptr(),
+            name.as_ptr(),
+            value.as_mut_ptr(),
+            value.len(),
+        )
+    };
+    value.truncate(usize::try_from(size).unwrap_or(0));
+    value
+}
+
+/// Where the file system has access lists, a file keeps its own, and gets none
+/// from its folder.
+#[test]
+fn access_lists_stay() {
+    let folder = Folder::new("in-place-access-list");
+    put_with_mode(&folder, "a.x10", 0o640);
+    let path = folder.path("a.x10");
+    if !set_attribute(&folder.path(""), FOR_NEW_FILES, &access_list()) {
+        return;
+    }
+    folder
+        .run(&["write", "a.x10", "--in-place"])
+        .expect(0, "", "");
+    assert_eq!(attribute(&path, OF_A_FILE), b"");
+    assert!(set_attribute(&path, OF_A_FILE, &access_list()));
+    let mode = fs::metadata(&path).unwrap().mode();
+    folder
+        .run(&["strip", "a.x10", "--in-place"])
+        .expect(0, "", "");
+    assert_eq!(attribute(&path, OF_A_FILE), access_list());
+    assert_eq!(fs::metadata(&path).unwrap().mode(), mode);
 }
 
 /// The tool as a user who may write the file and not give it away.
