@@ -169,10 +169,10 @@ comment that looks like a mark and is none is warned of before it goes.
   --json      tell the answer on standard output; needs -o or --in-place
 
 A file is written anew beside its name and renamed when it is whole; it keeps
-owner, group and mode, or it is left alone. The input is never written over
-unless --in-place is given. Then it is locked before it is read: another run
-waits, and if another program has changed it meanwhile, nothing is written. A
-read-only file is not replaced.
+owner, group, mode and access list, or it is left alone. The input is never
+written over unless --in-place is given. Then it is locked before it is read:
+another run waits, and if another program has changed it meanwhile, nothing is
+written. A read-only file is not replaced.
 ";
 
 const FILL: &str = "\

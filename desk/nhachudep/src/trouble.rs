@@ -43,14 +43,14 @@ impl Trouble {
 
     /// With a file, what the system said of it.
     pub fn with(name: impl Display, error: &io::Error) -> Trouble {
-        Trouble::System(format!("{name}: {error}"))
+        match error.kind() {
+            io::ErrorKind::BrokenPipe => Trouble::NobodyReads,
+            _ => Trouble::System(format!("{name}: {error}")),
+        }
     }
 
     pub fn of_output(error: &io::Error) -> Trouble {
-        match error.kind() {
-            io::ErrorKind::BrokenPipe => Trouble::NobodyReads,
-            _ => Trouble::with("standard output", error),
-        }
+        Trouble::with("standard output", error)
     }
 }
 
@@ -63,5 +63,19 @@ impl Display for Trouble {
             Trouble::System(words) => out.write_str(words),
             Trouble::NobodyReads => Ok(()),
         }
+    }
+}
+
+#[cfg(test)]
+mod tests {
+    use super::*;
+
+    #[test]
+    fn a_reader_that_has_gone_is_told_nothing() {
+        let gone = io::Error::from(io::ErrorKind::BrokenPipe);
+        assert!(matches!(Trouble::of_output(&gone), Trouble::NobodyReads));
+        assert!(matches!(Trouble::with("pipe", &gone), Trouble::NobodyReads));
+        let full = Trouble::with("a.x10", &io::Error::other("full"));
+        assert_eq!(full.to_string(), "a.x10: full");
     }
 }

@@ -28,30 +28,19 @@ struct Sentence {
     text: Vec<u8>,
 }
 
-/// Sections of a file, and our sentences in each.
+/// Sections of a file with our sentences in each, and the file's answer.
 struct Findings {
     sections: Vec<(Section, Vec<Sentence>)>,
-    /// Why no section could be read, if so.
-    refused: Option<Refusal>,
+    answer: Refusal,
+    /// "After 1 or 2 no section is read."
+    are_read: bool,
 }
 
 pub fn marks(work: &mut Work<'_, '_>, source: &Source) -> Result<Outcome, Trouble> {
     let file = source.read()?;
-    let (rows, answer, refused) = match all_rows(work.library, &file) {
-        Ok(listing) => (listing.rows, listing.answer, None),
-        Err(refusal) => (Vec::new(), refusal, Some(refusal)),
-    };
-    let mut lines = LineCount::new(&file);
-    let sections = read_sections(work, &file, &rows, None)?.into_iter();
-    let sections = sections.map(|section| {
-        let ours = sentences(&file, &section, &mut lines);
-        (section, ours)
-    });
-    let findings = Findings {
-        sections: sections.collect(),
-        refused,
-    };
+    let findings = Findings::of(work, &file)?;
     let advice = advice::of(work.library, &file);
+    let answer = findings.answer;
     if work.json {
         let mut members = refusals::members(source, answer);
         members.extend(findings.members());
@@ -85,6 +74,24 @@ impl Count {
 }
 
 impl Findings {
+    fn of(work: &Work<'_, '_>, file: &[u8]) -> Result<Findings, Trouble> {
+        let (rows, answer, are_read) = match all_rows(work.library, file) {
+            Ok(listing) => (listing.rows, listing.answer, true),
+            Err(refusal) => (Vec::new(), refusal, false),
+        };
+        let mut lines = LineCount::new(file);
+        let sections = read_sections(work, file, &rows, None)?.into_iter();
+        let sections = sections.map(|section| {
+            let ours = sentences(file, &section, &mut lines);
+            (section, ours)
+        });
+        Ok(Findings {
+            sections: sections.collect(),
+            answer,
+            are_read,
+        })
+    }
+
     fn unread(&self) -> impl Iterator<Item = &Section> {
         let sections = self.sections.iter().map(|(section, _)| section);
         sections.filter(|section| !section.row.is_sound())
@@ -92,7 +99,7 @@ impl Findings {
 
     /// Whether of every text it can be said whose it is.
     fn are_complete(&self) -> bool {
-        self.refused.is_none() && self.unread().next().is_none()
+        self.are_read && self.unread().next().is_none()
     }
 
     fn count(&self) -> Count {
@@ -187,8 +194,8 @@ fn print(work: &mut Work<'_, '_>, findings: &Findings, look_alikes: usize) -> Re
     for section in findings.unread() {
         print_unread(work, section)?;
     }
-    if let Some(refusal) = findings.refused {
-        let words = refusals::sentence(refusal);
+    if !findings.are_read {
+        let words = refusals::sentence(findings.answer);
         return work
             .outlets
             .print(&format_args!("cannot be said of any text:\n  {words}\n"));
