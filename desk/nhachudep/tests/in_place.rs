@@ -255,6 +255,7 @@ fn access_lists_stay() {
 fn without_giving_away(command: &mut Command) -> &mut Command {
     const DROP_CAPABILITY: c_int = 24;
     const CHOWN: c_int = 0;
+    // SAFETY: the call takes numbers alone.
     let drop = || match unsafe { prctl(DROP_CAPABILITY, CHOWN) } {
         0 => Ok(()),
         _ => Err(std::io::Error::last_os_error()),
