@@ -8,6 +8,7 @@ use vdv::At;
 use crate::help::Topic;
 use crate::input::Source;
 use crate::latin::Argument;
+use crate::names::Name;
 use crate::output::Destination;
 use crate::trouble::Trouble;
 
@@ -22,6 +23,8 @@ pub enum Wish {
 pub struct Order {
     pub command: Command,
     pub json: bool,
+    /// Whether advice counts as a refusal.
+    pub strict: bool,
 }
 
 #[derive(Debug, PartialEq, Eq)]
@@ -46,6 +49,7 @@ pub enum Change {
 struct Words {
     words: Vec<OsString>,
     json: bool,
+    strict: bool,
     help: bool,
     version: bool,
     out: Option<OsString>,
@@ -75,14 +79,24 @@ impl Wish {
         }
         words.order(topic).map(Wish::Run)
     }
+
+    /// Whether anything is to be told on standard output.
+    pub fn speaks(&self) -> bool {
+        match self {
+            Wish::Help(_) | Wish::Version => true,
+            Wish::Run(order) => match &order.command {
+                Command::Form(_, _, destination) => {
+                    order.json || *destination == Destination::StandardOutput
+                }
+                _ => true,
+            },
+        }
+    }
 }
 
 fn topic(name: &OsStr) -> Result<Topic, Trouble> {
     let found = name.to_str().and_then(Topic::named);
-    found.ok_or(Trouble::Usage(format!(
-        "unknown command {}",
-        name.display()
-    )))
+    found.ok_or(Trouble::Usage(format!("unknown command {}", Name(name))))
 }
 
 impl Words {
@@ -95,6 +109,7 @@ impl Words {
                     break;
                 }
                 Some("--json") => words.json = true,
+                Some("--strict") => words.strict = true,
                 Some("--help" | "-h") => words.help = true,
                 Some("--version" | "-V") => words.version = true,
                 Some("--in-place") => words.in_place = true,
@@ -102,8 +117,9 @@ impl Words {
                     let out = arguments.next();
                     words.out = Some(out.ok_or(Trouble::usage("-o needs a file"))?);
                 }
-                Some(option) if option.starts_with('-') && option != "-" => {
-                    return Err(Trouble::Usage(format!("unknown option {option}")));
+                _ if is_option(&argument) => {
+                    let words = format!("unknown option {}", Name(&argument));
+                    return Err(Trouble::Usage(words));
                 }
                 _ => words.words.push(argument),
             }
@@ -112,7 +128,11 @@ impl Words {
     }
 
     fn order(self, topic: Topic) -> Result<Order, Trouble> {
-        let json = self.json;
+        let (json, strict) = (self.json, self.strict);
+        if strict && topic == Topic::List {
+            let words = "list gives no advice: no --strict";
+            return Err(Trouble::usage(words));
+        }
         let puts_out = matches!(topic, Topic::Write | Topic::Fill | Topic::Strip);
         if !puts_out && (self.in_place || self.out.is_some()) {
             let words = format!("{} puts out no file: no -o, no --in-place", topic.name());
@@ -124,7 +144,11 @@ impl Words {
             return Err(Trouble::usage(words));
         }
         let command = command(topic, self.words, destination)?;
-        Ok(Order { command, json })
+        Ok(Order {
+            command,
+            json,
+            strict,
+        })
     }
 
     fn destination(&self) -> Result<Destination, Trouble> {
@@ -135,6 +159,11 @@ impl Words {
             _ => Ok(Destination::StandardOutput),
         }
     }
+}
+
+/// `-` alone is a name, that of standard input or output.
+fn is_option(argument: &OsStr) -> bool {
+    argument.as_encoded_bytes().starts_with(b"-") && argument != "-"
 }
 
 fn command(
@@ -167,9 +196,9 @@ fn table(word: &OsStr) -> Result<&'static Table, Trouble> {
     let by_number = name.parse().ok().and_then(tables::numbered);
     by_number.or(tables::named(name.as_bytes())).ok_or_else(|| {
         let known = tables::ALL.map(|table| format!("{} {}", table.number, table.name));
-        let word = word.display();
         Trouble::Usage(format!(
-            "{word} is none of the tables: {}",
+            "{} is none of the tables: {}",
+            Name(word),
             known.join(", ")
         ))
     })
@@ -187,7 +216,7 @@ fn filling(mut words: impl Iterator<Item = OsString>) -> Result<Change, Trouble>
 
 fn number(word: &OsStr) -> Result<usize, Trouble> {
     let found = word.to_str().and_then(|word| word.parse().ok());
-    found.ok_or(Trouble::Usage(format!("{} is no number", word.display())))
+    found.ok_or(Trouble::Usage(format!("{} is no number", Name(word))))
 }
 
 #[cfg(test)]
@@ -248,6 +277,16 @@ mod tests {
     }
 
     #[test]
+    fn only_a_form_in_a_file_needs_no_standard_output() {
+        let speaks = |line| read(line).unwrap().speaks();
+        assert!(!speaks("strip a --in-place") && !speaks("write a -o b"));
+        for line in ["write a", "write a -o -", "write a -o b --json", "check a"] {
+            assert!(speaks(line), "{line}");
+        }
+        assert!(speaks("help") && speaks("--version"));
+    }
+
+    #[test]
     fn misuse() {
         for line in [
             "",
@@ -262,6 +301,7 @@ mod tests {
             "write a --json",
             "check a --in-place",
             "list a -o b",
+            "list a --strict",
             "write a -o",
             "list --loud a",
         ] {

@@ -4,6 +4,30 @@ use crate::outlets::Outlets;
 use crate::terminal::Tone;
 use crate::trouble::Trouble;
 
+/// Columns of a terminal that nobody has widened.
+const TERMINAL: usize = 80;
+
+/// Words in as many lines as they need, each behind an indent.
+pub fn wrapped(indent: usize, words: &str) -> String {
+    let mut text = String::new();
+    let mut used = 0;
+    for word in words.split(' ') {
+        let width = word.chars().count();
+        if used > indent && used + 1 + width <= TERMINAL {
+            text.push(' ');
+            used += 1 + width;
+        } else {
+            if used > 0 {
+                text.push('\n');
+            }
+            text.push_str(&" ".repeat(indent));
+            used = indent + width;
+        }
+        text.push_str(word);
+    }
+    text
+}
+
 #[derive(Clone, Copy, Debug, PartialEq, Eq)]
 pub enum Side {
     Left,

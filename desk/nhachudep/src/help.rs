@@ -45,15 +45,16 @@ impl Topic {
     pub fn usage(self) -> &'static str {
         match self {
             Topic::Tool => "nhachudep COMMAND FILE ..",
-            Topic::Check => "nhachudep check [--json] FILE ..",
+            Topic::Check => "nhachudep check [--json] [--strict] FILE ..",
             Topic::List => "nhachudep list [--json] FILE",
-            Topic::Show => "nhachudep show [--json] FILE [TABLE]",
-            Topic::Marks => "nhachudep marks [--json] FILE",
-            Topic::Write => "nhachudep write FILE [-o OUT | --in-place] [--json]",
+            Topic::Show => "nhachudep show [--json] [--strict] FILE [TABLE]",
+            Topic::Marks => "nhachudep marks [--json] [--strict] FILE",
+            Topic::Write => "nhachudep write FILE [-o OUT | --in-place] [--json] [--strict]",
             Topic::Fill => {
-                "nhachudep fill FILE SECTION RECORD FIELD TEXT [-o OUT | --in-place] [--json]"
+                "nhachudep fill FILE SECTION RECORD FIELD TEXT\n       \
+                 [-o OUT | --in-place] [--json] [--strict]"
             }
-            Topic::Strip => "nhachudep strip FILE [-o OUT | --in-place] [--json]",
+            Topic::Strip => "nhachudep strip FILE [-o OUT | --in-place] [--json] [--strict]",
         }
     }
 
@@ -107,17 +108,24 @@ answers are for machines. `nhachudep COMMAND --help` says more of a command,
 `nhachudep --version` which version this is.
 
 Refusals go to standard error: file, place, number, rule, and the line itself.
-Ends with 0 if all is well, 1 if a file or a request was refused, 2 if the tool
-was misused or the system would not let it.
+So does advice: a comment in a sound section that looks like a mark and is none
+leaves the file sound, but the text after it counts as the operator's.
+
+Ends with 0 if all is well, 1 if a file or a request was refused, or if there is
+advice and --strict is given, 2 if the tool was misused or the system would not
+let it. If whoever reads its output has gone, it ends by SIGPIPE.
 
 Colours are used on a terminal only, and not with NO_COLOR set.
 ";
 
 const CHECK: &str = "\
 Says of each file whether it is sound. A refused file is told of on standard
-error with the first rule it breaks and the place.
+error with the first rule it breaks and the place. A comment that looks like a
+mark and is none is told of too.
 
-With --json: one object a file, {file, number, part, section, line, rule}.
+  --strict  end with 1 if there is such a comment
+  --json    one object a file, {file, number, part, section, line, rule,
+            advice}; of each advice {section, line, file_line, record, words}
 ";
 
 const LIST: &str = "\
@@ -130,29 +138,41 @@ With --json: one object with header, sections, and the file's answer.
 const SHOW: &str = "\
 Shows the records of every table, or of one, given by number or name, in
 aligned columns. A suggestion has a `*` before it. Of a refused section no
-records are shown; those of the others are.
+records are shown; those of the others are. A comment that looks like a mark
+and is none is told of on standard error.
 
-With --json: one object with the tables, each value with its owner.
+  --strict  end with 1 if there is such a comment
+  --json    one object with the tables, each value with its owner, and the
+            advice
 ";
 
 const MARKS: &str = "\
-Shows every sentence of ours, the texts that stand under a mark, with table,
-key, record and line. What is not shown here is the operator's, save in a
-refused section, of which nothing can be said.
+Shows every sentence of ours, the texts that stand under a mark, table by table
+with key, record, and line in the file; then how many of the texts that may be
+marked are ours. What is not shown is the operator's. Of a refused section
+nothing can be said: it is named before the count. A comment that looks like a
+mark and is none is told of on standard error, and counted.
 
-With --json: one object with the marks.
+  --strict  end with 1 if there is such a comment
+  --json    one object with the marks, the counts, `complete`, whether it can be
+            said of every text, all refused sections, and the advice
 ";
 
 const WRITE: &str = "\
 Puts out the written form: header lines in their order, one space after each
-separating `;`, numbers without leading zeros, no comments but marks, LF.
+separating `;`, numbers without leading zeros, no comments but marks, LF. A
+comment that looks like a mark and is none is warned of before it goes.
 
   -o OUT      into this file instead of standard output
   --in-place  into the file itself
-  --json      tell the answer on standard output; needs one of the above
+  --strict    put out nothing if there is such a comment, and end with 1
+  --json      tell the answer on standard output; needs -o or --in-place
 
-A file is written anew beside its name and renamed when it is whole. The input
-is never written over unless --in-place is given.
+A file is written anew beside its name and renamed when it is whole; it keeps
+owner, group, mode and access list, or it is left alone. The input is never
+written over unless --in-place is given. Then it is locked before it is read:
+another run waits, and if another program has changed it meanwhile, nothing is
+written. A read-only file is not replaced.
 ";
 
 const FILL: &str = "\
@@ -162,19 +182,26 @@ is given in UTF-8 and put out in ISO 8859-1. A text that begins with `-` stands
 after `--`.
 
   -o OUT      into this file instead of standard output
-  --in-place  into the file itself
-  --json      tell the answer on standard output; needs one of the above
+  --in-place  into the file itself; many fills at once wait for each other
+  --strict    put out nothing if a comment looks like a mark and is none
+  --json      tell the answer on standard output; needs -o or --in-place
 
 These may be filled: field 2 of MENGE_BASIS_VERSIONEN, field 3 of
 FIRMENKALENDER, field 3 of MENGE_TAGESART, field 4 of MENGE_ONR_TYP.
+`nhachudep write --help` says how a file is replaced.
 ";
 
 const STRIP: &str = "\
-Puts out the written form with every suggestion taken out, text and mark.
+Puts out the written form with every suggestion taken out, text and mark. A text
+below a comment that looks like a mark and is none counts as the operator's, and
+stays; the comment is warned of before it goes.
 
   -o OUT      into this file instead of standard output
   --in-place  into the file itself
-  --json      tell the answer on standard output; needs one of the above
+  --strict    put out nothing if there is such a comment, and end with 1
+  --json      tell the answer on standard output; needs -o or --in-place
+
+`nhachudep write --help` says how a file is replaced.
 ";
 
 #[cfg(test)]
@@ -189,5 +216,13 @@ mod tests {
             assert!(of(topic).starts_with("usage: nhachudep "));
         }
         assert_eq!(Topic::named("nhachudep"), None);
+    }
+
+    #[test]
+    fn help_fits_a_terminal() {
+        for topic in COMMANDS.into_iter().chain([Topic::Tool]) {
+            let widest = of(topic).lines().map(|line| line.chars().count()).max();
+            assert!(widest <= Some(80), "{topic:?}");
+        }
     }
 }

@@ -1,13 +1,14 @@
 //! Files to read: by name, or `-` for standard input.
 
 use std::ffi::OsString;
-use std::fmt::{self, Display, Formatter, Write};
+use std::fmt::{self, Display, Formatter};
 use std::fs::File;
 use std::io::{self, Read};
 use std::path::PathBuf;
 
 use vdv::LIMIT;
 
+use crate::names::Name;
 use crate::trouble::Trouble;
 
 #[derive(Clone, Debug, PartialEq, Eq)]
@@ -35,7 +36,7 @@ impl Source {
 }
 
 /// One byte over the limit is enough to know that a file is too long.
-fn read_limited(input: impl Read) -> io::Result<Vec<u8>> {
+pub fn read_limited(input: impl Read) -> io::Result<Vec<u8>> {
     let mut bytes = Vec::new();
     input.take(LIMIT as u64 + 1).read_to_end(&mut bytes)?;
     Ok(bytes)
@@ -54,13 +55,10 @@ impl Source {
 /// The name as a terminal may be shown it.
 impl Display for Source {
     fn fmt(&self, out: &mut Formatter<'_>) -> fmt::Result {
-        for character in self.name().chars() {
-            match character.is_control() {
-                true => write!(out, "\\x{:02x}", u32::from(character))?,
-                false => out.write_char(character)?,
-            }
+        match self {
+            Source::Path(path) => Name::of(path).fmt(out),
+            Source::StandardInput => out.write_str("-"),
         }
-        Ok(())
     }
 }
 

@@ -17,6 +17,32 @@ pub fn number_at(file: &[u8], place: usize) -> usize {
     1 + before.iter().filter(|byte| **byte == b'\n').count()
 }
 
+/// Line numbers of places that rise through the file, each byte counted once.
+pub struct LineCount<'a> {
+    file: &'a [u8],
+    place: usize,
+    line: usize,
+}
+
+impl LineCount<'_> {
+    pub fn new(file: &[u8]) -> LineCount<'_> {
+        LineCount {
+            file,
+            place: 0,
+            line: 1,
+        }
+    }
+
+    pub fn at(&mut self, place: usize) -> usize {
+        if place < self.place {
+            return number_at(self.file, place);
+        }
+        self.line += number_at(&self.file[self.place..], place - self.place) - 1;
+        self.place = place;
+        self.line
+    }
+}
+
 /// A line, counted from 1, of those that begin at a place.
 pub fn line_from(file: &[u8], place: usize, line: usize) -> Option<Shown<'_>> {
     let rest = file.get(place..)?;
@@ -41,6 +67,12 @@ pub fn command(content: &[u8]) -> Option<&[u8]> {
     Some(&content[trimmed(content, 0..stop)])
 }
 
+/// What stands behind the first `;`, spaces trimmed.
+pub fn rest(content: &[u8]) -> Option<&[u8]> {
+    let stop = content.iter().position(|byte| *byte == b';')?;
+    Some(&content[trimmed(content, stop + 1..content.len())])
+}
+
 /// The first byte of the first line with one of these commands.
 pub fn first_with(file: &[u8], commands: &[&[u8]]) -> Option<usize> {
     let mut place = 0;
@@ -61,8 +93,12 @@ pub fn header_lines(file: &[u8]) -> Vec<&[u8]> {
 
 /// Lines without their ends.
 pub fn lines_of(bytes: &[u8]) -> Vec<&[u8]> {
+    each_line(bytes).collect()
+}
+
+pub fn each_line(bytes: &[u8]) -> impl Iterator<Item = &[u8]> {
     let lines = bytes.split_inclusive(|byte| *byte == b'\n');
-    lines.map(without_end).collect()
+    lines.map(without_end)
 }
 
 /// Where the trimmed fields after the command stand.
@@ -109,9 +145,20 @@ mod tests {
     }
 
     #[test]
+    fn lines_are_counted_forwards_and_back() {
+        let mut lines = LineCount::new(b"a\nb\n\nc");
+        assert_eq!(
+            [0, 2, 5, 5, 3].map(|place| lines.at(place)),
+            [1, 2, 4, 4, 2]
+        );
+    }
+
+    #[test]
     fn commands() {
         assert_eq!(command(b" rec ;1"), Some(&b"rec"[..]));
         assert_eq!(command(b"rec"), None);
+        assert_eq!(rest(b"com ; a; b "), Some(&b"a; b"[..]));
+        assert_eq!(rest(b"com"), None);
         let file = b"mod; x\n tbl ; A\neof; 1";
         assert_eq!(first_with(file, &[b"tbl"]), Some(7));
         assert_eq!(first_with(file, &[b"eof"]), Some(16));

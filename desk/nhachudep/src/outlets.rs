@@ -58,8 +58,6 @@ impl<'a> Outlets<'a> {
     }
 
     pub fn tell(&mut self, trouble: &Trouble) {
-        if !matches!(trouble, Trouble::NobodyReads) {
-            self.note(&format_args!("nhachudep: {trouble}\n"));
-        }
+        self.note(&format_args!("nhachudep: {trouble}\n"));
     }
 }

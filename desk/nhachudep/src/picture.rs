@@ -45,6 +45,15 @@ impl Picture {
         Picture { line, notes }
     }
 
+    /// A line that is not refused, and what is said of it.
+    pub fn of_line(shown: Shown<'_>, note: String) -> Picture {
+        let (content, marks) = window(shown.content, &[]);
+        Picture {
+            line: Some((shown.number, content, marks)),
+            notes: vec![note],
+        }
+    }
+
     pub fn painted(&self, paint: Paint) -> String {
         let mut text = String::new();
         if let Some((number, content, marks)) = &self.line {

@@ -128,7 +128,8 @@ impl Line<'_> {
     }
 }
 
-fn is_text(field: &[u8]) -> bool {
+/// Whether a field is one closed text with nothing beside it.
+pub fn is_text(field: &[u8]) -> bool {
     own_size(field).is_some()
 }
 

@@ -7,6 +7,8 @@ use std::io;
 #[derive(Clone, Copy, Debug, PartialEq, Eq, PartialOrd, Ord)]
 pub enum Outcome {
     Fine,
+    /// Sound, but advised of, where --strict is given.
+    Advised,
     Refused,
     /// A file among several could not be read at all; it was told of.
     Unread,
@@ -18,6 +20,10 @@ impl Outcome {
             true => Outcome::Fine,
             false => Outcome::Refused,
         }
+    }
+
+    pub fn is_sound(self) -> bool {
+        matches!(self, Outcome::Fine | Outcome::Advised)
     }
 }
 
@@ -37,14 +43,14 @@ impl Trouble {
 
     /// With a file, what the system said of it.
     pub fn with(name: impl Display, error: &io::Error) -> Trouble {
-        Trouble::System(format!("{name}: {error}"))
+        match error.kind() {
+            io::ErrorKind::BrokenPipe => Trouble::NobodyReads,
+            _ => Trouble::System(format!("{name}: {error}")),
+        }
     }
 
     pub fn of_output(error: &io::Error) -> Trouble {
-        match error.kind() {
-            io::ErrorKind::BrokenPipe => Trouble::NobodyReads,
-            _ => Trouble::with("standard output", error),
-        }
+        Trouble::with("standard output", error)
     }
 }
 
@@ -57,5 +63,19 @@ impl Display for Trouble {
             Trouble::System(words) => out.write_str(words),
             Trouble::NobodyReads => Ok(()),
         }
+    }
+}
+
+#[cfg(test)]
+mod tests {
+    use super::*;
+
+    #[test]
+    fn a_reader_that_has_gone_is_told_nothing() {
+        let gone = io::Error::from(io::ErrorKind::BrokenPipe);
+        assert!(matches!(Trouble::of_output(&gone), Trouble::NobodyReads));
+        assert!(matches!(Trouble::with("pipe", &gone), Trouble::NobodyReads));
+        let full = Trouble::with("a.x10", &io::Error::other("full"));
+        assert_eq!(full.to_string(), "a.x10: full");
     }
 }

@@ -174,9 +174,9 @@ fn json() {
     run.expect(
         1,
         "{\"file\":\"451-1.x10\",\"number\":0,\"part\":null,\"section\":0,\"line\":0,\
-         \"rule\":\"sound\"}\n\
+         \"rule\":\"sound\",\"advice\":[]}\n\
          {\"file\":\"damaged.x10\",\"number\":11,\"part\":\"section\",\"section\":1,\"line\":4,\
-         \"rule\":\"not a text\"}\n",
+         \"rule\":\"not a text\",\"advice\":[]}\n",
         "",
     );
 }
@@ -207,7 +207,7 @@ fn every_case() {
     let told: Vec<&str> = run
         .err
         .lines()
-        .filter(|line| !line.starts_with(' '))
+        .filter(|line| !line.starts_with(' ') && !line.contains("looks like a mark"))
         .collect();
     assert_eq!(told.len(), expected.len() + 1);
     for (told, expected) in told.iter().zip(&expected) {

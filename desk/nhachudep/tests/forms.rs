@@ -196,12 +196,12 @@ fn forms_for_machines() {
                  \"rule\":\"sound\",\"out\":\"b.x10\",\"bytes\":";
     let length = SMALL.len();
     let run = folder.run(&["write", "a.x10", "-o", "b.x10", "--json"]);
-    run.expect(0, &format!("{sound}{length}}}\n"), "");
+    run.expect(0, &format!("{sound}{length},\"advice\":[]}}\n"), "");
     let refused = folder.run(&["fill", "a.x10", "1", "1", "2", "x", "-o", "b.x10", "--json"]);
     refused.expect(
         1,
         "{\"file\":\"a.x10\",\"number\":22,\"part\":null,\"section\":0,\"line\":0,\
-         \"rule\":\"field to fill is not empty\"}\n",
+         \"rule\":\"field to fill is not empty\",\"advice\":[]}\n",
         "",
     );
     assert_eq!(folder.run(&["write", "a.x10", "--json"]).code, 2);

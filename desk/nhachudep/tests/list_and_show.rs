@@ -156,7 +156,7 @@ fn tables_for_machines() {
          \"tables\":[{\"section\":1,\"table\":485,\"name\":\"MENGE_BASIS_VERSIONEN\",\
          \"verdict\":0,\"line\":0,\"columns\":[\"BASIS_VERSION\",\"BASIS_VERSION_TEXT\"],\
          \"records\":[[7,{\"text\":\"Ü \\\"x\\\"\",\"suggestion\":true}],\
-         [8,{\"text\":\"\",\"suggestion\":false}]]}]}\n",
+         [8,{\"text\":\"\",\"suggestion\":false}]]}],\"advice\":[]}\n",
         "",
     );
 }

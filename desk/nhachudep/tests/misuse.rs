@@ -2,10 +2,10 @@
 
 mod common;
 
-use std::io::Write;
-use std::process::{Command, Stdio};
+use std::ffi::OsStr;
+use std::os::unix::ffi::OsStrExt;
 
-use common::{examples, run_in, Folder};
+use common::{examples, run_in, Folder, SMALL};
 
 const COMMANDS: [&str; 7] = ["check", "list", "show", "marks", "write", "fill", "strip"];
 
@@ -77,24 +77,42 @@ fn no_colours_beside_a_terminal() {
     }
 }
 
-/// Whoever stops reading is not told of it at length.
+/// Whatever a name holds, a terminal is not given orders by it.
 #[test]
-fn a_reader_that_has_gone() {
-    let mut child = Command::new(env!("CARGO_BIN_EXE_nhachudep"))
-        .args(["show", "-"])
-        .stdin(Stdio::piped())
-        .stdout(Stdio::piped())
-        .stderr(Stdio::piped())
-        .spawn()
-        .unwrap();
-    drop(child.stdout.take());
-    child
-        .stdin
-        .take()
-        .unwrap()
-        .write_all(common::SMALL.as_bytes())
-        .unwrap();
-    let output = child.wait_with_output().unwrap();
+fn odd_names_are_seen_and_not_obeyed() {
+    let folder = Folder::new("odd-names");
+    folder.put("a.x10", SMALL);
+    let odd = "\u{1b}[2J\u{9b}31m\r\n\u{7f}\u{202e}";
+    let shown = "\\x1b[2J\\x9b31m\\x0d\\x0a\\x7f\\u{202e}";
+    let option = format!("--{odd}");
+    let nowhere = format!("none/{odd}");
+    folder.put(odd, SMALL);
+    for arguments in [
+        &[odd][..],
+        &["help", odd],
+        &[&option],
+        &["check", &option, "a.x10"],
+        &["show", "a.x10", odd],
+        &["fill", "a.x10", odd, "1", "2", "x"],
+        &["write", "a.x10", "-o", &nowhere],
+        &["write", odd, "-o", odd],
+        &["check", &nowhere],
+    ] {
+        let run = folder.run(arguments);
+        assert_eq!((run.code, run.text()), (2, ""), "{arguments:?}");
+        assert!(run.err.contains(shown), "{}", run.err);
+        let is_plain = |c: char| c == '\n' || !c.is_control() && c != '\u{202e}';
+        assert!(run.err.chars().all(is_plain), "{:?}", run.err);
+    }
+}
+
+/// Nor by bytes that are no characters.
+#[test]
+fn odd_bytes_are_seen_and_not_obeyed() {
+    let folder = Folder::new("odd-bytes");
+    let odd = OsStr::from_bytes(b"-\x9b2J\xff");
+    let output = folder.tool(&[]).arg(odd).output().unwrap();
     assert_eq!(output.status.code(), Some(2));
-    assert!(output.stderr.is_empty());
+    let told = "nhachudep: unknown option -\\x9b2J\\xff\n";
+    assert!(output.stderr.starts_with(told.as_bytes()));
 }

@@ -2,7 +2,9 @@
 
 use vdv::{number, Refusal};
 
+use super::list::tell_refusal;
 use super::Work;
+use crate::advice::{self, Fate};
 use crate::input::Source;
 use crate::json::Json;
 use crate::refusals;
@@ -18,7 +20,7 @@ pub fn check(work: &mut Work<'_, '_>, sources: &[Source]) -> Result<Outcome, Tro
     for (index, source) in sources.iter().enumerate() {
         show_progress(work, index, sources.len());
         let outcome = check_one(work, source)?;
-        sound += usize::from(outcome == Outcome::Fine);
+        sound += usize::from(outcome.is_sound());
         worst = worst.max(outcome);
     }
     if sources.len() >= MANY && !work.json {
@@ -40,18 +42,22 @@ fn check_one(work: &mut Work<'_, '_>, source: &Source) -> Result<Outcome, Troubl
         }
     };
     let answer = vdv::check(&file).err().unwrap_or(Refusal::SOUND);
+    let advice = advice::of(&file);
     clear_progress(work);
     if work.json {
-        let object = Json::Object(refusals::members(source, answer));
+        let mut members = refusals::members(source, answer);
+        members.push(advice::member(&advice, Fate::Stays));
+        let object = Json::Object(members);
         work.outlets.print(&format_args!("{object}\n"))?;
-    } else if answer.is_sound() {
-        let words = number::in_words(answer.number);
-        work.outlets.print(&format_args!("{source}: {words}\n"))?;
     } else {
-        work.outlets.flush()?;
-        refusals::tell(work.outlets, source, &file, answer);
+        if answer.is_sound() {
+            let words = number::in_words(answer.number);
+            work.outlets.print(&format_args!("{source}: {words}\n"))?;
+        }
+        tell_refusal(work, source, &file, answer)?;
+        advice::tell(work.outlets, source, &advice, Fate::Stays)?;
     }
-    Ok(Outcome::of(answer.is_sound()))
+    Ok(work.outcome(answer.is_sound(), &advice))
 }
 
 fn show_progress(work: &mut Work<'_, '_>, done: usize, count: usize) {

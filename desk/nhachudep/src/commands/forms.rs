@@ -1,13 +1,18 @@
 //! `write`, `fill`, `strip`: forms put out.
 
+use std::path::Path;
+
 use vdv::{form_of, number, Refusal};
 
 use super::Work;
+use crate::advice::{self, Advice, Fate};
 use crate::arguments::Change;
 use crate::input::Source;
 use crate::json::Json;
 use crate::latin::Argument;
-use crate::output::{replace, target, Destination};
+use crate::names::{is_printed, Name};
+use crate::output::{target, Destination};
+use crate::place::Place;
 use crate::refusals;
 use crate::trouble::{Outcome, Trouble};
 
@@ -18,27 +23,80 @@ pub fn put_out(
     destination: &Destination,
 ) -> Result<Outcome, Trouble> {
     let target = target(source, destination)?;
-    let file = source.read()?;
+    let (file, held) = read(source, destination)?;
+    let advice = advice::of(&file);
     let form = match form(&file, change) {
         Ok(form) => form,
         Err(refusal) => {
-            refuse(work, source, &file, change, refusal)?;
+            refuse(work, source, &file, change, refusal, &advice)?;
             return Ok(Outcome::Refused);
         }
     };
+    if work.outcome(true, &advice) == Outcome::Advised {
+        hold_back(work, source, &advice)?;
+        return Ok(Outcome::Advised);
+    }
+    if !work.json {
+        advice::tell(work.outlets, source, &advice, Fate::Goes)?;
+    }
     let Some(target) = target else {
         work.outlets.put(&form)?;
         return Ok(Outcome::Fine);
     };
-    replace(&target, &form)?;
+    let place = held.map_or_else(|| Place::find(&target), Ok);
+    let put = place.and_then(|place| place.put(&form));
+    put.map_err(|error| Trouble::with(Name::of(&target), &error))?;
     if work.json {
-        let mut members = refusals::members(source, Refusal::SOUND);
-        members.push(("out", Json::text(target.display().to_string())));
-        members.push(("bytes", Json::size(form.len())));
-        let object = Json::Object(members);
-        work.outlets.print(&format_args!("{object}\n"))?;
+        answer_put(work, source, &target, form.len(), &advice)?;
     }
     Ok(Outcome::Fine)
+}
+
+fn answer_put(
+    work: &mut Work<'_, '_>,
+    source: &Source,
+    target: &Path,
+    length: usize,
+    advice: &[Advice<'_>],
+) -> Result<(), Trouble> {
+    let mut members = refusals::members(source, Refusal::SOUND);
+    members.push(("out", Json::text(target.display().to_string())));
+    members.push(("bytes", Json::size(length)));
+    members.push(advice::member(advice, Fate::Goes));
+    let object = Json::Object(members);
+    work.outlets.print(&format_args!("{object}\n"))
+}
+
+/// The file, and its place, held from before it is read if it is the one to be
+/// replaced.
+fn read(source: &Source, destination: &Destination) -> Result<(Vec<u8>, Option<Place>), Trouble> {
+    match (source, destination) {
+        (Source::Path(path), Destination::InPlace) => {
+            let held = Place::find(path).and_then(|mut place| Ok((place.read()?, Some(place))));
+            held.map_err(|error| Trouble::with(source, &error))
+        }
+        _ => Ok((source.read()?, None)),
+    }
+}
+
+/// With --strict nothing is put out where there is advice.
+fn hold_back(
+    work: &mut Work<'_, '_>,
+    source: &Source,
+    advice: &[Advice<'_>],
+) -> Result<(), Trouble> {
+    if work.json {
+        let mut members = refusals::members(source, Refusal::SOUND);
+        members.push(("out", Json::Null));
+        members.push(advice::member(advice, Fate::Stays));
+        let object = Json::Object(members);
+        return work.outlets.print(&format_args!("{object}\n"));
+    }
+    advice::tell(work.outlets, source, advice, Fate::Stays)?;
+    work.outlets.note(&format_args!(
+        "{source}: nothing is put out, for --strict is given\n"
+    ));
+    Ok(())
 }
 
 fn form(file: &[u8], change: &Change) -> Result<Vec<u8>, Refusal> {
@@ -62,9 +120,12 @@ fn refuse(
     file: &[u8],
     change: &Change,
     refusal: Refusal,
+    advice: &[Advice<'_>],
 ) -> Result<(), Trouble> {
     if work.json {
-        let object = Json::Object(refusals::members(source, refusal));
+        let mut members = refusals::members(source, refusal);
+        members.push(advice::member(advice, Fate::Stays));
+        let object = Json::Object(members);
         return work.outlets.print(&format_args!("{object}\n"));
     }
     refusals::tell(work.outlets, source, file, refusal);
@@ -84,9 +145,9 @@ fn what_is_not_allowed(text: &Argument, latin: bool) -> String {
     let first = text.bytes.iter().find(|byte| !is_allowed(byte));
     let name = |character: char| {
         let code = u32::from(character);
-        match character.is_control() {
-            true => format!("U+{code:04X}"),
-            false => format!("`{character}` (U+{code:04X})"),
+        match is_printed(character) {
+            true => format!("`{character}` (U+{code:04X})"),
+            false => format!("U+{code:04X}"),
         }
     };
     match (first.map(|byte| char::from(*byte)), text.foreign) {

@@ -38,8 +38,8 @@ pub fn tell_refusal(
     file: &[u8],
     answer: Refusal,
 ) -> Result<(), Trouble> {
-    work.outlets.flush()?;
     if !answer.is_sound() {
+        work.outlets.flush()?;
         refusals::tell(work.outlets, source, file, answer);
     }
     Ok(())

@@ -6,6 +6,7 @@ mod list;
 mod marks;
 mod show;
 
+use crate::advice::Advice;
 use crate::arguments::{Command, Order};
 use crate::outlets::Outlets;
 use crate::trouble::{Outcome, Trouble};
@@ -14,12 +15,24 @@ use crate::trouble::{Outcome, Trouble};
 pub struct Work<'a, 'o> {
     pub outlets: &'a mut Outlets<'o>,
     pub json: bool,
+    pub strict: bool,
+}
+
+impl Work<'_, '_> {
+    /// "An advice is no refusal", unless --strict is asked for.
+    fn outcome(&self, is_sound: bool, advice: &[Advice<'_>]) -> Outcome {
+        match Outcome::of(is_sound) {
+            Outcome::Fine if self.strict && !advice.is_empty() => Outcome::Advised,
+            outcome => outcome,
+        }
+    }
 }
 
 pub fn run(order: &Order, outlets: &mut Outlets<'_>) -> Result<Outcome, Trouble> {
     let mut work = Work {
         outlets,
         json: order.json,
+        strict: order.strict,
     };
     match &order.command {
         Command::Check(sources) => check::check(&mut work, sources),

@@ -5,6 +5,7 @@ use vdv::{all_rows, own_bytes, table_cells, value_in, Owner, Row, Span, Value, C
 
 use super::list::{tell_refusal, verdict};
 use super::Work;
+use crate::advice::{self, Fate};
 use crate::columns::{Cell, Sheet, Side};
 use crate::input::Source;
 use crate::json::Json;
@@ -70,11 +71,13 @@ pub fn show(
         Err(refusal) => (Vec::new(), refusal),
     };
     let sections = read_sections(&file, &rows, table)?;
+    let advice = advice::of(&file);
     let is_missing = table.is_some() && sections.is_empty();
     if work.json {
         let mut members = refusals::members(source, answer);
         let tables = sections.iter().map(|section| section_json(&file, section));
         members.push(("tables", Json::list(tables)));
+        members.push(advice::member(&advice, Fate::Stays));
         let object = Json::Object(members);
         work.outlets.print(&format_args!("{object}\n"))?;
     } else {
@@ -86,8 +89,9 @@ pub fn show(
             ));
         }
         tell_refusal(work, source, &file, answer)?;
+        advice::tell(work.outlets, source, &advice, Fate::Stays)?;
     }
-    Ok(Outcome::of(answer.is_sound() && !is_missing))
+    Ok(work.outcome(answer.is_sound() && !is_missing, &advice))
 }
 
 fn print_sections(
@@ -119,22 +123,23 @@ pub fn is_ours(value: &Value) -> bool {
     )
 }
 
-fn print_section(work: &mut Work<'_, '_>, file: &[u8], section: &Section) -> Result<(), Trouble> {
+/// `MENGE_TAGESART (290), section 2`.
+pub fn title(section: &Section) -> String {
     let number = section.number;
-    let Some(table) = section.table() else {
-        let words = verdict(section.row);
-        return work
-            .outlets
-            .print(&format_args!("section {number}: refused, {words}\n"));
-    };
-    let title = format!("{} ({}), section {number}", table.name, table.number);
-    let title = work.outlets.paint_out.tone(Tone::Heading, title);
-    if !section.row.is_sound() {
+    match section.table() {
+        Some(table) => format!("{} ({}), section {number}", table.name, table.number),
+        None => format!("section {number}"),
+    }
+}
+
+fn print_section(work: &mut Work<'_, '_>, file: &[u8], section: &Section) -> Result<(), Trouble> {
+    let title = work.outlets.paint_out.tone(Tone::Heading, title(section));
+    let Some(table) = section.table().filter(|_| section.row.is_sound()) else {
         let words = verdict(section.row);
         return work
             .outlets
             .print(&format_args!("{title}: refused, {words}\n"));
-    }
+    };
     work.outlets.print(&format_args!("{title}\n"))?;
     sheet(file, section, table).print(work.outlets)
 }

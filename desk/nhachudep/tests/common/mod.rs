@@ -1,6 +1,8 @@
 //! The tool as a user runs it.
 #![allow(dead_code)]
 
+pub mod meanwhile;
+
 use std::fs;
 use std::io::Write;
 use std::path::{Path, PathBuf};
@@ -38,7 +40,7 @@ pub struct Run {
 }
 
 impl Run {
-    fn of(output: Output) -> Run {
+    pub fn of(output: Output) -> Run {
         Run {
             code: output.status.code().unwrap(),
             out: output.stdout,
@@ -98,6 +100,13 @@ impl Folder {
 
     pub fn run(&self, arguments: &[&str]) -> Run {
         run_in(&self.0, arguments)
+    }
+
+    /// The tool, about to run here.
+    pub fn tool(&self, arguments: &[&str]) -> Command {
+        let mut command = tool(&self.0);
+        command.args(arguments);
+        command
     }
 
     pub fn fed(&self, arguments: &[&str], input: &[u8]) -> Run {
