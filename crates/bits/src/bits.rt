@@ -25,7 +25,7 @@ fn choose_four(h: u64) -> u64
 }
 
 // The word of n that a hash has, without a division.
-fn choose_word(h: u64, n: usize) -> usize
+pub fn choose_word(h: u64, n: usize) -> usize
     requires { ⌜ 0 < n ⌝ }
     ensures { λ r. ⌜ (r ≡ word-of h n) × (r < n) ⌝ }
 {
