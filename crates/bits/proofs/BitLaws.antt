@@ -12,7 +12,7 @@ use lib.Seq.{getD-set-same, getD-set-other}
 use lib.Dec.{eqb}
 use lib.Arith.{bin-ind}
 use lib.Bits.{bitAnd, bitOr, and-step, or-step, and-zero-r, and-self, or-comm}
-use Rattle.bits.specs.Bits.{In, Touched, Has, Added, Probed, lane-of}
+use Rattle.bits.specs.Bits.{In, Touched, Has, Added, Probed, word-of, lane-of}
 
 -- m lies in x, so it lies in x with more bits
 and-more : (m x y : ℕ) → bitAnd x m ≡ m → bitAnd (bitOr x y) m ≡ m
@@ -51,6 +51,15 @@ touched t i m l =
       fresh = λ f h. eqb-false _ _ f h;
     }
 
+pub word-lt : (h n : ℕ) → 0 < n → word-of h n < n
+unfolding word-of
+word-lt h n p =
+    let x = h % 1048576 in
+    let k = n % 4294967296 in
+    let b : x ≤ 1048575 = omega arith in
+    let q : x * k ≤ 1048575 * k = mul-le-mul-right k b in
+    div-lt-iff-lt-mul (let z : 0 < 1048576 = omega arith in z) .1 (omega arith)
+
 pub lane-lt : (h n : ℕ) → 0 < n → lane-of h n < n
 unfolding lane-of
 lane-lt h n p =
@@ -60,24 +69,26 @@ lane-lt h n p =
     div-lt-iff-lt-mul (let z : 0 < 256 = omega arith in z) .1 (omega arith)
 
 module _ (n h m : ℕ) where
-  pub added :
-      (t₀ t₁ t : List ℕ) (a b r : Bool) → Touched t₀ (h % n) m a t₁ → Touched t₁ (h / 16384 % n) m b t → (r ≡ false → (a ≡ false) ⊎ (b ≡ false))
-      → Added t₀ n h m r t
-  unfolding Has
-  added t₀ t₁ t a b r p q f =
-      record {
-        keeps = λ g k u. (q .keeps _ _ (p .keeps _ _ (u .0)), q .keeps _ _ (p .keeps _ _ (u .1)));
-        holds = (q .keeps _ _ (p .holds), q .holds);
-        fresh = λ x u. ⊎-elim (λ y. p .fresh y (u .0)) (λ y. q .fresh y (p .keeps _ _ (u .1))) (f x);
-      }
+  -- its words, by other names
+  module _ (i : ℕ) (u : i ≡ word-of h n) where
+    pub probed-first : (t : List ℕ) → (bitAnd (getD t i 0) m ≡ m → ⊥) → Probed t n h m false
+    unfolding Has In
+    probed-first t d = record { holds = λ e. absurd (false≢true e); absent = λ e x. d (rw u (x .0)) }
 
-  pub probed-first : (t : List ℕ) → (bitAnd (getD t (h % n) 0) m ≡ m → ⊥) → Probed t n h m false
-  unfolding Has In
-  probed-first t d = record { holds = λ e. absurd (false≢true e); absent = λ e u. d (u .0) }
+    module _ (j : ℕ) (v : j ≡ word-of (h / 256) n) where
+      pub probed : (t : List ℕ) → bitAnd (getD t i 0) m ≡ m → Probed t n h m (eqb (bitAnd (getD t j 0) m) m)
+      unfolding Has In
+      probed t d = record { holds = λ e. (rw (← u) d, rw (← v) (eqb-true _ _ e)); absent = λ e x. eqb-false (bitAnd (getD t j 0) m) m e (rw v (x .1)) }
 
-  pub probed : (t : List ℕ) → bitAnd (getD t (h % n) 0) m ≡ m → Probed t n h m (eqb (bitAnd (getD t (h / 16384 % n) 0) m) m)
-  unfolding Has In
-  probed t d = record { holds = λ e. (d, eqb-true _ _ e); absent = λ e u. eqb-false _ _ e (u .1) }
+      pub added :
+          (t₀ t₁ t : List ℕ) (a b r : Bool) → Touched t₀ i m a t₁ → Touched t₁ j m b t → (r ≡ false → (a ≡ false) ⊎ (b ≡ false)) → Added t₀ n h m r t
+      unfolding Has
+      added t₀ t₁ t a b r p q f =
+          record {
+            keeps = λ g k x. (q .keeps _ _ (p .keeps _ _ (x .0)), q .keeps _ _ (p .keeps _ _ (x .1)));
+            holds = (rw (← u) (q .keeps _ _ (p .holds)), rw (← v) (q .holds));
+            fresh = λ x y. ⊎-elim (λ z. p .fresh z (rw u (y .0))) (λ z. q .fresh z (rw v (p .keeps _ _ (y .1)))) (f x);
+          }
 
   -- the bits, by another name
   pub added-as : (k : ℕ) (t₀ t : List ℕ) (r : Bool) → m ≡ k → Added t₀ n h m r t → Added t₀ n h k r t

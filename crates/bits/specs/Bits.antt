@@ -16,6 +16,10 @@ two-of h = bitOr (bit (h / 268435456 % 64)) (bit (h / 17179869184 % 64))
 unfoldable pub four-of : ℕ → ℕ
 four-of h = bitOr (bitOr (two-of h) (bit (h / 1099511627776 % 64))) (bit (h / 70368744177664 % 64))
 
+-- the word of n that a hash has
+unfoldable pub word-of : ℕ → ℕ → ℕ
+word-of h n = h % 1048576 * (n % 4294967296) / 1048576
+
 -- in which of n rounds a hash is looked at
 unfoldable pub lane-of : ℕ → ℕ → ℕ
 lane-of h n = h / 1125899906842624 % 256 * n / 256
@@ -32,7 +36,7 @@ pub record Touched (t₀ : List ℕ) (i m : ℕ) (r : Bool) (t : List ℕ) : Typ
 
 -- the bits m are set in the two words of a hash, of n words
 unfoldable pub Has : List ℕ → ℕ → ℕ → ℕ → Type 0
-Has t n h m = In t (h % n) m × In t (h / 16384 % n) m
+Has t n h m = In t (word-of h n) m × In t (word-of (h / 256) n) m
 
 -- they were set; r: they were before
 pub record Added (t₀ : List ℕ) (n h m : ℕ) (r : Bool) (t : List ℕ) : Type 0 where

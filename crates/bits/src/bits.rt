@@ -2,7 +2,7 @@
 ghost use mathlib.Core.Path.{_≡_};
 ghost use Prim.Native.Nat.{_<_, _≤_, _^_};
 ghost use lib.ListN.{length};
-ghost use Rattle.bits.specs.Bits.{two-of, four-of, lane-of, Touched, Added, Probed};
+ghost use Rattle.bits.specs.Bits.{two-of, four-of, word-of, lane-of, Touched, Added, Probed};
 
 // In which of n rounds a hash is looked at.
 pub fn find_lane(h: u64, n: u64) -> u64
@@ -24,6 +24,15 @@ fn choose_four(h: u64) -> u64
     choose_two(h) | 1 << h / 1099511627776 % 64 | 1 << h / 70368744177664 % 64
 }
 
+// The word of n that a hash has, without a division.
+pub fn choose_word(h: u64, n: usize) -> usize
+    requires { ⌜ 0 < n ⌝ }
+    ensures { λ r. ⌜ (r ≡ word-of h n) × (r < n) ⌝ }
+{
+    let k = n as u64;
+    (h % 1048576 * (k % 4294967296) / 1048576) as usize
+}
+
 // Sets the bits m of word i. Were they all set?
 fn set_bits(t: &mut [u64], i: usize, m: u64) -> bool
     requires { ⌜ i < length (now t) ⌝ }
@@ -39,9 +48,8 @@ fn put_bits(t: &mut [u64], n: usize, h: u64, m: u64) -> bool
     requires { ⌜ (0 < n) × (n ≤ length (now t)) ⌝ }
     ensures { λ r. ⌜ Added (now (t .entry)) n h m r (now (t .exit)) ⌝ }
 {
-    let k = n as u64;
-    let a = set_bits(t, (h % k) as usize, m);
-    let b = set_bits(t, (h / 16384 % k) as usize, m);
+    let a = set_bits(t, choose_word(h, n), m);
+    let b = set_bits(t, choose_word(h / 256, n), m);
     if a {
         return b;
     }
@@ -70,12 +78,11 @@ pub fn has_four(t: &[u64], n: usize, h: u64) -> bool
     requires { ⌜ (0 < n) × (n ≤ length (now t)) ⌝ }
     ensures { λ r. ⌜ Probed (now (t .entry)) n h (four-of h) r ⌝ }
 {
-    let k = n as u64;
     let m = choose_four(h);
-    let a = t[(h % k) as usize] & m;
+    let a = t[choose_word(h, n)] & m;
     if a != m {
         return false;
     }
-    let b = t[(h / 16384 % k) as usize] & m;
+    let b = t[choose_word(h / 256, n)] & m;
     b == m
 }

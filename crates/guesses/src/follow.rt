@@ -1,11 +1,9 @@
 // A record that is soon found: near where the last one stood, or where it is guessed. A search that finds none says nothing.
 ghost use mathlib.Core.Path.{_≡_};
 ghost use mathlib.Core.Bool.{true};
-ghost use lib.ListN.{length};
 ghost use Rattle.page.specs.Lines.{lines};
 ghost use Rattle.page.specs.File.{any};
 ghost use Rattle.scans.specs.Scan.{bears};
-use crate::guesses::ROOM;
 use crate::guesses::find_bits;
 use crate::guesses::find_slot;
 use keys::Key;
@@ -46,12 +44,11 @@ fn place_of(x: u32) -> usize {
 
 // Among the guesses for a hash.
 pub fn finds_guessed(w: &[u8], g: &[u32], h: u64, choice: u64, key: Key) -> Find
-    requires { ⌜ length (now g) ≡ 57344 ⌝ }
     ensures { λ r. ⌜ (r .met ≡ true → any (bears choice (key .k)) (lines (now (w .entry))) ≡ true) ⌝ }
 {
     let bits = find_bits(h);
-    let mut i = find_slot(h);
-    while i < ROOM {
+    let mut i = find_slot(h, g.len());
+    while i < g.len() {
         let x = g[i];
         i += 1;
         if x == 0 {

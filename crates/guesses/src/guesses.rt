@@ -2,16 +2,8 @@
 // key that is referred to; or, once the target's record with that mark was met, the record's place and seven bits of the hash. What it
 // holds is a guess: the record is read before it is believed, so a wrong one costs time only.
 ghost use mathlib.Core.Path.{_≡_};
-ghost use Prim.Native.Nat.{_<_, _≤_};
-ghost use lib.ListN.{length};
-
-// A key's entries follow its slot without a turn at the end: the last slot has so much room behind it.
-pub const ROOM: usize = 57344;
-
-const SLOTS: u64 = 56320;
-
-// Of so many slots.
-pub const MOST_KEYS: usize = 40500;
+ghost use Prim.Native.Nat.{_*_, _/_, _<_, _≤_};
+use bits::choose_word;
 
 // Marks begin here, so that no place is taken for one.
 const MARKS: u64 = 2147483648;
@@ -19,11 +11,18 @@ const MARKS: u64 = 2147483648;
 // A section's places end here: a file is no longer.
 pub const PLACES: usize = 16777216;
 
-// Where a key's entries begin.
-pub fn find_slot(h: u64) -> usize
-    ensures { λ r. ⌜ r < 56320 ⌝ }
+// How many keys are marked in a room of n entries: with more the walk from a slot is long.
+pub fn most_keys(n: usize) -> usize
+    ensures { λ r. ⌜ r ≡ n / 10 * 7 ⌝ }
 {
-    (h / 17179869184 % SLOTS) as usize
+    n / 10 * 7
+}
+
+// Where a key's entries begin, in a room of n. They follow each other without a turn at the end: the last slot has some behind it.
+pub fn find_slot(h: u64, n: usize) -> usize
+    ensures { λ r. ⌜ r ≤ n ⌝ }
+{
+    choose_word(h / 1073741824, n - n / 64 + 1)
 }
 
 fn find_mark(h: u64) -> u32 {
@@ -47,12 +46,11 @@ pub fn wipe(g: &mut [u32]) {
 
 // Marks a key as referred to; 1 if it was not before.
 pub fn note_key(g: &mut [u32], h: u64) -> usize
-    requires { ⌜ length (now g) ≡ 57344 ⌝ }
     ensures { λ r. ⌜ r ≤ 1 ⌝ }
 {
     let mark = find_mark(h);
-    let mut i = find_slot(h);
-    while i < ROOM {
+    let mut i = find_slot(h, g.len());
+    while i < g.len() {
         let x = g[i];
         if x == mark {
             return 0;
@@ -74,15 +72,13 @@ fn narrow(at: usize) -> u32
 }
 
 // Puts a record's place where its key is marked.
-pub fn note_place(g: &mut [u32], h: u64, at: usize)
-    requires { ⌜ length (now g) ≡ 57344 ⌝ }
-{
+pub fn note_place(g: &mut [u32], h: u64, at: usize) {
     if PLACES <= at {
         return;
     }
     let mark = find_mark(h);
-    let mut i = find_slot(h);
-    while i < ROOM {
+    let mut i = find_slot(h, g.len());
+    while i < g.len() {
         let x = g[i];
         if x == 0 {
             return;

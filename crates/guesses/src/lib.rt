@@ -6,8 +6,7 @@ mod known;
 
 pub use follow::finds_guessed;
 pub use follow::finds_near;
-pub use guesses::MOST_KEYS;
-pub use guesses::ROOM;
+pub use guesses::most_keys;
 pub use guesses::note_key;
 pub use guesses::note_place;
 pub use guesses::wipe;

@@ -91,6 +91,28 @@ unfolding lost-line
 lost-by s seats i a e aims z n q =
     rw (sym e) (line-same (loses-any s seats (a .table)) (lacks-any s aims (a .table)) (λ b l. loses-is z l) [] 0 (lines (take (a .to - a .from) (drop (a .from) s))) ∙ q)
 
+-- a table without references loses nothing
+neither : (b : Bool) → pick b false false ≡ false
+neither true = refl
+neither false = refl
+
+never : (b : List Bytes) (n : ℕ) (ls : List Bytes) → first-line (λ before l. false) b n ls ≡ 0
+unfolding first-line
+never b n [] = refl
+never b n (l ∷ ls) = never (b ++ l ∷ []) (suc n) ls
+
+loses-none : (s : Bytes) (seats : Seats) (t : ℕ) (l : Bytes) → length (table-at t .references) ≡ 0 → loses s seats t l ≡ false
+unfolding loses some
+loses-none s seats t l z = rw z (neither (is-record l))
+
+pub lost-nothing : (s : Bytes) (seats : Seats) (i : ℕ) (a : Seat) → a ≡ seat-at seats i → (n : ℕ) → n ≡ length (table-at (a .table) .references) → n ≡ 0
+    → lost-line s seats (seat-at seats i) ≡ 0
+unfolding lost-line
+lost-nothing s seats i a e n x z =
+    rw (sym e)
+    (line-same (loses-any s seats (a .table)) (λ before l. false) (λ b l. loses-none s seats (a .table) l (sym x ∙ z)) [] 0 (lines (take (a .to - a .from) (drop (a .from) s)))
+    ∙ never [] 0 (lines (take (a .to - a .from) (drop (a .from) s))))
+
 module _ (s : Bytes) (aims : Aims) (t : ℕ) where
   pub lacks-is : (fs : List Bytes) (k : ℕ) (key : List ℕ) → key ≡ refer-numbers (reference-at t k .columns) (valuesOf 0 1 (standing t) fs)
       → (x b : Bool) → x ≡ reached s (aim-at aims k) key → not x ≡ b → lacks s aims t fs k ≡ b

@@ -1,18 +1,16 @@
 // Guesses for the references of the records of a section, from one record on until the room is used up: one walk over these records, and one
 // over the records of each target.
-ghost use mathlib.Core.Path.{_≡_};
-ghost use Prim.Native.Nat.{_<_, _≤_};
-ghost use lib.ListN.{length};
+ghost use Prim.Native.Nat.{_≤_};
 ghost use Rattle.references.specs.Aims.{Within};
 use crate::aims::Aim;
 use crate::aims::Aims;
 use crate::aims::MOST;
 use crate::aims::find_aim;
 use guesses::Known;
-use guesses::MOST_KEYS;
 use guesses::hash_line;
 use guesses::is_guessed;
 use guesses::keep_end;
+use guesses::most_keys;
 use guesses::note_key;
 use guesses::note_place;
 use guesses::wipe;
@@ -29,7 +27,6 @@ pub fn hash_reference(w: &[u8], at: usize, a: Aim) -> u64 {
 
 // How many keys that were not marked a line refers to.
 fn note_record(w: &[u8], at: usize, aims: Aims, known: Known, g: &mut [u32]) -> usize
-    requires { ⌜ length (now g) ≡ 57344 ⌝ }
     ensures { λ r. ⌜ r ≤ 3 ⌝ }
 {
     let mut new: usize = 0;
@@ -45,13 +42,12 @@ fn note_record(w: &[u8], at: usize, aims: Aims, known: Known, g: &mut [u32]) -> 
 }
 
 // Where the guesses end.
-fn note_records(w: &[u8], at: usize, aims: Aims, known: Known, g: &mut [u32]) -> usize
-    requires { ⌜ length (now g) ≡ 57344 ⌝ }
-{
+fn note_records(w: &[u8], at: usize, aims: Aims, known: Known, g: &mut [u32]) -> usize {
+    let most = most_keys(g.len());
     let mut count: usize = 0;
     let mut from = at;
     while from < w.len() {
-        if MOST_KEYS <= count {
+        if most <= count {
             return from;
         }
         let here = from;
@@ -62,9 +58,7 @@ fn note_records(w: &[u8], at: usize, aims: Aims, known: Known, g: &mut [u32]) ->
     from
 }
 
-fn note_targets(w: &[u8], t: usize, choice: u64, g: &mut [u32])
-    requires { ⌜ length (now g) ≡ 57344 ⌝ }
-{
+fn note_targets(w: &[u8], t: usize, choice: u64, g: &mut [u32]) {
     let mut from: usize = 0;
     while from < w.len() {
         let here = from;
@@ -95,7 +89,7 @@ fn wants_targets(aims: Aims, known: Known, r: usize) -> bool {
 
 // `w` is the section, `at` the record's line in it.
 pub fn guess_from(s: &[u8], w: &[u8], at: usize, aims: Aims, known: Known, g: &mut [u32]) -> Known
-    requires { ⌜ Within (now s) aims × (length (now g) ≡ 57344) ⌝ }
+    requires { ⌜ Within (now s) aims ⌝ }
 {
     wipe(g);
     let until = note_records(w, at, aims, known, g);

@@ -15,7 +15,6 @@ use crate::aims::take_aims;
 use crate::children::guess_from;
 use crate::children::hash_reference;
 use guesses::Known;
-use guesses::ROOM;
 use guesses::finds_guessed;
 use guesses::finds_near;
 use guesses::is_guessed;
@@ -51,7 +50,7 @@ fn reaches_soon(
     known: Known,
     g: &[u32],
 ) -> Find
-    requires { ⌜ (a .from ≤ a .to) × (a .to ≤ length (now s)) × (length (now g) ≡ 57344) ⌝ }
+    requires { ⌜ (a .from ≤ a .to) × (a .to ≤ length (now s)) ⌝ }
     ensures { λ x. ⌜ (x .met ≡ true → reached (now (s .entry)) a (key .k) ≡ true) ⌝ }
 {
     let from = a.from;
@@ -74,7 +73,7 @@ fn guess_more(
     known: Known,
     g: &mut [u32],
 ) -> Known
-    requires { ⌜ Within (now s) aims × (length (now g) ≡ 57344) ⌝ }
+    requires { ⌜ Within (now s) aims ⌝ }
 {
     if at < known.until {
         if is_guessed(known, r) {
@@ -94,7 +93,7 @@ fn reaches_late(
     known: Known,
     g: &[u32],
 ) -> Find
-    requires { ⌜ (a .from ≤ a .to) × (a .to ≤ length (now s)) × (length (now g) ≡ 57344) ⌝ }
+    requires { ⌜ (a .from ≤ a .to) × (a .to ≤ length (now s)) ⌝ }
     ensures { λ x. ⌜ x .met ≡ reached (now (s .entry)) a (key .k) ⌝ }
 {
     let x = reaches_soon(s, w, at, a, r, key, known, g);
@@ -117,7 +116,7 @@ fn reaches(
     known: Known,
     g: &mut [u32],
 ) -> Reach
-    requires { ⌜ Within (now s) aims × (r < 3) × (length (now g) ≡ 57344) ⌝ }
+    requires { ⌜ Within (now s) aims × (r < 3) ⌝ }
     ensures { λ x. ⌜ x .met ≡ reached (now (s .entry)) (aim-at aims r) (key .k) ⌝ }
 {
     let a = find_aim(aims, r);
@@ -153,7 +152,7 @@ fn loses(
     last: Known,
     g: &mut [u32],
 ) -> Loss
-    requires { ⌜ Within (now s) aims × (at ≤ e) × (e ≤ length (now w)) × (length (now g) ≡ 57344) ⌝ }
+    requires { ⌜ Within (now s) aims × (at ≤ e) × (e ≤ length (now w)) ⌝ }
     ensures { λ r. ⌜ r .lost ≡ lacks-some (now (s .entry)) aims t (take (e - at) (drop at (now (w .entry)))) ⌝ }
 {
     let c = lines::content_of(&w[at..e]);
@@ -185,12 +184,11 @@ fn loses(
     }
 }
 
-// The first line of section i with a reference that finds no record, from 1; 0 if there is none.
-fn lost_line(s: &[u8], seats: Seats, i: usize) -> usize
+// The first line of section i with a reference that finds no record, from 1; 0 if there is none. Guesses are made in the room g.
+fn lost_in(s: &[u8], seats: Seats, i: usize, g: &mut [u32]) -> usize
     requires { ⌜ Ready (now s) seats × (i < seats .count) ⌝ }
     ensures { λ r. ⌜ r ≡ lost-line (now (s .entry)) seats (seat-at seats i) ⌝ }
 {
-    let mut guesses: [u32; ROOM] = [0; ROOM];
     let seat = find_seat(seats, i);
     let from = seat.from;
     let to = seat.to;
@@ -206,7 +204,7 @@ fn lost_line(s: &[u8], seats: Seats, i: usize) -> usize
         let e = l.span.to;
         at = e;
         n += 1;
-        let x = loses(s, &s[from..to], here, e, t, aims, known, &mut guesses);
+        let x = loses(s, &s[from..to], here, e, t, aims, known, g);
         known = x.known;
         if x.lost {
             return n;
@@ -215,8 +213,50 @@ fn lost_line(s: &[u8], seats: Seats, i: usize) -> usize
     0
 }
 
+// A section of so few bytes refers to few records.
+const FEW: usize = 8192;
+
+// Entries of the room for the guesses of such a section, and of that for any other.
+const LITTLE: usize = 2048;
+
+const MUCH: usize = 57344;
+
+fn lost_by_few(s: &[u8], seats: Seats, i: usize) -> usize
+    requires { ⌜ Ready (now s) seats × (i < seats .count) ⌝ }
+    ensures { λ r. ⌜ r ≡ lost-line (now (s .entry)) seats (seat-at seats i) ⌝ }
+{
+    let mut g: [u32; LITTLE] = [0; LITTLE];
+    lost_in(s, seats, i, &mut g)
+}
+
+fn lost_by_many(s: &[u8], seats: Seats, i: usize) -> usize
+    requires { ⌜ Ready (now s) seats × (i < seats .count) ⌝ }
+    ensures { λ r. ⌜ r ≡ lost-line (now (s .entry)) seats (seat-at seats i) ⌝ }
+{
+    let mut g: [u32; MUCH] = [0; MUCH];
+    lost_in(s, seats, i, &mut g)
+}
+
+// No room is made for a table without references, and little for few bytes.
+fn lost_line(s: &[u8], seats: Seats, i: usize) -> usize
+    requires { ⌜ Ready (now s) seats × (i < seats .count) ⌝ }
+    ensures { λ r. ⌜ r ≡ lost-line (now (s .entry)) seats (seat-at seats i) ⌝ }
+{
+    let seat = find_seat(seats, i);
+    let from = seat.from;
+    let to = seat.to;
+    if keys::count_references(seat.table) == 0 {
+        return 0;
+    }
+    let size = to - from;
+    if size < FEW {
+        return lost_by_few(s, seats, i);
+    }
+    lost_by_many(s, seats, i)
+}
+
 // Among the first n sections. A function that calls itself is never made a part of its caller, nor is one with so much room made a part of
-// it: so the room of `lost_line` and that of the search for repeated keys are not on the stack together.
+// it: so the room of `lost_by_many` and that of the search for repeated keys are not on the stack together.
 fn lost_before(s: &[u8], seats: Seats, n: usize) -> Refusal
     requires { ⌜ Ready (now s) seats × (n ≤ seats .count) ⌝ }
     ensures { λ r. ⌜ Looked (now (s .entry)) seats n r ⌝ }

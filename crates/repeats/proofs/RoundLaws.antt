@@ -34,26 +34,26 @@ hash-new q ls i h x e f = again-new q ls i x (λ j k y p. f j k y (same-hash q (
 
 -- the first pass: of the lines before line i, those in round r of n are new or doubtful, and the records among them are in the table
 
-abbrev pub Marked : ℕ → List Bytes → ℕ → ℕ → List ℕ → List ℕ → ℕ → Type 0
-Marked q ls r n t a i =
+abbrev pub Marked : ℕ → List Bytes → ℕ → ℕ → ℕ → List ℕ → ℕ → List ℕ → ℕ → Type 0
+Marked q ls r n nt t na a i =
     (m : ℕ) → m < i → lane-of (hash-at q ls m) n ≡ r
-    → ((again-at q ls m ≡ false) ⊎ Doubtful a (hash-at q ls m)) × (is-record (getD ls m []) ≡ true → Crowded t (hash-at q ls m))
+    → ((again-at q ls m ≡ false) ⊎ Doubtful na a (hash-at q ls m)) × (is-record (getD ls m []) ≡ true → Crowded nt t (hash-at q ls m))
 
-module _ (q : ℕ) (ls : List Bytes) (r n i h : ℕ) (e : h ≡ hash-at q ls i) (t a : List ℕ) (s : Marked q ls r n t a i) where
+module _ (q : ℕ) (ls : List Bytes) (r n i h : ℕ) (e : h ≡ hash-at q ls i) (nt na : ℕ) (t a : List ℕ) (s : Marked q ls r n nt t na a i) where
   -- a line of another round
-  pub marked-skip : (lane-of h n ≡ r → ⊥) → Marked q ls r n t a (i + 1)
+  pub marked-skip : (lane-of h n ≡ r → ⊥) → Marked q ls r n nt t na a (i + 1)
   marked-skip d = below-more _ _ s (λ l. absurd (d (rw e l)))
 
-  pub marked-other : is-record (getD ls i []) ≡ false → Marked q ls r n t a (i + 1)
+  pub marked-other : is-record (getD ls i []) ≡ false → Marked q ls r n nt t na a (i + 1)
   marked-other f = below-more _ _ s (λ l. (inl (again-other q ls i f), λ y. absurd (false≢true (sym f ∙ y))))
 
-  module _ (t′ : List ℕ) (b : Bool) (p : Added t 20480 h (two-of h) b t′) where
-    pub marked-new : i < length ls → lane-of h n ≡ r → b ≡ false → Marked q ls r n t′ a (i + 1)
+  module _ (t′ : List ℕ) (b : Bool) (p : Added t nt h (two-of h) b t′) where
+    pub marked-new : i < length ls → lane-of h n ≡ r → b ≡ false → Marked q ls r n nt t′ na a (i + 1)
     marked-new x o f =
         let new = hash-new q ls i h x e (λ j k y z. p .fresh f (rw z at (s j k (rw z o) .1 y))) in
         below-more _ _ (λ m k l. (s m k l .0, λ y. p .keeps _ _ (s m k l .1 y))) (λ l. (inl new, λ y. rw e at (p .holds)))
 
-    pub marked-doubt : (a′ : List ℕ) (c : Bool) → Added a 4096 h (four-of h) c a′ → Marked q ls r n t′ a′ (i + 1)
+    pub marked-doubt : (a′ : List ℕ) (c : Bool) → Added a na h (four-of h) c a′ → Marked q ls r n nt t′ na a′ (i + 1)
     marked-doubt a′ c d =
         below-more _ _
         (λ m k l. (⊎-elim (λ f. inl f) (λ g. inr (d .keeps _ _ g)) (s m k l .0), λ y. p .keeps _ _ (s m k l .1 y)))
@@ -61,31 +61,32 @@ module _ (q : ℕ) (ls : List Bytes) (r n i h : ℕ) (e : h ≡ hash-at q ls i) 
 
 -- the second pass: of the lines before line i, the doubtful ones are new, and the records among them are in the table
 
-abbrev pub Told : ℕ → List Bytes → List ℕ → List ℕ → ℕ → Type 0
-Told q ls a t i =
-    (m : ℕ) → m < i → Doubtful a (hash-at q ls m)
-    → (again-at q ls m ≡ false) × (is-record (getD ls m []) ≡ true → Has t 20480 (hash-at q ls m) (four-of (hash-at q ls m)))
+abbrev pub Told : ℕ → List Bytes → ℕ → List ℕ → ℕ → List ℕ → ℕ → Type 0
+Told q ls na a nt t i =
+    (m : ℕ) → m < i → Doubtful na a (hash-at q ls m)
+    → (again-at q ls m ≡ false) × (is-record (getD ls m []) ≡ true → Has t nt (hash-at q ls m) (four-of (hash-at q ls m)))
 
-module _ (q : ℕ) (ls : List Bytes) (i h : ℕ) (e : h ≡ hash-at q ls i) (a t : List ℕ) (s : Told q ls a t i) where
-  pub told-skip : (Has a 4096 h (four-of h) → ⊥) → Told q ls a t (i + 1)
+module _ (q : ℕ) (ls : List Bytes) (i h : ℕ) (e : h ≡ hash-at q ls i) (na nt : ℕ) (a t : List ℕ) (s : Told q ls na a nt t i) where
+  pub told-skip : (Has a na h (four-of h) → ⊥) → Told q ls na a nt t (i + 1)
   told-skip d = below-more _ _ s (λ l. absurd (d (rw e l)))
 
-  pub told-other : is-record (getD ls i []) ≡ false → Told q ls a t (i + 1)
+  pub told-other : is-record (getD ls i []) ≡ false → Told q ls na a nt t (i + 1)
   told-other f = below-more _ _ s (λ l. (again-other q ls i f, λ y. absurd (false≢true (sym f ∙ y))))
 
-  module _ (t′ : List ℕ) (b : Bool) (p : Added t 20480 h (four-of h) b t′) where
-    pub told-met : again-at q ls i ≡ false → Told q ls a t′ (i + 1)
+  module _ (t′ : List ℕ) (b : Bool) (p : Added t nt h (four-of h) b t′) where
+    pub told-met : again-at q ls i ≡ false → Told q ls na a nt t′ (i + 1)
     told-met f = below-more _ _ (λ m k l. (s m k l .0, λ y. p .keeps _ _ (s m k l .1 y))) (λ l. (f, λ y. rw e at (p .holds)))
 
-    pub told-new : i < length ls → Has a 4096 h (four-of h) → b ≡ false → Told q ls a t′ (i + 1)
+    pub told-new : i < length ls → Has a na h (four-of h) → b ≡ false → Told q ls na a nt t′ (i + 1)
     told-new x o f = told-met (hash-new q ls i h x e (λ j k y z. p .fresh f (rw z at (s j k (rw z o) .1 y))))
 
-pub round-done : (q : ℕ) (ls : List Bytes) (r n last : ℕ) (a : List ℕ) (e : ℕ) → Doubted q ls r n last a → Settled q ls a last e → Round q ls r n last e
-round-done q ls r n last a e d s =
+pub round-done : (q : ℕ) (ls : List Bytes) (r n last na nb : ℕ) (a : List ℕ) (e : ℕ) → nb ≡ na → Doubted q ls r n last na a → Settled q ls nb a last e
+    → Round q ls r n last e
+round-done q ls r n last na nb a e b d s =
     record {
       within = s .within;
       hit = s .hit;
-      clear = λ m k x l. ⊎-elim (λ f. f) (λ g. s .clear m k x g) (d .each m (omega (arith, s .within)) x l);
+      clear = λ m k x l. ⊎-elim (λ f. f) (λ g. s .clear m k x (rw b g)) (d .each m (omega (arith, s .within)) x l);
     }
 
 -- ---- all rounds

@@ -26,19 +26,19 @@ pub record Round (q : ℕ) (ls : List Bytes) (r n last e : ℕ) : Type 0 where
   pub hit : e < last → (e < length ls) × (again-at q ls e ≡ true)
   pub clear : (m : ℕ) → m < e → m < length ls → lane-of (hash-at q ls m) n ≡ r → again-at q ls m ≡ false
 
--- a hash in the table of all records of a round; and in that of the doubtful ones
-abbrev pub Crowded : List ℕ → ℕ → Type 0
-Crowded t h = Has t 20480 h (two-of h)
+-- a hash in the table of all records of a round, of nt words; and in that of the doubtful ones, of na words
+abbrev pub Crowded : ℕ → List ℕ → ℕ → Type 0
+Crowded nt t h = Has t nt h (two-of h)
 
-abbrev pub Doubtful : List ℕ → ℕ → Type 0
-Doubtful a h = Has a 4096 h (four-of h)
+abbrev pub Doubtful : ℕ → List ℕ → ℕ → Type 0
+Doubtful na a h = Has a na h (four-of h)
 
 -- each line of round r of n before `last` is new or doubtful
-pub record Doubted (q : ℕ) (ls : List Bytes) (r n last : ℕ) (a : List ℕ) : Type 0 where
-  pub each : (m : ℕ) → m < last → m < length ls → lane-of (hash-at q ls m) n ≡ r → (again-at q ls m ≡ false) ⊎ Doubtful a (hash-at q ls m)
+pub record Doubted (q : ℕ) (ls : List Bytes) (r n last na : ℕ) (a : List ℕ) : Type 0 where
+  pub each : (m : ℕ) → m < last → m < length ls → lane-of (hash-at q ls m) n ≡ r → (again-at q ls m ≡ false) ⊎ Doubtful na a (hash-at q ls m)
 
 -- e is the first doubtful line before `last` whose key stands before it; or it is `last`
-pub record Settled (q : ℕ) (ls : List Bytes) (a : List ℕ) (last e : ℕ) : Type 0 where
+pub record Settled (q : ℕ) (ls : List Bytes) (na : ℕ) (a : List ℕ) (last e : ℕ) : Type 0 where
   pub within : e ≤ last
   pub hit : e < last → (e < length ls) × (again-at q ls e ≡ true)
-  pub clear : (m : ℕ) → m < e → m < length ls → Doubtful a (hash-at q ls m) → again-at q ls m ≡ false
+  pub clear : (m : ℕ) → m < e → m < length ls → Doubtful na a (hash-at q ls m) → again-at q ls m ≡ false

@@ -19,6 +19,13 @@ const CROWD: usize = 20480;
 
 const DOUBTS: usize = 4096;
 
+// A section of so few bytes has few records: their tables are little, and one round is enough.
+const FEW: usize = 65536;
+
+const LITTLE_CROWD: usize = 512;
+
+const LITTLE_DOUBTS: usize = 128;
+
 fn hash_line(l: &[u8], choice: u64) -> u64
     ensures { λ r. ⌜ r ≡ hash-of choice (now (l .entry)) ⌝ }
 {
@@ -37,9 +44,11 @@ fn mark_doubts(
     t: &mut [u64],
     doubts: &mut [u64],
 )
-    requires { ⌜ (n < 2 ^ 32) × (length (now t) ≡ 20480) × (length (now doubts) ≡ 4096) ⌝ }
-    ensures { λ _. ⌜ Doubted choice (lines (now (w .entry))) r n last (now (doubts .exit)) ⌝ }
+    requires { ⌜ (n < 2 ^ 32) × (0 < length (now t)) × (0 < length (now doubts)) ⌝ }
+    ensures { λ _. ⌜ Doubted choice (lines (now (w .entry))) r n last (length (now (doubts .entry))) (now (doubts .exit)) ⌝ }
 {
+    let crowd = t.len();
+    let size = doubts.len();
     let mut at: usize = 0;
     let mut i: usize = 0;
     while at < w.len() {
@@ -54,8 +63,8 @@ fn mark_doubts(
         let h = hash_line(&w[here..e], choice);
         if find_lane(h, n) == r {
             if is_record(&w[here..e]) {
-                if put_two(t, CROWD, h) {
-                    put_four(doubts, DOUBTS, h);
+                if put_two(t, crowd, h) {
+                    put_four(doubts, size, h);
                 }
             }
         }
@@ -64,9 +73,11 @@ fn mark_doubts(
 
 // One more pass, over the doubtful records alone: they leave most bits clear, and only those whose bits were all set are searched for.
 fn settle_doubts(w: &[u8], choice: u64, last: usize, doubts: &[u64], t: &mut [u64]) -> usize
-    requires { ⌜ (length (now doubts) ≡ 4096) × (length (now t) ≡ 20480) ⌝ }
-    ensures { λ e. ⌜ Settled choice (lines (now (w .entry))) (now (doubts .entry)) last e ⌝ }
+    requires { ⌜ (0 < length (now doubts)) × (0 < length (now t)) ⌝ }
+    ensures { λ e. ⌜ Settled choice (lines (now (w .entry))) (length (now (doubts .entry))) (now (doubts .entry)) last e ⌝ }
 {
+    let size = doubts.len();
+    let crowd = t.len();
     let mut at: usize = 0;
     let mut i: usize = 0;
     while at < w.len() {
@@ -80,9 +91,9 @@ fn settle_doubts(w: &[u8], choice: u64, last: usize, doubts: &[u64], t: &mut [u6
         at = e;
         i += 1;
         let h = hash_line(&w[here..e], choice);
-        if has_four(doubts, DOUBTS, h) {
+        if has_four(doubts, size, h) {
             if is_record(&w[here..e]) {
-                if put_four(t, CROWD, h) {
+                if put_four(t, crowd, h) {
                     if is_again(w, here, e, choice) {
                         return k;
                     }
@@ -101,16 +112,50 @@ fn wipe(t: &mut [u64]) {
     }
 }
 
-// The first line before `last`, of those in round r of n, whose key stands before it; or `last`.
-fn sift_round(w: &[u8], choice: u64, r: u64, n: u64, last: usize) -> usize
+// The first line before `last`, of those in round r of n, whose key stands before it; or `last`. Both tables are empty.
+fn sift_in(
+    w: &[u8],
+    choice: u64,
+    r: u64,
+    n: u64,
+    last: usize,
+    t: &mut [u64],
+    doubts: &mut [u64],
+) -> usize
+    requires { ⌜ (n < 2 ^ 32) × (0 < length (now t)) × (0 < length (now doubts)) ⌝ }
+    ensures { λ e. ⌜ Round choice (lines (now (w .entry))) r n last e ⌝ }
+{
+    mark_doubts(w, choice, r, n, last, t, doubts);
+    wipe(t);
+    settle_doubts(w, choice, last, &doubts[..], t)
+}
+
+fn sift_few(w: &[u8], choice: u64, r: u64, n: u64, last: usize) -> usize
+    requires { ⌜ n < 2 ^ 32 ⌝ }
+    ensures { λ e. ⌜ Round choice (lines (now (w .entry))) r n last e ⌝ }
+{
+    let mut t = [0; LITTLE_CROWD];
+    let mut doubts = [0; LITTLE_DOUBTS];
+    sift_in(w, choice, r, n, last, &mut t, &mut doubts)
+}
+
+fn sift_many(w: &[u8], choice: u64, r: u64, n: u64, last: usize) -> usize
     requires { ⌜ n < 2 ^ 32 ⌝ }
     ensures { λ e. ⌜ Round choice (lines (now (w .entry))) r n last e ⌝ }
 {
     let mut t = [0; CROWD];
     let mut doubts = [0; DOUBTS];
-    mark_doubts(w, choice, r, n, last, &mut t, &mut doubts);
-    wipe(&mut t);
-    settle_doubts(w, choice, last, &doubts, &mut t)
+    sift_in(w, choice, r, n, last, &mut t, &mut doubts)
+}
+
+fn sift_round(w: &[u8], choice: u64, r: u64, n: u64, last: usize) -> usize
+    requires { ⌜ n < 2 ^ 32 ⌝ }
+    ensures { λ e. ⌜ Round choice (lines (now (w .entry))) r n last e ⌝ }
+{
+    if w.len() < FEW {
+        return sift_few(w, choice, r, n, last);
+    }
+    sift_many(w, choice, r, n, last)
 }
 
 fn count_lines(w: &[u8]) -> usize {
@@ -125,9 +170,13 @@ fn count_lines(w: &[u8]) -> usize {
 }
 
 // Of 400,000 records about 30,000 are doubtful, and hardly one of these is searched for.
-fn count_rounds(n: usize) -> u64
+fn count_rounds(w: &[u8]) -> u64
     ensures { λ r. ⌜ (0 < r) × (r < 2 ^ 32) ⌝ }
 {
+    if w.len() < FEW {
+        return 1;
+    }
+    let n = count_lines(w);
     if n < 100000000 {
         return (n / 400000) as u64 + 1;
     }
@@ -139,7 +188,7 @@ pub fn find_repeat(w: &[u8], choice: u64) -> usize
     ensures { λ r. ⌜ r ≡ first-line (again choice) [] 0 (lines (now (w .entry))) ⌝ }
 {
     let size = w.len();
-    let rounds = count_rounds(count_lines(w));
+    let rounds = count_rounds(w);
     let mut last = size;
     let mut r: u64 = 0;
     while r < rounds {

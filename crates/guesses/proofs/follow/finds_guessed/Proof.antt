@@ -2,17 +2,18 @@
 use Prim.Native.Nat.{ℕ, _-_, _≤_}
 use mathlib.Core.Path.{_≡_}
 use native.Mathlib.Omega.{arith}
+use lib.ListN.{length}
 use borrow.Author.Needs.{needs}
 use Rattle.guesses.proofs.follow.finds_guessed.Statement.{statement}
 use Rattle.guesses.proofs.follow.finds_guessed.Tie as tie
 
 abbrev Inv-loop : tie.InvT-loop
 Inv-loop w g h choice key bits i₀ i =
-    i ≤ 57344
+    i ≤ length g
 
 abbrev μ-loop : tie.MeasureT-loop
 μ-loop w g h choice key bits i₀ i =
-    57344 - i
+    length g - i
 
 find-bits-requires : tie.Need-find-bits-requires Inv-loop μ-loop
 find-bits-requires c κs = search needs

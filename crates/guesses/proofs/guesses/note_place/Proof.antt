@@ -1,18 +1,18 @@
 -- `guesses::guesses::note_place` meets its contract. Assumes nothing.
-use Prim.Native.Nat.{_-_, _≤_}
-use mathlib.Core.Path.{_≡_, sym, _∙_}
-use lib.ListN.{length, length-set}
+use Prim.Native.Nat.{_-_}
+use mathlib.Core.Path.{_≡_}
+use lib.ListN.{length}
 use borrow.Author.Needs.{needs}
 use Rattle.guesses.proofs.guesses.note_place.Statement.{statement}
 use Rattle.guesses.proofs.guesses.note_place.Tie as tie
 
 abbrev Inv-loop : tie.InvT-loop
 Inv-loop g₀ h at mark i₀ g i =
-    (i ≤ 57344) × (length g ≡ 57344)
+    length g ≡ length g₀
 
 abbrev μ-loop : tie.MeasureT-loop
 μ-loop g₀ h at mark i₀ g i =
-    57344 - i
+    length g₀ - i
 
 returns : tie.Need-returns Inv-loop μ-loop
 returns c = search needs
@@ -57,8 +57,7 @@ slice-write-g : tie.Need-slice-write-g Inv-loop μ-loop
 slice-write-g c = search needs
 
 same-length-2 : tie.Need-same-length-2 Inv-loop μ-loop
-same-length-2 c =
-    simp length-set (c .before .before .before .before .before .before .loop .inv .1 ∙ sym (c .before .before .before .before .before .before .before .before .before .before .before .pre))
+same-length-2 c = search needs
 
 returns-3 : tie.Need-returns-3 Inv-loop μ-loop
 returns-3 c = search needs

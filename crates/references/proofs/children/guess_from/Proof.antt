@@ -1,7 +1,7 @@
 -- `references::children::guess_from` meets its contract. Assumes nothing.
 use Rattle.references.proofs.AimLaws.{aim-bounds}
 use Prim.Native.Nat.{_-_, _≤_}
-use mathlib.Core.Path.{_≡_, sym, _∙_}
+use mathlib.Core.Path.{_≡_, refl, _∙_}
 use native.Mathlib.Omega.{arith}
 use lib.ListN.{length}
 use borrow.Author.Needs.{needs}
@@ -10,7 +10,7 @@ use Rattle.references.proofs.children.guess_from.Tie as tie
 
 abbrev Inv-loop : tie.InvT-loop
 Inv-loop s w at aims known g₀ until next₀ g next =
-    (next ≤ 3) × (length g ≡ 57344)
+    (next ≤ 3) × (length g ≡ length g₀)
 
 abbrev μ-loop : tie.MeasureT-loop
 μ-loop s w at aims known g₀ until next₀ g next =
@@ -20,12 +20,10 @@ wipe-requires : tie.Need-wipe-requires Inv-loop μ-loop
 wipe-requires c κs = search needs
 
 note-records-requires : tie.Need-note-records-requires Inv-loop μ-loop
-note-records-requires c κs =
-    c .before .before .before .wipe .kept .0 ∙ c .before .before .before .before .before .before .before .before .pre .1
+note-records-requires c κs = search needs
 
 loop-holds : tie.Need-loop-holds Inv-loop μ-loop
-loop-holds c =
-    (omega arith, c .before .before .note-records .kept .1 .1 .1 .1 .0 ∙ c .before .before .before .before .before .before .wipe .kept .0 ∙ c .before .before .before .before .before .before .before .before .before .before .before .pre .1)
+loop-holds c = (omega arith, refl)
 
 add-next : tie.Need-add-next Inv-loop μ-loop
 add-next c = search needs
@@ -38,17 +36,17 @@ find-aim-requires c κs = search needs
 
 sub-note-targets : tie.Need-sub-note-targets Inv-loop μ-loop
 sub-note-targets c =
-    let b = aim-bounds (c .before .before .before .before .before .before .before .before .before .before .before .before .before .before .before .before .pre .0) (c .before .before .before .before .loop .next) (c .before .before .before .loop-test .taken) (c .find-aim .result) (c .find-aim .ensures) in
+    let b = aim-bounds (c .before .before .before .before .before .before .before .before .before .before .before .before .before .before .before .before .pre) (c .before .before .before .before .loop .next) (c .before .before .before .loop-test .taken) (c .find-aim .result) (c .find-aim .ensures) in
     search needs
 
 part-note-targets-start : tie.Need-part-note-targets-start Inv-loop μ-loop
 part-note-targets-start c =
-    let b = aim-bounds (c .before .before .before .before .before .before .before .before .before .before .before .before .before .before .before .before .pre .0) (c .before .before .before .before .loop .next) (c .before .before .before .loop-test .taken) (c .find-aim .result) (c .find-aim .ensures) in
+    let b = aim-bounds (c .before .before .before .before .before .before .before .before .before .before .before .before .before .before .before .before .pre) (c .before .before .before .before .loop .next) (c .before .before .before .loop-test .taken) (c .find-aim .result) (c .find-aim .ensures) in
     search needs
 
 part-note-targets-end : tie.Need-part-note-targets-end Inv-loop μ-loop
 part-note-targets-end c =
-    let b = aim-bounds (c .before .before .before .before .before .before .before .before .before .before .before .before .before .before .before .before .pre .0) (c .before .before .before .before .loop .next) (c .before .before .before .loop-test .taken) (c .find-aim .result) (c .find-aim .ensures) in
+    let b = aim-bounds (c .before .before .before .before .before .before .before .before .before .before .before .before .before .before .before .before .pre) (c .before .before .before .before .loop .next) (c .before .before .before .loop-test .taken) (c .find-aim .result) (c .find-aim .ensures) in
     search needs
 
 note-targets-requires : tie.Need-note-targets-requires Inv-loop μ-loop
@@ -73,7 +71,7 @@ keep-end-requires c κs = search needs
 
 same-length : tie.Need-same-length Inv-loop μ-loop
 same-length c =
-    c .before .before .loop .inv .1 ∙ sym (c .before .before .before .before .before .before .before .before .before .before .before .before .before .before .pre .1)
+    c .before .before .loop .inv .1 ∙ c .before .before .before .before .before .note-records .kept .1 .1 .1 .1 .0 ∙ c .before .before .before .before .before .before .before .before .before .wipe .kept .0
 
 returns : tie.Need-returns Inv-loop μ-loop
 returns c = search needs

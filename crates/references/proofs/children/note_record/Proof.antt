@@ -8,7 +8,7 @@ use Rattle.references.proofs.children.note_record.Tie as tie
 
 abbrev Inv-loop : tie.InvT-loop
 Inv-loop w at aims known g₀ new₀ next₀ g new next =
-    (new ≤ next) × (next ≤ 3) × (length g ≡ 57344)
+    (new ≤ next) × (next ≤ 3) × (length g ≡ length g₀)
 
 abbrev μ-loop : tie.MeasureT-loop
 μ-loop w at aims known g₀ new₀ next₀ g new next =

@@ -1,6 +1,6 @@
 -- `references::children::note_records` meets its contract. Assumes nothing.
 use Rattle.lines.proofs.CursorLaws.{handed}
-use Prim.Native.Nat.{_-_, _≤_}
+use Prim.Native.Nat.{_+_, _-_, _≤_}
 use mathlib.Core.Path.{_≡_, _∙_}
 use native.Mathlib.Omega.{arith}
 use lib.ListN.{length}
@@ -9,12 +9,15 @@ use Rattle.references.proofs.children.note_records.Statement.{statement
 use Rattle.references.proofs.children.note_records.Tie as tie
 
 abbrev Inv-loop : tie.InvT-loop
-Inv-loop w at aims known g₀ count₀ from₀ g count from =
-    (count ≤ 40502) × (length g ≡ 57344)
+Inv-loop w at aims known g₀ most count₀ from₀ g count from =
+    (count ≤ most + 2) × (length g ≡ length g₀)
 
 abbrev μ-loop : tie.MeasureT-loop
-μ-loop w at aims known g₀ count₀ from₀ g count from =
+μ-loop w at aims known g₀ most count₀ from₀ g count from =
     length w - from
+
+most-keys-requires : tie.Need-most-keys-requires Inv-loop μ-loop
+most-keys-requires c κs = search needs
 
 loop-holds : tie.Need-loop-holds Inv-loop μ-loop
 loop-holds c = search needs
@@ -36,7 +39,7 @@ add-count c = search needs
 
 loop-less : tie.Need-loop-less Inv-loop μ-loop
 loop-less c =
-    let t = handed (c .before .before .before .before .before .before .before .before .before .before .args .w .now) (c .before .before .before .before .before .before .before .loop .from) (c .before .before .before .before .line .result) (c .before .before .before .before .before .before .loop-test .taken) (c .before .before .before .before .line .ensures) in
+    let t = handed (c .before .before .before .before .before .before .before .before .before .before .before .args .w .now) (c .before .before .before .before .before .before .before .loop .from) (c .before .before .before .before .line .result) (c .before .before .before .before .before .before .loop-test .taken) (c .before .before .before .before .line .ensures) in
     omega arith
 
 loop-again : tie.Need-loop-again Inv-loop μ-loop
@@ -55,6 +58,7 @@ note-records-spec =
     (tie.spec
     Inv-loop
     μ-loop
+    most-keys-requires
     loop-holds
     same-length
     returns

@@ -8,7 +8,7 @@ use Rattle.references.proofs.children.note_targets.Tie as tie
 
 abbrev Inv-loop : tie.InvT-loop
 Inv-loop w t choice g₀ from₀ g from =
-    length g ≡ 57344
+    length g ≡ length g₀
 
 abbrev μ-loop : tie.MeasureT-loop
 μ-loop w t choice g₀ from₀ g from =

@@ -5,7 +5,7 @@ use Rattle.references.specs.Aims.{lacks}
 use Rattle.scans.specs.Scan.{some}
 use Rattle.page.specs.Fields.{fields}
 use Prim.Native.Nat.{_-_, _≤_}
-use mathlib.Core.Path.{_≡_, sym, _∙_}
+use mathlib.Core.Path.{_≡_, refl, sym, _∙_}
 use native.Mathlib.Omega.{arith}
 use lib.ListN.{length}
 use borrow.Author.Needs.{needs}
@@ -14,7 +14,7 @@ use Rattle.references.proofs.references.loses.Tie as tie
 
 abbrev Inv-loop : tie.InvT-loop
 Inv-loop s w at e t aims g₀ f n known₀ r₀ g known r =
-    (r ≤ n) × (some (lacks s aims t (fields f)) r (n - r) ≡ some (lacks s aims t (fields f)) 0 n) × (length g ≡ 57344)
+    (r ≤ n) × (some (lacks s aims t (fields f)) r (n - r) ≡ some (lacks s aims t (fields f)) 0 n) × (length g ≡ length g₀)
 
 abbrev μ-loop : tie.MeasureT-loop
 μ-loop s w at e t aims g₀ f n known₀ r₀ g known r =
@@ -48,7 +48,7 @@ count-references-requires c κs = search needs
 loop-holds : tie.Need-loop-holds Inv-loop μ-loop
 loop-holds c =
     let n : c .count-references .result - 0 ≡ c .count-references .result = omega arith in
-    (omega arith, rw n, c .before .before .before .before .before .before .before .before .before .pre .3)
+    (omega arith, rw n, refl)
 
 read-reference-requires : tie.Need-read-reference-requires Inv-loop μ-loop
 read-reference-requires c κs = search needs
@@ -56,11 +56,11 @@ read-reference-requires c κs = search needs
 reaches-requires : tie.Need-reaches-requires Inv-loop μ-loop
 reaches-requires c κs =
     let k = few-references (c .before .before .before .before .before .before .before .before .before .before .before .before .before .args .t) (c .before .before .before .before .count-references .result) (c .before .before .before .before .count-references .ensures) in
-    (c .before .before .before .before .before .before .before .before .before .before .before .before .before .pre .0, omega arith, c .before .before .before .loop .inv .2)
+    (c .before .before .before .before .before .before .before .before .before .before .before .before .before .pre .0, omega arith)
 
 same-length : tie.Need-same-length Inv-loop μ-loop
 same-length c =
-    c .before .before .before .before .reaches .kept .1 .1 .1 .1 .1 .1 .1 .0 ∙ c .before .before .before .before .before .before .before .before .loop .inv .2 ∙ sym (c .before .before .before .before .before .before .before .before .before .before .before .before .before .before .before .before .before .before .pre .3)
+    c .before .before .before .before .reaches .kept .1 .1 .1 .1 .1 .1 .1 .0 ∙ c .before .before .before .before .before .before .before .before .loop .inv .2
 
 returns-2 : tie.Need-returns-2 Inv-loop μ-loop
 returns-2 c =
@@ -79,7 +79,7 @@ loop-again c =
 
 same-length-2 : tie.Need-same-length-2 Inv-loop μ-loop
 same-length-2 c =
-    c .before .loop .inv .2 ∙ sym (c .before .before .before .before .before .before .before .before .before .before .before .pre .3)
+    c .before .loop .inv .2
 
 returns-3 : tie.Need-returns-3 Inv-loop μ-loop
 returns-3 c =

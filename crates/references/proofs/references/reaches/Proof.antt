@@ -1,7 +1,7 @@
 -- `references::references::reaches` meets its contract. Assumes nothing.
 use Rattle.references.proofs.AimLaws.{aim-bounds, reached-at}
 use Prim.Native.Nat.{_-_}
-use mathlib.Core.Path.{sym, _∙_}
+use mathlib.Core.Path.{sym}
 use borrow.Author.Needs.{needs}
 use Rattle.references.proofs.references.reaches.Statement.{statement}
 use Rattle.references.proofs.references.reaches.Tie as tie
@@ -12,7 +12,7 @@ find-aim-requires c κs = search needs
 reaches-soon-requires : tie.Need-reaches-soon-requires
 reaches-soon-requires c κs =
     let b = aim-bounds (c .before .before .before .before .before .pre .0) (c .before .before .before .before .before .args .r) (c .before .before .before .before .before .pre .1) (c .before .find-aim .result) (c .before .find-aim .ensures) in
-    (b .0, b .1, search needs)
+    (b .0, b .1)
 
 keep-place-requires : tie.Need-keep-place-requires
 keep-place-requires c κs = search needs
@@ -30,7 +30,7 @@ guess-more-requires c κs = search needs
 reaches-late-requires : tie.Need-reaches-late-requires
 reaches-late-requires c κs =
     let b = aim-bounds (c .before .before .before .before .before .before .before .before .before .before .before .before .pre .0) (c .before .before .before .before .before .before .before .before .before .before .before .before .args .r) (c .before .before .before .before .before .before .before .before .before .before .before .before .pre .1) (c .before .before .before .before .before .before .before .before .find-aim .result) (c .before .before .before .before .before .before .before .before .find-aim .ensures) in
-    (b .0, b .1, c .before .before .before .guess-more .kept .1 .1 .1 .1 .1 .1 .0 ∙ c .before .before .before .before .before .before .before .before .before .before .before .before .pre .2)
+    (b .0, b .1)
 
 keep-place-requires-2 : tie.Need-keep-place-requires-2
 keep-place-requires-2 c κs = search needs

@@ -16,9 +16,6 @@ abbrev μ-loop : tie.MeasureT-loop
 μ-loop w choice size rounds last₀ r₀ last r =
     rounds - r
 
-count-lines-requires : tie.Need-count-lines-requires Inv-loop μ-loop
-count-lines-requires c κs = search needs
-
 count-rounds-requires : tie.Need-count-rounds-requires Inv-loop μ-loop
 count-rounds-requires c κs = search needs
 
@@ -44,7 +41,7 @@ returns : tie.Need-returns Inv-loop μ-loop
 returns c = done-at _ _ _ _ _ _ (c .before .before .before .count-rounds .ensures .0) (c .before .loop-test .left) (c .before .before .loop .inv .1) (c .if1 .taken)
 
 returns-2 : tie.Need-returns-2 Inv-loop μ-loop
-returns-2 c = done-none _ _ _ _ _ _ (c .before .before .before .count-rounds .ensures .0) (c .before .loop-test .left) (c .before .before .loop .inv .1) (lines-few (c .before .before .before .before .before .before .args .w .now)) (c .if1 .left)
+returns-2 c = done-none _ _ _ _ _ _ (c .before .before .before .count-rounds .ensures .0) (c .before .loop-test .left) (c .before .before .loop .inv .1) (lines-few (c .before .before .before .before .before .args .w .now)) (c .if1 .left)
 
 pub find-repeat-spec : {M : Type 1} → statement M
 find-repeat-spec =
@@ -52,7 +49,6 @@ find-repeat-spec =
     (tie.spec
     Inv-loop
     μ-loop
-    count-lines-requires
     count-rounds-requires
     loop-holds
     sift-round-requires

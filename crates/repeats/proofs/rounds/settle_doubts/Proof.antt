@@ -5,22 +5,22 @@ use Rattle.lines.proofs.CursorLaws.{handed}
 use Rattle.page.specs.Lines.{lines}
 use borrow.Author.Needs.{needs}
 use Prim.Native.Nat.{_-_, _≤_}
-use mathlib.Core.Path.{_≡_, _∙_}
+use mathlib.Core.Path.{_≡_, refl, _∙_}
 use native.Mathlib.Omega.{arith}
 use lib.ListN.{length}
 use Rattle.repeats.proofs.rounds.settle_doubts.Statement.{statement}
 use Rattle.repeats.proofs.rounds.settle_doubts.Tie as tie
 
 abbrev Inv-loop : tie.InvT-loop
-Inv-loop w choice last doubts t₀ at₀ i₀ t at i =
-    (i ≤ last) × (length t ≡ 20480) × Stands w at i × Told choice (lines w) doubts t i
+Inv-loop w choice last doubts t₀ size crowd at₀ i₀ t at i =
+    (i ≤ last) × (length t ≡ crowd) × Stands w at i × Told choice (lines w) size doubts crowd t i
 
 abbrev μ-loop : tie.MeasureT-loop
-μ-loop w choice last doubts t₀ at₀ i₀ t at i =
+μ-loop w choice last doubts t₀ size crowd at₀ i₀ t at i =
     length w - at
 
 loop-holds : tie.Need-loop-holds Inv-loop μ-loop
-loop-holds c = (omega arith, c .before .before .before .pre .1, stands-first _, λ m h. absurd (omega arith))
+loop-holds c = (omega arith, refl, stands-first _, λ m h. absurd (omega arith))
 
 same-length : tie.Need-same-length Inv-loop μ-loop
 same-length c = search needs
@@ -59,7 +59,7 @@ hash-line-requires : tie.Need-hash-line-requires Inv-loop μ-loop
 hash-line-requires c κs = search needs
 
 has-four-requires : tie.Need-has-four-requires Inv-loop μ-loop
-has-four-requires c κs = (omega arith, omega (arith, c .before .before .before .before .before .before .before .before .before .pre .0))
+has-four-requires c κs = (c .before .before .before .before .before .before .before .before .before .pre .0, omega arith)
 
 sub-is-record : tie.Need-sub-is-record Inv-loop μ-loop
 sub-is-record c =
@@ -86,7 +86,7 @@ is-record-requires : tie.Need-is-record-requires Inv-loop μ-loop
 is-record-requires c κs = search needs
 
 put-four-requires : tie.Need-put-four-requires Inv-loop μ-loop
-put-four-requires c κs = (omega arith, omega (arith, c .before .before .before .before .before .before .before .before .before .before .before .loop .inv .1))
+put-four-requires c κs = (c .before .before .before .before .before .before .before .before .before .before .before .before .before .before .before .pre .1, omega (arith, c .before .before .before .before .before .before .before .before .before .before .before .loop .inv .1))
 
 is-again-requires : tie.Need-is-again-requires Inv-loop μ-loop
 is-again-requires c κs =
@@ -124,7 +124,7 @@ loop-again c =
     let t = handed w (v .at) (c .before .before .before .before .before .before .before .before .before .before .before .before .before .before .line .result) (c .before .before .before .before .before .before .before .before .before .before .before .before .before .before .before .before .loop-test .taken) (c .before .before .before .before .before .before .before .before .before .before .before .before .before .before .line .ensures) in
     let e = c .before .before .before .before .before .before .before .before .before .before .before .before .before .before .line .result .span .to in
     let h = hash-here w (v .at) (v .i) e (v .inv .2) (c .before .before .before .before .before .before .before .before .before .before .before .before .before .before .before .before .loop-test .taken) (t .size) _ _ (c .before .before .before .before .before .before .before .before .before .before .before .before .hash-line .ensures) in
-    (omega arith, c .before .before .before .before .before .put-four .kept .0 ∙ v .inv .1, stands-next w (v .at) (v .i) e (v .inv .2) (c .before .before .before .before .before .before .before .before .before .before .before .before .before .before .before .before .loop-test .taken) (t .size), told-met _ _ _ _ h _ _ (v .inv .3) _ _ (c .before .before .before .before .before .put-four .ensures) (again-here w (v .at) (v .i) e (v .inv .2) (c .before .before .before .before .before .before .before .before .before .before .before .before .before .before .before .before .loop-test .taken) (t .size) _ _ (c .before .is-again .ensures) ∙ c .if5 .left))
+    (omega arith, c .before .before .before .before .before .put-four .kept .0 ∙ v .inv .1, stands-next w (v .at) (v .i) e (v .inv .2) (c .before .before .before .before .before .before .before .before .before .before .before .before .before .before .before .before .loop-test .taken) (t .size), told-met _ _ _ _ h _ _ _ _ (v .inv .3) _ _ (c .before .before .before .before .before .put-four .ensures) (again-here w (v .at) (v .i) e (v .inv .2) (c .before .before .before .before .before .before .before .before .before .before .before .before .before .before .before .before .loop-test .taken) (t .size) _ _ (c .before .is-again .ensures) ∙ c .if5 .left))
 
 loop-less-2 : tie.Need-loop-less-2 Inv-loop μ-loop
 loop-less-2 c =
@@ -140,7 +140,7 @@ loop-again-2 c =
     let t = handed w (v .at) (c .before .before .before .before .before .before .before .before .before .before .before .before .line .result) (c .before .before .before .before .before .before .before .before .before .before .before .before .before .before .loop-test .taken) (c .before .before .before .before .before .before .before .before .before .before .before .before .line .ensures) in
     let e = c .before .before .before .before .before .before .before .before .before .before .before .before .line .result .span .to in
     let h = hash-here w (v .at) (v .i) e (v .inv .2) (c .before .before .before .before .before .before .before .before .before .before .before .before .before .before .loop-test .taken) (t .size) _ _ (c .before .before .before .before .before .before .before .before .before .before .hash-line .ensures) in
-    (omega arith, c .before .before .before .put-four .kept .0 ∙ v .inv .1, stands-next w (v .at) (v .i) e (v .inv .2) (c .before .before .before .before .before .before .before .before .before .before .before .before .before .before .loop-test .taken) (t .size), told-new _ _ _ _ h _ _ (v .inv .3) _ _ (c .before .before .before .put-four .ensures) (stands-in w (v .at) (v .i) e (v .inv .2) (c .before .before .before .before .before .before .before .before .before .before .before .before .before .before .loop-test .taken) (t .size)) (c .before .before .before .before .before .before .before .before .before .has-four .ensures .holds (c .before .before .before .before .before .before .before .before .if2 .taken)) (c .if4 .left))
+    (omega arith, c .before .before .before .put-four .kept .0 ∙ v .inv .1, stands-next w (v .at) (v .i) e (v .inv .2) (c .before .before .before .before .before .before .before .before .before .before .before .before .before .before .loop-test .taken) (t .size), told-new _ _ _ _ h _ _ _ _ (v .inv .3) _ _ (c .before .before .before .put-four .ensures) (stands-in w (v .at) (v .i) e (v .inv .2) (c .before .before .before .before .before .before .before .before .before .before .before .before .before .before .loop-test .taken) (t .size)) (c .before .before .before .before .before .before .before .before .before .has-four .ensures .holds (c .before .before .before .before .before .before .before .before .if2 .taken)) (c .if4 .left))
 
 loop-less-3 : tie.Need-loop-less-3 Inv-loop μ-loop
 loop-less-3 c =
@@ -156,7 +156,7 @@ loop-again-3 c =
     let t = handed w (v .at) (c .before .before .before .before .before .before .before .line .result) (c .before .before .before .before .before .before .before .before .before .loop-test .taken) (c .before .before .before .before .before .before .before .line .ensures) in
     let e = c .before .before .before .before .before .before .before .line .result .span .to in
     let h = hash-here w (v .at) (v .i) e (v .inv .2) (c .before .before .before .before .before .before .before .before .before .loop-test .taken) (t .size) _ _ (c .before .before .before .before .before .hash-line .ensures) in
-    (omega arith, v .inv .1, stands-next w (v .at) (v .i) e (v .inv .2) (c .before .before .before .before .before .before .before .before .before .loop-test .taken) (t .size), told-other _ _ _ _ h _ _ (v .inv .3) (record-here w (v .at) (v .i) e (v .inv .2) (c .before .before .before .before .before .before .before .before .before .loop-test .taken) (t .size) _ (c .before .is-record .ensures) ∙ c .if3 .left))
+    (omega arith, v .inv .1, stands-next w (v .at) (v .i) e (v .inv .2) (c .before .before .before .before .before .before .before .before .before .loop-test .taken) (t .size), told-other _ _ _ _ h _ _ _ _ (v .inv .3) (record-here w (v .at) (v .i) e (v .inv .2) (c .before .before .before .before .before .before .before .before .before .loop-test .taken) (t .size) _ (c .before .is-record .ensures) ∙ c .if3 .left))
 
 loop-less-4 : tie.Need-loop-less-4 Inv-loop μ-loop
 loop-less-4 c =
@@ -172,7 +172,7 @@ loop-again-4 c =
     let t = handed w (v .at) (c .before .before .before .before .line .result) (c .before .before .before .before .before .before .loop-test .taken) (c .before .before .before .before .line .ensures) in
     let e = c .before .before .before .before .line .result .span .to in
     let h = hash-here w (v .at) (v .i) e (v .inv .2) (c .before .before .before .before .before .before .loop-test .taken) (t .size) _ _ (c .before .before .hash-line .ensures) in
-    (omega arith, v .inv .1, stands-next w (v .at) (v .i) e (v .inv .2) (c .before .before .before .before .before .before .loop-test .taken) (t .size), told-skip _ _ _ _ h _ _ (v .inv .3) (c .before .has-four .ensures .absent (c .if2 .left)))
+    (omega arith, v .inv .1, stands-next w (v .at) (v .i) e (v .inv .2) (c .before .before .before .before .before .before .loop-test .taken) (t .size), told-skip _ _ _ _ h _ _ _ _ (v .inv .3) (c .before .has-four .ensures .absent (c .if2 .left)))
 
 same-length-3 : tie.Need-same-length-3 Inv-loop μ-loop
 same-length-3 c = search needs
