@@ -2,24 +2,23 @@
 use mathlib.Core.Path.{_≡_, refl, ap, sym, _∙_}
 use mathlib.Core.Bool.{Bool, true, false}
 use mathlib.Core.List.{List, [], _∷_, map}
-use Prim.Native.Nat.{ℕ, zero, suc, _+_, _*_, _/_, _%_, _^_, _<_, _≤_, zero-le}
-use native.Mathlib.Nat.{pow-suc, pow-le-pow-right}
-use native.Mathlib.Numerals.{add-one}
+use Prim.Native.Nat.{ℕ, zero, suc, _+_, _*_, _/_, _%_, _<_, _≤_}
 use native.Mathlib.Omega.{arith}
-use lib.Dec.{eqb, leb, lit<}
-use lib.ListN.{length, drop, drop-of-length-le, length-drop, List·getD-eq-default}
+use lib.Dec.{eqb, leb}
+use lib.ListN.{length, drop, drop-of-length-le, List·getD-eq-default}
 use lib.Seq.{drop-cons}
 use borrow.Author.Tests.{leb-true, leb-false}
 use Rattle.page.specs.Bytes.{Bytes, pick}
-use Rattle.page.specs.Tables.{Named, no-column, columns, column-at, width, standing}
+use Rattle.page.specs.Tables.{Named, WIDEST, columns, standing}
 use Rattle.page.specs.Marks.{owner-of}
 use Rattle.page.specs.Records.{number, Record, datumOf, valuesOf}
 use Rattle.page.specs.File.{key-in, referred}
 use Rattle.page.specs.declared.Column.{Column}
 use Rattle.page.specs.declared.Owner.{Owner}
-use Rattle.page.proofs.TableLaws.{fill, width-le}
-use Rattle.keys.proofs.ReferenceLaws.{flagged, flags-columns}
-use Rattle.keys.specs.Numbers.{datum-number, seven, key-numbers, refer-numbers, field-as, chosen, kind-of, choice-by, key-choice, flags, reference-at, refer-choice}
+use Rattle.tables.specs.Arrays.{fill}
+use Rattle.tables.proofs.ReferenceLaws.{flagged, flags-columns}
+use Rattle.tables.specs.Choices.{kind-of, choice-by, key-choice, flags, reference-at, refer-choice}
+use Rattle.keys.specs.Numbers.{datum-number, seven, key-numbers, refer-numbers, field-as, chosen}
 
 pub chosen-none : (fs : List Bytes) → chosen 0 fs ≡ []
 unfolding chosen

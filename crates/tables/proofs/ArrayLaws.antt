@@ -4,7 +4,7 @@ use mathlib.Core.List.{List, [], _∷_, map}
 use Prim.Native.Nat.{ℕ, zero, suc, _<_, _≤_}
 use native.Mathlib.Omega.{arith}
 use lib.ListN.{length, getD}
-use Rattle.page.specs.Tables.{Named, Rule, points-differ, Table, all-tables, TABLES, WIDEST, no-table, no-column, table-at, columns, column-at, width, rules}
+use Rattle.page.specs.Tables.{Named, Rule, points-differ, Table, all-tables, TABLES, WIDEST, no-table, no-column, table-at, columns, column-at, rules}
 use Rattle.page.specs.declared.Column.{Column}
 use Rattle.page.proofs.TableLaws.{tables-counted, width-le, past-tables, past-width, past-columns, listed, each-table}
 use Rattle.tables.specs.Arrays.{fill, rows}

@@ -14,7 +14,7 @@ use Rattle.page.specs.Tables.{Named, Table, all-tables, TABLES, WIDEST, no-tabl
 use Rattle.page.specs.File.{any}
 use Rattle.page.proofs.NameLaws.{below, below-at}
 use Rattle.page.proofs.TestLaws.{and-left, and-right, same-true}
-use Rattle.page.proofs.TableLaws.{tables-counted, listed, each-table}
+use Rattle.page.proofs.TableLaws.{listed, each-table}
 use Rattle.tables.specs.Arrays.{fill, rows}
 use Rattle.tables.specs.Words.{column-names, once, words, word, row, Reads}
 use Rattle.tables.proofs.ArrayLaws.{entry}

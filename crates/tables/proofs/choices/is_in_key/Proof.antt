@@ -1,6 +1,5 @@
 -- `tables::choices::is_in_key` meets its contract. Assumes nothing.
 use Rattle.page.specs.Tables.{column-at}
-use Rattle.page.specs.declared.Column.{Column}
 use Rattle.tables.specs.Choices.{by-key}
 use mathlib.Core.Path.{ap, sym, _∙_}
 use mathlib.Core.Bool.{Bool}

@@ -1,4 +1,4 @@
--- `cells::tables::hand_table` meets its contract. Assumes nothing.
+-- `cells::records::hand_table` meets its contract. Assumes nothing.
 use lib.Seq.{length-take-le}
 use Rattle.page.specs.Tables.{width}
 use Rattle.page.specs.Answers.{refusal, sound, refuse-if}
@@ -15,8 +15,8 @@ use native.Mathlib.Omega.{arith}
 use borrow.Author.Tests.{lt-ltb, le-ltb}
 use lib.ListN.{length}
 use borrow.Author.Needs.{needs}
-use Rattle.cells.proofs.tables.hand_table.Statement.{statement}
-use Rattle.cells.proofs.tables.hand_table.Tie as tie
+use Rattle.cells.proofs.records.hand_table.Statement.{statement}
+use Rattle.cells.proofs.records.hand_table.Tie as tie
 
 read-charset-requires : tie.Need-read-charset-requires
 read-charset-requires c κs = search needs

@@ -8,8 +8,8 @@ use borrow.Author.Needs.{needs}
 use Prim.Native.Nat.{_-_, _≤_}
 use native.Mathlib.Omega.{arith}
 use lib.ListN.{drop}
-use Rattle.frames.proofs.tables.put_atr_line.Statement.{statement}
-use Rattle.frames.proofs.tables.put_atr_line.Tie as tie
+use Rattle.frames.proofs.titles.put_atr_line.Statement.{statement}
+use Rattle.frames.proofs.titles.put_atr_line.Tie as tie
 
 abbrev Inv-loop : tie.InvT-loop
 Inv-loop out₀ at t n o₀ k₀ out o k = (k ≤ n) × Todo out₀ o₀ (separated (names t)) out o (separated (drop k (names t)))

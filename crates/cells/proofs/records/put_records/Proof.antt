@@ -1,4 +1,4 @@
--- `cells::tables::put_records` meets its contract. Assumes nothing.
+-- `cells::records::put_records` meets its contract. Assumes nothing.
 use borrow.Author.Tests.{eqb-true}
 use Rattle.page.specs.Lines.{lines}
 use Rattle.page.specs.Tables.{width}
@@ -15,8 +15,8 @@ use mathlib.Core.Path.{_≡_, sym, _∙_}
 use mathlib.Core.Bool.{true}
 use native.Mathlib.Omega.{arith}
 use lib.ListN.{length, take, drop}
-use Rattle.cells.proofs.tables.put_records.Statement.{statement}
-use Rattle.cells.proofs.tables.put_records.Tie as tie
+use Rattle.cells.proofs.records.put_records.Statement.{statement}
+use Rattle.cells.proofs.records.put_records.Tie as tie
 
 abbrev Inv-loop : tie.InvT-loop
 Inv-loop cells₀ s from t c₀ m₀ o₀ cells c m o =

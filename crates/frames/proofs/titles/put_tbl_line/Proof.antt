@@ -6,8 +6,8 @@ use mathlib.Core.Path.{ap}
 use native.Mathlib.Omega.{arith}
 use lib.ListN.{length}
 use borrow.Author.Needs.{needs}
-use Rattle.frames.proofs.tables.put_tbl_line.Statement.{statement}
-use Rattle.frames.proofs.tables.put_tbl_line.Tie as tie
+use Rattle.frames.proofs.titles.put_tbl_line.Statement.{statement}
+use Rattle.frames.proofs.titles.put_tbl_line.Tie as tie
 
 slice-aggregate-put-bytes : tie.Need-slice-aggregate-put-bytes
 slice-aggregate-put-bytes c = search needs

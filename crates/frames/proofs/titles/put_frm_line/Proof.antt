@@ -8,8 +8,8 @@ use borrow.Author.Needs.{needs}
 use Prim.Native.Nat.{_-_, _≤_}
 use native.Mathlib.Omega.{arith}
 use lib.ListN.{drop}
-use Rattle.frames.proofs.tables.put_frm_line.Statement.{statement}
-use Rattle.frames.proofs.tables.put_frm_line.Tie as tie
+use Rattle.frames.proofs.titles.put_frm_line.Statement.{statement}
+use Rattle.frames.proofs.titles.put_frm_line.Tie as tie
 
 abbrev Inv-loop : tie.InvT-loop
 Inv-loop out₀ at t n o₀ k₀ out o k = (k ≤ n) × Todo out₀ o₀ (separated (formats t)) out o (separated (drop k (formats t)))
@@ -32,11 +32,8 @@ loop-holds c = (omega arith, begin)
 put-separator-requires : tie.Need-put-separator-requires Inv-loop μ-loop
 put-separator-requires c κs = omega (arith, formats-length (c .before .before .before .before .before .before .before .before .before .before .args .t))
 
-find-column-requires : tie.Need-find-column-requires Inv-loop μ-loop
-find-column-requires c κs = search needs
-
-put-format-requires : tie.Need-put-format-requires Inv-loop μ-loop
-put-format-requires c κs = omega (arith, formats-length (c .before .before .before .before .before .before .before .before .before .before .before .before .before .before .before .args .t), separator-length)
+put-format-of-requires : tie.Need-put-format-of-requires Inv-loop μ-loop
+put-format-of-requires c κs = omega (arith, formats-length (c .before .before .before .before .before .before .before .before .before .before .before .before .before .before .args .t), separator-length)
 
 add-k : tie.Need-add-k Inv-loop μ-loop
 add-k c = search needs
@@ -45,7 +42,14 @@ loop-less : tie.Need-loop-less Inv-loop μ-loop
 loop-less c = search needs
 
 loop-again : tie.Need-loop-again Inv-loop μ-loop
-loop-again c = (omega arith, next-by (separated-more (formats (c .before .before .before .before .before .before .before .before .before .before .before .before .before .before .before .before .before .before .args .t)) (c .before .before .before .before .before .before .before .before .before .before .loop .k) _ _ (omega (arith, formats-count (c .before .before .before .before .before .before .before .before .before .before .before .before .before .before .before .before .before .before .args .t), c .before .before .before .before .before .before .before .before .before .before .before .before .before .before .before .before .find-width .ensures, c .before .before .before .before .before .before .before .before .before .loop-test .taken)) (format-of (c .before .before .before .before .before .before .before .before .before .before .before .before .before .before .before .before .before .before .args .t) (c .before .before .before .before .before .before .before .before .before .before .loop .k) _ (c .before .before .before .find-column .ensures))) (c .before .before .before .before .before .before .before .before .before .before .loop .inv .1) (puts (c .before .before .before .before .before .before .before .put-separator .ensures) (c .before .before .put-format .ensures)))
+loop-again c =
+    let l = c .before .before .before .before .before .before .before .before .before in
+    let t = l .before .before .before .before .before .before .before .before .args .t in (
+      omega arith,
+      next-by
+          (separated-more (formats t) (l .loop .k) _ _ (omega (arith, formats-count t, l .before .before .before .before .before .before .find-width .ensures, c .before .before .before .before .before .before .before .before .loop-test .taken)) (format-of t (l .loop .k)))
+          (l .loop .inv .1) (puts (c .before .before .before .before .before .before .put-separator .ensures) (c .before .before .put-format-of .ensures)),
+    )
 
 put-line-end-requires : tie.Need-put-line-end-requires Inv-loop μ-loop
 put-line-end-requires c κs = omega (arith, formats-length (c .before .before .before .before .before .before .before .before .before .before .args .t))
@@ -69,8 +73,7 @@ put-frm-line-spec =
     put-bytes-requires
     loop-holds
     put-separator-requires
-    find-column-requires
-    put-format-requires
+    put-format-of-requires
     add-k
     loop-less
     loop-again

@@ -2,8 +2,8 @@ use Rattle.frames.proofs.TitleLaws.{table-head-is, tbl-length, atr-leng
 use Rattle.output.proofs.PutLaws.{puts, put-as}
 use native.Mathlib.Omega.{arith}
 use borrow.Author.Needs.{needs}
-use Rattle.frames.proofs.tables.put_table_head.Statement.{statement}
-use Rattle.frames.proofs.tables.put_table_head.Tie as tie
+use Rattle.frames.proofs.titles.put_table_head.Statement.{statement}
+use Rattle.frames.proofs.titles.put_table_head.Tie as tie
 
 put-tbl-line-requires : tie.Need-put-tbl-line-requires
 put-tbl-line-requires c κs = search needs

@@ -1,8 +1,8 @@
--- `cells::tables::table` meets its contract. Assumes nothing.
+-- `cells::records::table` meets its contract. Assumes nothing.
 use Rattle.cells.proofs.AnswerLaws.{table-missing}
 use borrow.Author.Needs.{needs}
-use Rattle.cells.proofs.tables.table.Statement.{statement}
-use Rattle.cells.proofs.tables.table.Tie as tie
+use Rattle.cells.proofs.records.table.Statement.{statement}
+use Rattle.cells.proofs.records.table.Tie as tie
 
 locate-requires : tie.Need-locate-requires
 locate-requires c κs = search needs

@@ -13,8 +13,8 @@ use crate::cells::put_values;
 use lines::Cursor;
 use page::Refusal;
 use page::Written;
-use page::tables::find_width;
 use sections::Located;
+use tables::find_width;
 
 // The records of the lines from a place on; each has a field for each column.
 fn put_records(cells: &mut [u64], s: &[u8], from: usize, t: usize) -> usize

@@ -1,21 +1,23 @@
 // The lines that begin a section, from the fixed tables.
 ghost use Prim.Native.Nat.{_+_, _<_, _^_};
 ghost use Rattle.page.specs.Bytes.{bytes};
-ghost use Rattle.page.specs.Tables.{table-at};
-ghost use Rattle.page.specs.Form.{line, table-head};
-ghost use Rattle.names.specs.Words.{word};
+ghost use Rattle.page.specs.Tables.{table-at, column-at};
+ghost use Rattle.page.specs.Form.{line, format-text, table-head};
+ghost use Rattle.tables.specs.Words.{word};
 ghost use Rattle.output.specs.Put.{Put};
 ghost use Rattle.frames.specs.Titles.{tbl-line, names, formats};
 use decimals::put_format;
-use names::NAMES;
-use names::find_word;
-use names::look_name;
-use names::look_title;
 use output::put_bytes;
 use output::put_line_end;
 use output::put_separator;
-use page::tables::find_column;
-use page::tables::find_width;
+use page::Column;
+use tables::NAMES;
+use tables::find_size;
+use tables::find_width;
+use tables::find_word;
+use tables::is_text;
+use tables::look_name;
+use tables::look_title;
 
 fn put_word(out: &mut [u8], at: usize, n: usize) -> usize
     requires { ⌜ at + 328 < 2 ^ 62 ⌝ }
@@ -52,6 +54,28 @@ fn put_atr_line(out: &mut [u8], at: usize, t: usize) -> usize
     put_line_end(out, o)
 }
 
+// "formats with the sizes above": of a column this asks for kind and size alone.
+fn put_format_of(out: &mut [u8], at: usize, t: usize, k: usize) -> usize
+    requires { ⌜ at + 32 < 2 ^ 62 ⌝ }
+    ensures { λ r. ⌜ Put (now (out .entry)) at (format-text (column-at t k)) (now (out .exit)) r ⌝ }
+{
+    let text = is_text(t, k);
+    let size = find_size(t, k);
+    put_format(
+        out,
+        at,
+        Column {
+            text: text,
+            lo: 0,
+            hi: 0,
+            size: size,
+            primary: false,
+            second: false,
+            fillable: false,
+        },
+    )
+}
+
 fn put_frm_line(out: &mut [u8], at: usize, t: usize) -> usize
     requires { ⌜ at + 1024 < 2 ^ 62 ⌝ }
     ensures { λ r. ⌜ Put (now (out .entry)) at (line "frm" (formats t)) (now (out .exit)) r ⌝ }
@@ -61,7 +85,7 @@ fn put_frm_line(out: &mut [u8], at: usize, t: usize) -> usize
     let mut k = 0;
     while k < n {
         o = put_separator(out, o);
-        o = put_format(out, o, find_column(t, k));
+        o = put_format_of(out, o, t, k);
         k += 1;
     }
     put_line_end(out, o)
