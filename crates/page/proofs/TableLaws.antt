@@ -71,10 +71,6 @@ past-columns t k h = ap (λ (c : Named). c .column) (List·getD-eq-default (colu
 
 -- in the words of `standing`
 
-pub standing-columns : (t : ℕ) → standing t ≡ columns t
-unfolding standing
-standing-columns t = refl
-
 pub standing-width : (t : ℕ) → length (standing t) ≡ width t
 unfolding standing width
 standing-width t = refl

@@ -22,7 +22,7 @@ pub data Rule : Type 0 where
   -- "In 225 and 247 the two points, type and number together, differ": p is the column, from 0, where the four of them begin
   points-differ : (p : ℕ) → Rule
 
--- the number of a record that breaks it: "14"
+-- its number: 14 is "the two points are the same"
 abbrev pub rule-number : Rule → ℕ
 rule-number (points-differ p) = 14
 
@@ -112,7 +112,7 @@ all-tables =
     (to-version ∷ to (0 ∷ 1 ∷ 3 ∷ 4 ∷ 5 ∷ 6 ∷ []) "REC_UEB" ∷ []) (points-differ 3 ∷ []) ∷
     []
 
--- how many tables there are, the columns of the widest, and the most references of one: TableLaws computes that the list has no more
+-- how many tables there are, the columns of the widest, and the most references of one; that it is so is computed in TableLaws
 abbrev pub TABLES : ℕ
 TABLES = 8
 

@@ -1,22 +1,21 @@
 -- A written record, its marks and a written `end` line are taken back by the section's machine. Assumes nothing.
 use mathlib.Core.Path.{_≡_, refl, ap, sym, _∙_}
 use mathlib.Core.Bool.{Bool, true, false, not, _&&_, _||_, false≢true}
-use mathlib.Core.List.{List, [], _∷_, _++_, map}
+use mathlib.Core.List.{List, [], _∷_, map}
 use Prim.Native.Nat.{ℕ, zero, suc, _<_, _≤_, _^_}
 use native.Mathlib.Omega.{arith}
 use lib.Dec.{leb, ltb}
 use lib.ListN.{length, getD}
 use borrow.Author.Tests.{le-leb, leb-true, ltb-true}
-use Rattle.page.specs.Bytes.{Bytes, bytes, pick, all}
+use Rattle.page.specs.Bytes.{Bytes, bytes, all}
 use Rattle.page.specs.Lines.{allowed}
 use Rattle.page.specs.Fields.{digit, digits, value, numberOf}
 use Rattle.page.specs.Tables.{Named, Table, all-tables, WIDEST, no-column, columns, width}
 use Rattle.page.specs.Marks.{owner-of}
 use Rattle.page.specs.Section.{record-text, text-field, number-field, fieldOf, field-number, first-wrong, amount, amount-at}
 use Rattle.page.specs.Records.{Datum, number, words, Record, datumOf, valuesOf}
-use Rattle.page.specs.Form.{separated, decimal, doubled, quoted, datum-text}
+use Rattle.page.specs.Form.{separated, decimal, datum-text}
 use Rattle.page.specs.declared.Column.{Column}
-use Rattle.page.specs.declared.Number.the-variants as N
 use Rattle.page.specs.declared.Owner.{Owner}
 use Rattle.page.specs.declared.Owner.the-variants as O
 use Rattle.round.specs.Round.{Fits, a-number, a-text, a-suggestion, FitAll, no-value, a-value}
@@ -98,15 +97,6 @@ datum-field (number n) = decimal-field n
 datum-field (words o t) = quoted-field t
 
 -- a text is no number
-pub quoted-none : (t : Bytes) → numberOf (quoted t) ≡ N.Nothing
-unfolding numberOf quoted digits all digit
-quoted-none t = by (leb 1 (length (34 ∷ doubled t ++ 34 ∷ []))) (leb (length (34 ∷ doubled t ++ 34 ∷ [])) 18)
-  where
-    by : (x y : Bool) → pick (x && y && false) (N.Plus (value 0 (34 ∷ doubled t ++ 34 ∷ []))) N.Nothing ≡ N.Nothing
-    by true true = refl
-    by true false = refl
-    by false y = refl
-
 nothing-there : amount (numberOf []) ≡ 0
 unfolding numberOf digits
 nothing-there = refl

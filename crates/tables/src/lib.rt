@@ -130,16 +130,18 @@ const REFERENCES: [[u64; MOST]; TABLES] = [
     [1, 5445, 0],
 ];
 
-// The table that a reference goes to, by its place in the list.
+// The table that a reference goes to, by its place in the list; past the last, if there is none.
+const NONE: usize = TABLES;
+
 const TARGETS: [[usize; MOST]; TABLES] = [
-    [8, 8, 8],
-    [0, 8, 8],
-    [0, 3, 8],
-    [0, 8, 8],
-    [0, 8, 8],
-    [0, 8, 8],
+    [NONE, NONE, NONE],
+    [0, NONE, NONE],
+    [0, 3, NONE],
+    [0, NONE, NONE],
+    [0, NONE, NONE],
+    [0, NONE, NONE],
     [0, 4, 4],
-    [0, 6, 8],
+    [0, 6, NONE],
 ];
 
 // Each name once, one after the other: the columns', then the tables'.

@@ -5,6 +5,7 @@ ghost use Rattle.page.specs.Tables.{table-at};
 ghost use Rattle.tables.specs.Choices.{refer-choice, target-at};
 use crate::COUNTS;
 use crate::MOST;
+use crate::NONE;
 use crate::REFERENCES;
 use crate::TABLES;
 use crate::TARGETS;
@@ -39,5 +40,5 @@ pub fn find_target(t: usize, r: usize) -> usize
             return TARGETS[t][r];
         }
     }
-    TABLES
+    NONE
 }
