@@ -5,7 +5,7 @@ use listing::print_number;
 use page::Listed;
 use page::Refusal;
 use page::Written;
-use page::tables::WIDEST;
+use tables::WIDEST;
 
 // A form of a listed file, with room for a filled text.
 const ROOM: usize = 131072;

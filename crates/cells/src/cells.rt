@@ -14,8 +14,8 @@ ghost use Rattle.output.specs.Put.{Put};
 use page::Owner;
 use page::Text;
 use page::Value;
-use page::tables::find_kinds;
-use page::tables::find_width;
+use tables::find_kinds;
+use tables::find_width;
 
 fn put_three(cells: &mut [u64], o: usize, kind: u64, a: u64, b: u64) -> usize
     requires { ⌜ o + 3 ≤ length (now cells) ⌝ }

@@ -1,5 +1,5 @@
 // All values of one table as numbers.
 mod cells;
-mod tables;
+mod records;
 
-pub use tables::table;
+pub use records::table;

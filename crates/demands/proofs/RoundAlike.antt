@@ -1,20 +1,22 @@
 -- Keys and references do not depend on texts that may be marked: stripping and filling keep 17 to 20. Assumes nothing.
 use mathlib.Core.Path.{_≡_, refl, sym, _∙_}
 use mathlib.Core.Bool.{Bool, true, false, not, _&&_, _||_, false≢true}
-use mathlib.Core.List.{List, [], _∷_, _++_, map}
+use mathlib.Core.List.{List, [], _∷_, _++_, map, List·Memᴰ}
 use Prim.Native.Nat.{ℕ, zero, suc, _+_}
 use lib.Dec.{eqb, leb}
 use lib.ListN.{getD}
 use borrow.Author.Tests.{not-true}
-use Rattle.page.specs.Tables.{Named, Reference, no-column, all-tables, table-at, columns, number-at, points-from}
-use Rattle.page.specs.Records.{Datum, number, words, Record}
+use Rattle.page.specs.Tables.{Named, Reference, Rule, points-differ, Table, no-column, all-tables, table-at, columns, column-at, rules, number-at}
+use Rattle.page.specs.Records.{number, Record}
 use Rattle.page.specs.Model.{Content}
 use Rattle.page.specs.File.{any, Filed, same-record, key-in, key-of, by-primary, by-second, repeats, referred, meets, lost}
+use Rattle.page.specs.Grammar.{Breaks, same-points}
 use Rattle.page.specs.declared.Column.{Column}
-use Rattle.round.specs.Round.{Fits, a-number, FitAll, no-value, a-value, amount-of, amount-in, points-alike, SoundRecord}
+use Rattle.round.specs.Round.{FitAll, no-value, a-value, SoundRecord}
 use Rattle.round.specs.RoundKeys.{breaks, placeless, filed-content, KeysHold}
 use Rattle.demands.specs.RoundAlike.{Pairs, no-pair, a-pair, Alike, alike-none, alike-same, alike-text, AlikeContent}
 use Rattle.page.proofs.TestLaws.{and-left, and-right}
+use Rattle.page.proofs.TableLaws.{each, table-test, column-test, Pointed, points-there}
 
 -- of the columns that may be marked: none is of a key or a reference, and each is a text of at least 40 bytes
 
@@ -41,16 +43,14 @@ pub record Settled (t : ℕ) : Type 0 where
   pub texts : only-texts (columns t) ≡ true
 
 pub settled : (t : ℕ) → Settled t
-unfolding free-of no-text-at refers-past only-texts columns table-at all-tables
-settled zero = record { primary = refl; second = refl; references = refl; texts = refl }
-settled (suc zero) = record { primary = refl; second = refl; references = refl; texts = refl }
-settled (suc (suc zero)) = record { primary = refl; second = refl; references = refl; texts = refl }
-settled (suc (suc (suc zero))) = record { primary = refl; second = refl; references = refl; texts = refl }
-settled (suc (suc (suc (suc zero)))) = record { primary = refl; second = refl; references = refl; texts = refl }
-settled (suc (suc (suc (suc (suc zero))))) = record { primary = refl; second = refl; references = refl; texts = refl }
-settled (suc (suc (suc (suc (suc (suc zero)))))) = record { primary = refl; second = refl; references = refl; texts = refl }
-settled (suc (suc (suc (suc (suc (suc (suc zero))))))) = record { primary = refl; second = refl; references = refl; texts = refl }
-settled (suc (suc (suc (suc (suc (suc (suc (suc t)))))))) = record { primary = refl; second = refl; references = refl; texts = refl }
+unfolding each free-of no-text-at refers-past only-texts columns all-tables
+settled t =
+    record {
+      primary = table-test (λ (x : Table). free-of by-primary (x .columns)) refl refl t;
+      second = table-test (λ (x : Table). free-of by-second (x .columns)) refl refl t;
+      references = table-test (λ (x : Table). refers-past (x .columns) (x .references)) refl refl t;
+      texts = table-test (λ (x : Table). only-texts (x .columns)) refl refl t;
+    }
 
 -- keys and references of records that are alike
 
@@ -164,36 +164,31 @@ keys-alike {cs} {ds} ps k =
       references = rw (← breaks-alike (λ before. lost (filed-content cs)) (λ before. lost (filed-content ds)) (λ xs ys q d e a. lost-alike fs d e a) no-pair fs) (k .references);
     }
 
--- the two points of records that are alike
+-- a number's column may not be marked, so records that are alike break the same rules
 
-text-amount : (latin : Bool) (c : Column) (v : Datum) → c .text ≡ true → Fits latin c v → amount-of v ≡ 0
-unfolding amount-of
-text-amount latin c (number n) e (a-number k l h) = absurd (false≢true (sym k ∙ e))
-text-amount latin c (words o t) e f = refl
+unmarked : (t k : ℕ) → getD (columns t) k no-column .column .text ≡ false → getD (columns t) k no-column .column .fillable ≡ false
+unfolding column-at each all-tables
+unmarked t k e =
+    by (column-at t k .fillable) (column-at t k .text) (column-test (λ (c : Column). not (c .fillable) || c .text) refl refl t k) e
+  where
+    by : (f x : Bool) → (not f || x) ≡ true → x ≡ false → f ≡ false
+    by true x h g = sym h ∙ g
+    by false x h g = refl
 
-fillable-text : (c : Column) (a b : Bool) → c .fillable ≡ true → ((not (c .fillable) || (a && b)) ≡ true) → a ≡ true
-fillable-text c a b f h = and-left a b (rw f at h)
-
-amount-alike : (latin : Bool) {cs : List Named} {vs us : Record} → only-texts cs ≡ true → FitAll latin cs vs → FitAll latin cs us → Alike cs vs us → (k : ℕ) → amount-in vs k ≡ amount-in us k
-unfolding amount-in only-texts
-amount-alike latin h no-value no-value alike-none k = refl
-amount-alike latin h (a-value f fs) (a-value g gs) (alike-same a) zero = refl
-amount-alike latin h (a-value {c} {cs} {v} f fs) (a-value {v = u} g gs) (alike-text e a) zero =
-    let t : c .column .text ≡ true =
-    fillable-text (c .column) (c .column .text) (leb 40 (c .column .hi)) e
-    (and-left (not (c .column .fillable) || (c .column .text && leb 40 (c .column .hi))) (only-texts cs) h) in
-    text-amount latin (c .column) v t f ∙ sym (text-amount latin (c .column) u t g)
-amount-alike latin h (a-value {c} {cs} f fs) (a-value g gs) (alike-same a) (suc k) =
-    amount-alike latin (and-right (not (c .column .fillable) || (c .column .text && leb 40 (c .column .hi))) (only-texts cs) h) fs gs a k
-amount-alike latin h (a-value {c} {cs} f fs) (a-value g gs) (alike-text e a) (suc k) =
-    amount-alike latin (and-right (not (c .column .fillable) || (c .column .text && leb 40 (c .column .hi))) (only-texts cs) h) fs gs a k
+rule-alike : (t : ℕ) {vs us : Record} → Alike (columns t) vs us → (r : Rule) → List·Memᴰ r (rules t) → Breaks us r → Breaks vs r
+rule-alike t {vs} {us} a (points-differ p) m b = by (points-there t p m) b
+  where
+    by : Pointed (columns t) p → Breaks us (points-differ p) → Breaks vs (points-differ p)
+    by q (same-points x y) =
+        let e = value-alike p (unmarked t p (q .type-from)) a in
+        let f = value-alike (p + 1) (unmarked t (p + 1) (q .number-from)) a in
+        let g = value-alike (p + 2) (unmarked t (p + 2) (q .type-to)) a in
+        let h = value-alike (p + 3) (unmarked t (p + 3) (q .number-to)) a in
+        same-points {p = p} (cc) (cc)
 
 -- a record that fits and is like one that may be said may be said
 pub sound-alike : (latin : Bool) (t : ℕ) {vs us : Record} → SoundRecord latin t vs → FitAll latin (columns t) us → Alike (columns t) vs us → SoundRecord latin t us
-unfolding points-alike
-sound-alike latin t {vs} {us} s g a =
-    let e : (k : ℕ) → amount-in us k ≡ amount-in vs k = λ (k : ℕ). sym (amount-alike latin (settled t .texts) (s .fit) g a k) in
-    record { fit = g; apart = rw (e (points-from t), e (points-from t + 2), e (points-from t + 1), e (points-from t + 3)) (s .apart) }
+sound-alike latin t s g a = record { fit = g; rules = λ r m b. s .rules r m (rule-alike t a r m b) }
 
 pub alike-self : (latin : Bool) {cs : List Named} {vs : Record} → FitAll latin cs vs → Alike cs vs vs
 alike-self latin no-value = alike-none

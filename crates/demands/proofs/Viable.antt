@@ -4,7 +4,6 @@ use mathlib.Core.Bool.{Bool, true, false, _&&_, false≢true}
 use mathlib.Core.List.{List, [], _∷_, _++_, append-nil}
 use mathlib.Core.Logic.{_↔_}
 use Prim.Native.Nat.{ℕ, zero, suc, _+_, _-_, _≤_, _<_, _^_}
-use Prim.Native.String.{String}
 use native.Mathlib.Omega.{arith}
 use native.Mathlib.Numerals.{add-one}
 use native.Mathlib.Nat.{zero-add}
@@ -12,9 +11,10 @@ use lib.Dec.{eqb, leb}
 use lib.ListN.{length, getD, length-append}
 use Rattle.page.specs.Bytes.{Bytes, bytes, pick}
 use Rattle.page.specs.Lines.{content, blank, command, clean, Rec}
-use Rattle.page.specs.Tables.{table-at, table-count, standing, width}
-use Rattle.page.specs.Section.{choose, no-bytes, record-text, first-wrong, same-points, empty-marked, rec-verdict, rec-step, line-step, content-step, step, continue, run, outcome, table-in, finish}
+use Rattle.page.specs.Tables.{Named, Rule, points-differ, TABLES, table-at, columns, rules, standing, width}
+use Rattle.page.specs.Section.{choose, no-bytes, record-text, first-wrong, first-broken, empty-marked, rec-verdict, rec-step, line-step, content-step, step, continue, run, outcome, table-in, finish}
 use Rattle.page.specs.Records.{Record}
+use Rattle.page.specs.File.{any}
 use Rattle.page.specs.Form.{line, decimal}
 use Rattle.page.specs.Open.{open-all}
 use Rattle.page.specs.Grammar.{fields-of, Denotes}
@@ -24,23 +24,27 @@ use Rattle.page.specs.declared.Phase.the-variants as P
 use Rattle.page.specs.declared.Step.{Step}
 use Rattle.page.specs.declared.Step.the-variants as S
 use Rattle.page.specs.declared.Outcome.{Outcome}
-use Rattle.page.proofs.TableLaws.{each-of-eight}
+use Rattle.page.proofs.TableLaws.{listed, each-table}
 use Rattle.demands.specs.Viable.{Viable, SectionPlace, breaks, lacks}
 use Rattle.grammar.proofs.Ranged.{laws-ranged}
 use Rattle.grammar.proofs.Steps.{go-exactly, stop-exactly, leads-go}
 use Rattle.grammar.proofs.Accepts.{denotes-accepted, accepted-denotes}
 use Rattle.grammar.proofs.Refuses.{reach-run, refused-denotes-nothing}
-use Rattle.round.proofs.RoundHeads.{heads, tbl-line, atr-line, frm-line}
+use Rattle.round.proofs.RoundHeads.{each-latin, heads, tbl-line, atr-line, frm-line}
 use Rattle.round.proofs.RoundSteps.{end-step-back}
 
--- a record of each table, its texts not empty
-unfoldable samples : List String
-samples =
-    "rec; 1; \"x\"" ∷ "rec; 1; 1" ∷ "rec; 1; 1; \"x\"; 1" ∷ "rec; 1; 1; \"x\"" ∷ "rec; 1; 1; \"x\"; \"x\"" ∷ "rec; 1; 1; \"x\"" ∷ "rec; 1; 1; 1; 1; 1; 2; 1" ∷
-    "rec; 1; 1; 1; 1; 1; 1; 2; 1" ∷ []
+-- a record of each table: the least number of each column, a text that is not empty, and numbers that no rule refuses
+
+other : ℕ → Rule → Bool
+other k (points-differ p) = eqb k (p + 3)
+
+unfoldable sample-fields : List Rule → ℕ → List Named → List Bytes
+sample-fields rs k [] = []
+sample-fields rs k (c ∷ cs) =
+    pick (c .column .text) (bytes "\"x\"") (decimal (pick (any (other k) rs) (c .column .hi) (c .column .lo))) ∷ sample-fields rs (suc k) cs
 
 unfoldable sample : ℕ → Bytes
-sample t = bytes (getD samples t "")
+sample t = line "rec" (sample-fields (rules t) 0 (columns t))
 
 -- no field is an empty text
 unfoldable full : List Bytes → Bool
@@ -64,36 +68,28 @@ record Sampled (latin : Bool) (t : ℕ) : Type 0 where
   named : command (content (sample t)) ≡ Rec
   wide : eqb (length (fields-of (sample t))) (length (standing t)) ≡ true
   right : first-wrong (standing t) (fields-of (sample t)) ≡ 0
-  apart : same-points t (fields-of (sample t)) ≡ false
+  kept : first-broken (rules t) (fields-of (sample t)) ≡ 0
   filled : full (fields-of (sample t)) ≡ true
 
-sampled : (latin : Bool) (t : ℕ) → t < table-count → Sampled latin t
-unfolding open-all samples sample full
-sampled true t h = each-of-eight (Sampled true)
-    (record { clean = refl; shown = refl; named = refl; wide = refl; right = refl; apart = refl; filled = refl })
-    (record { clean = refl; shown = refl; named = refl; wide = refl; right = refl; apart = refl; filled = refl })
-    (record { clean = refl; shown = refl; named = refl; wide = refl; right = refl; apart = refl; filled = refl })
-    (record { clean = refl; shown = refl; named = refl; wide = refl; right = refl; apart = refl; filled = refl })
-    (record { clean = refl; shown = refl; named = refl; wide = refl; right = refl; apart = refl; filled = refl })
-    (record { clean = refl; shown = refl; named = refl; wide = refl; right = refl; apart = refl; filled = refl })
-    (record { clean = refl; shown = refl; named = refl; wide = refl; right = refl; apart = refl; filled = refl })
-    (record { clean = refl; shown = refl; named = refl; wide = refl; right = refl; apart = refl; filled = refl }) t h
-sampled false t h = each-of-eight (Sampled false)
-    (record { clean = refl; shown = refl; named = refl; wide = refl; right = refl; apart = refl; filled = refl })
-    (record { clean = refl; shown = refl; named = refl; wide = refl; right = refl; apart = refl; filled = refl })
-    (record { clean = refl; shown = refl; named = refl; wide = refl; right = refl; apart = refl; filled = refl })
-    (record { clean = refl; shown = refl; named = refl; wide = refl; right = refl; apart = refl; filled = refl })
-    (record { clean = refl; shown = refl; named = refl; wide = refl; right = refl; apart = refl; filled = refl })
-    (record { clean = refl; shown = refl; named = refl; wide = refl; right = refl; apart = refl; filled = refl })
-    (record { clean = refl; shown = refl; named = refl; wide = refl; right = refl; apart = refl; filled = refl })
-    (record { clean = refl; shown = refl; named = refl; wide = refl; right = refl; apart = refl; filled = refl }) t h
+sampled : (latin : Bool) (t : ℕ) → t < TABLES → Sampled latin t
+unfolding listed open-all other sample-fields sample full
+sampled latin t h =
+    record {
+      clean = each-latin (λ l t. clean l (content (sample t))) (λ l t. true) refl refl latin t h;
+      shown = each-table (λ t. blank (content (sample t))) (λ t. false) refl t h;
+      named = each-table (λ t. command (content (sample t))) (λ t. Rec) refl t h;
+      wide = each-table (λ t. eqb (length (fields-of (sample t))) (length (standing t))) (λ t. true) refl t h;
+      right = each-table (λ t. first-wrong (standing t) (fields-of (sample t))) (λ t. 0) refl t h;
+      kept = each-table (λ t. first-broken (rules t) (fields-of (sample t))) (λ t. 0) refl t h;
+      filled = each-table (λ t. full (fields-of (sample t))) (λ t. true) refl t h;
+    }
 
 -- it is taken whatever mark waits
-sample-step : (latin : Bool) (t m n : ℕ) → t < table-count → step latin (P.Rows t m n) (sample t) ≡ S.Go (P.Rows t 0 (suc n))
+sample-step : (latin : Bool) (t m n : ℕ) → t < TABLES → step latin (P.Rows t m n) (sample t) ≡ S.Go (P.Rows t 0 (suc n))
 unfolding step content-step choose line-step rec-step rec-verdict empty-marked width standing
 sample-step latin t m n h =
     let s = sampled latin t h in
-    rw (s .clean, s .shown, s .named, s .wide, s .right, s .apart, full-at (fields-of (sample t)) (m - 1) (s .filled), add-one) (by (leb 1 m))
+    rw (s .clean, s .shown, s .named, s .wide, s .right, s .kept, full-at (fields-of (sample t)) (m - 1) (s .filled), add-one) (by (leb 1 m))
   where
     by : (b : Bool) → choose (eqb (pick (b && false) 15 0) 0) (S.Go (P.Rows t 0 (suc n))) (S.Stop (pick (b && false) 15 0)) ≡ S.Go (P.Rows t 0 (suc n))
     by true = refl
@@ -102,9 +98,9 @@ sample-step latin t m n h =
 -- what the machine can have met in k lines
 abbrev Sane : Phase → ℕ → Type 0
 Sane P.Tbl k = Unit
-Sane (P.Atr t) k = t < table-count
-Sane (P.Frm t) k = t < table-count
-Sane (P.Rows t m n) k = (t < table-count) × (n ≤ k)
+Sane (P.Atr t) k = t < TABLES
+Sane (P.Frm t) k = t < TABLES
+Sane (P.Rows t m n) k = (t < TABLES) × (n ≤ k)
 Sane (P.Ended t n) k = Unit
 
 later : (p : Phase) (k : ℕ) → Sane p k → Sane p (suc k)
@@ -167,7 +163,7 @@ module _ (latin : Bool) where
       )
   ending P.Tbl k x h =
       let y = rows-end 0 0 (omega arith) in
-      let z : 0 < table-count = omega arith in (
+      let z : 0 < TABLES = omega arith in (
         tbl-line (table-at 0) ∷ atr-line (table-at 0) ∷ frm-line (table-at 0) ∷ y .0,
         y .1,
         y .2,

@@ -12,7 +12,7 @@ use borrow.Author.Tests.{eqb-true, eqb-false}
 use Rattle.page.specs.Bytes.{Bytes, all}
 use Rattle.page.specs.Lines.{lines, content, command, Com}
 use Rattle.page.specs.Fields.{digit, textOf}
-use Rattle.page.specs.Tables.{columns, table-at, table-count}
+use Rattle.page.specs.Tables.{columns, table-at, TABLES}
 use Rattle.page.specs.Head.{Head}
 use Rattle.page.specs.Marks.{owner-of}
 use Rattle.page.specs.Records.{Datum, number, words, Record}
@@ -140,7 +140,7 @@ head-only h s =
 
 -- the lines of a record, of a section, of all of them
 
-module _ (latin : Bool) (t : ℕ) (known : t < table-count) where
+module _ (latin : Bool) (t : ℕ) (known : t < TABLES) where
   no-record : SoundRecord latin t [] → ⊥
   no-record r = omega (arith, width-back latin (r .fit), some-columns latin t known)
 

@@ -10,7 +10,6 @@ ghost use Rattle.fills.specs.Filling.{empty-value, text-number, fill-num
 use page::Got;
 use page::Refusal;
 use page::Value;
-use page::tables::find_column;
 use recording::read_table;
 use sections::Located;
 
@@ -47,10 +46,7 @@ fn is_fillable(s: &[u8], i: usize, f: usize) -> bool
     ensures { λ r. ⌜ r ≡ column-at (table-of (section-at (now (s .entry)) i .lines)) (f - 1) .fillable ⌝ }
 {
     match sections::locate(s, i) {
-        Located::At(at) => {
-            let column = find_column(read_table(&s[at..]), f - 1);
-            column.fillable
-        }
+        Located::At(at) => tables::is_fillable(read_table(&s[at..]), f - 1),
         Located::Refused(_) => false,
     }
 }

@@ -8,7 +8,7 @@ use lib.Dec.{eqb}
 use lib.ListN.{length, getD, length-append}
 use Rattle.page.specs.Bytes.{Bytes, bytes, pick}
 use Rattle.page.specs.Lines.{lines, joined, content, command, Rec}
-use Rattle.page.specs.Tables.{Named, no-column, columns, width, column-at}
+use Rattle.page.specs.Tables.{Named, WIDEST, no-column, columns, width, column-at}
 use Rattle.page.specs.Cut.{begins-table, begins-end, Piece, a-table, a-trailer, placed, put, cut, Section, sections, header-lines}
 use Rattle.page.specs.Head.{latinOf, head-values}
 use Rattle.page.specs.Records.{Datum, number, words, Record, waits, record-in, table-of}
@@ -60,7 +60,7 @@ fit-length (a-value x xs) = ap suc (fit-length xs)
 
 pub record Good (vs : Record) : Type 0 where
   pub short : Every Short vs
-  pub few : length vs ≤ 8
+  pub few : length vs ≤ WIDEST
 
 sound-good : (latin : Bool) (t : ℕ) (vs : Record) → SoundRecord latin t vs → Good vs
 unfolding column-at width

@@ -48,9 +48,14 @@ pub name-of : (t k : ℕ) (w : String) → w ≡ name-at t k → bytes w ≡ get
 unfolding names name-at bytes
 name-of t k w e = ap bytes e ∙ sym (List·getD-map (λ (c : Named). bytes (c .name)) (columns t) k no-column)
 
-pub format-of : (t k : ℕ) (c : Column) → c ≡ column-at t k → format-text c ≡ getD (formats t) k (format-text (no-column .column))
+pub format-of : (t k : ℕ) → format-text (column-at t k) ≡ getD (formats t) k (format-text (no-column .column))
 unfolding formats column-at
-format-of t k c e = ap format-text e ∙ sym (List·getD-map (λ (x : Named). format-text (x .column)) (columns t) k no-column)
+format-of t k = sym (List·getD-map (λ (x : Named). format-text (x .column)) (columns t) k no-column)
+
+-- a format asks its column for kind and size alone
+pub format-read : (c d : Column) → d .text ≡ c .text → d .size ≡ c .size → format-text d ≡ format-text c
+unfolding format-text
+format-read c d a b = rw (a, b)
 
 -- how long they are
 

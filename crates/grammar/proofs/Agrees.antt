@@ -1,7 +1,7 @@
 -- One walk over the machine's tests: it refuses a line exactly by the first law that the line breaks, and goes on only where the grammar leads.
 use mathlib.Core.Path.{_≡_, refl, ap, _∙_}
 use mathlib.Core.Bool.{Bool, true, false, _&&_, false≢true}
-use mathlib.Core.List.{List, [], _∷_, _++_, List·Memᴰ}
+use mathlib.Core.List.{List, [], _∷_, _++_, List·Memᴰ, List·Memᴰ·head, List·Memᴰ·tail, List·Memᴰ·not-nil, List·Memᴰ·cases-cons}
 use mathlib.Core.Logic.{_⊎_, inl, inr, _↔_}
 use mathlib.Core.Option.{Option, none, some}
 use Prim.Native.Nat.{ℕ, zero, suc, _-_, _≤_}
@@ -13,12 +13,12 @@ use lib.ListN.{length}
 use Rattle.page.specs.Bytes.{Bytes, bytes, pick}
 use Rattle.page.specs.Lines.{content, blank, command, rest, clean, Tbl, Atr, Frm, Rec, End, Com}
 use Rattle.page.specs.Fields.{fields, numberOf}
-use Rattle.page.specs.Tables.{Named, table-at, columns, standing, width}
+use Rattle.page.specs.Tables.{Named, Rule, rule-number, table-at, columns, rules, standing, width}
 use Rattle.page.specs.Marks.{remarkOf}
 use Rattle.page.specs.Section
 use Rattle.page.specs.Records.{Datum, number, words, Record}
-use Rattle.page.specs.Grammar.{fields-of, Says, empty, remark, Holds, a-number, a-text, owner-by, Values, no-field, a-field, SamePoints}
-use Rattle.page.specs.Refusals.{Law, law, FirstBroken, either-laws, marks-of, InOrder, kind-law, fields-laws, rec-laws, end-laws, command-laws, GoodMark, laws, Leads, quiet, tbl, atr, frm, mark, record-line, end}
+use Rattle.page.specs.Grammar.{fields-of, Says, empty, remark, Holds, a-number, a-text, owner-by, Values, no-field, a-field, Breaks}
+use Rattle.page.specs.Refusals.{Law, law, FirstBroken, either-laws, marks-of, InOrder, kind-law, fields-laws, rules-laws, rec-laws, end-laws, command-laws, GoodMark, laws, Leads, quiet, tbl, atr, frm, mark, record-line, end}
 use Rattle.page.specs.declared.Number.{Number}
 use Rattle.page.specs.declared.Number.the-variants as N
 use Rattle.page.specs.declared.Column.{Column}
@@ -32,10 +32,10 @@ use Rattle.page.specs.declared.Field.{Field}
 use Rattle.page.specs.declared.Field.the-variants as F
 use Rattle.page.specs.declared.Step.{Step}
 use Rattle.page.specs.declared.Step.the-variants as S
-use Rattle.page.proofs.TableLaws.{name-tells}
+use Rattle.page.proofs.TableLaws.{name-tells, rule-some}
 use Rattle.laws.proofs.Decides.{Decides, holds, fails, fact, both, equal, at-most}
 use Rattle.laws.proofs.Tests.{is-d, names-d, formats-d, rises-d, unknown-d, one-d, named-d}
-use Rattle.grammar.proofs.Values.{values-once, points-d, empty-d}
+use Rattle.grammar.proofs.Values.{values-once, rule-d, empty-d}
 
 -- the step stops with v exactly if v is the first broken law's number, and goes on only to what G says
 pub record Agrees (G : Phase → Type 0) (s : Step) (ls : List Law) : Type 0 where
@@ -177,21 +177,45 @@ none-d : (m : ℕ) → Decides (marks-of m ≡ []) (eqb m 0)
 none-d zero = holds refl
 none-d (suc m) = rw (ne-eqb (suc m) 0 (λ e. omega arith)) (fails (λ e. absurd (false≢true (cc))))
 
+-- the rules of a table, in their order; what follows may use that none is broken
+rules-agree : {G : Phase → Type 0} (q : Phase) (fs : List Bytes) (B : Rule → Type 0) (rs : List Rule) (y : ℕ) (others : List Law) →
+    ((r : Rule) → List·Memᴰ r rs → Decides (B r) (Section.broken r fs)) →
+    (((r : Rule) → List·Memᴰ r rs → ¬ B r) → Agrees G (judged q y) others) → Agrees G (judged q (Section.first-of (Section.first-broken rs fs) y)) (rules-laws B rs ++ others)
+unfolding Section.first-broken
+rules-agree q fs B [] y others d g = g (λ r m. absurd (List·Memᴰ·not-nil m))
+rules-agree q fs B (r ∷ rs) y others d g =
+    rw (first-picked (Section.broken r fs) (rule-number r) (Section.first-broken rs fs) y (rule-some r))
+    (judged-must-not q (Section.first-of (Section.first-broken rs fs) y) (rule-some r) (d r (List·Memᴰ·head refl)) (λ n.
+    rules-agree q fs B rs y others (λ x m. d x (List·Memᴰ·tail m)) (λ k. g (λ x m. unbroken n k x (List·Memᴰ·cases-cons m)))))
+  where
+    first-picked : (b : Bool) (v x y : ℕ) → eqb v 0 ≡ false → Section.first-of (pick b v x) y ≡ pick b v (Section.first-of x y)
+    first-picked true v x y e = rw e
+    first-picked false v x y e = refl
+
+    unbroken : ¬ B r → ((x : Rule) → List·Memᴰ x rs → ¬ B x) → (x : Rule) → (x ≡ r) ⊎ List·Memᴰ x rs → ¬ B x
+    unbroken n k x (inl e) = rw e n
+    unbroken n k x (inr m) = k x m
+
 module _ (latin : Bool) (l : Bytes) where
+  abbrev Broken : ℕ → ℕ → Rule → Type 0
+  Broken t m r = (vs : Record) × Values (marks-of m) 1 (standing t) (fields-of l) vs × Breaks vs r
+
   abbrev last-laws : ℕ → ℕ → List Law
   last-laws t m =
-      law 14 ((vs : Record) × Values (marks-of m) 1 (standing t) (fields-of l) vs × SamePoints t vs) ∷
-      law 15 ((vs : Record) × Values (marks-of m) 1 (standing t) (fields-of l) vs × List·Memᴰ (words O.Suggestion []) vs) ∷ []
+      rules-laws (Broken t m) (rules t) ++
+      (law 15 ((vs : Record) × Values (marks-of m) 1 (standing t) (fields-of l) vs × List·Memᴰ (words O.Suggestion []) vs) ∷ [])
 
   abbrev last-verdict : ℕ → ℕ → ℕ
-  last-verdict t m = pick (Section.same-points t (fields-of l)) 14 (pick (Section.empty-marked m (fields-of l)) 15 0)
+  last-verdict t m = Section.first-of (Section.first-broken (rules t) (fields-of l)) (pick (Section.empty-marked m (fields-of l)) 15 0)
 
   last-agree : (t m n : ℕ) → Says latin Rec l → (vs : Record) → Values (marks-of m) 1 (standing t) (fields-of l) vs →
       Agrees (Leads latin l (P.Rows t m n)) (judged (P.Rows t 0 (suc n)) (last-verdict t m)) (last-laws t m)
   last-agree t m n s vs h =
-      judged-must-not (P.Rows t 0 (suc n)) (pick (Section.empty-marked m (fields-of l)) 15 0) refl (of-record h (points-d t m h)) (λ a.
+      rules-agree (P.Rows t 0 (suc n)) (fields-of l) (Broken t m) (rules t) (pick (Section.empty-marked m (fields-of l)) 15 0)
+      (law 15 ((vs : Record) × Values (marks-of m) 1 (standing t) (fields-of l) vs × List·Memᴰ (words O.Suggestion []) vs) ∷ [])
+      (λ r k. of-record h (rule-d t m h r k)) (λ a.
       judged-must-not (P.Rows t 0 (suc n)) 0 refl (of-record h (empty-d m h)) (λ b.
-      judged-goes (P.Rows t 0 (suc n)) (record-line (record { says = s; fields = h; points = λ x. a (vs, h, x); filled = λ x. b (vs, h, x) }))))
+      judged-goes (P.Rows t 0 (suc n)) (record-line (record { says = s; fields = h; rules = λ r k x. a r k (vs, h, x); filled = λ x. b (vs, h, x) }))))
 
   record-agrees : (t m n : ℕ) → Says latin Rec l → Agrees (Leads latin l (P.Rows t m n)) (Section.rec-step t m n (fields-of l)) (rec-laws t (marks-of m) (fields-of l))
   unfolding Section.rec-verdict width standing

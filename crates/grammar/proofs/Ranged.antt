@@ -7,9 +7,9 @@ use native.Mathlib.Omega.{arith}
 use lib.Dec.{eqb}
 use Rattle.page.specs.Bytes.{Bytes}
 use Rattle.page.specs.Lines.{content, blank, command, Rec, Com}
-use Rattle.page.specs.Tables.{Named, standing}
+use Rattle.page.specs.Tables.{Named, Rule, points-differ, rules, standing}
 use Rattle.page.specs.Grammar.{fields-of}
-use Rattle.page.specs.Refusals.{Law, law, FirstBroken, either-laws, kind-law, fields-laws, command-laws, laws}
+use Rattle.page.specs.Refusals.{Law, law, FirstBroken, either-laws, kind-law, fields-laws, rules-laws, command-laws, laws}
 use Rattle.page.specs.declared.Phase.{Phase}
 use Rattle.page.specs.declared.Phase.the-variants as P
 
@@ -35,12 +35,16 @@ fields-ranged (c ∷ cs) (f ∷ fs) ls r = by (c .column .text) (more (omega ari
     by true r = more (omega arith) (omega arith) r
     by false r = more (omega arith) (omega arith) r
 
+rules-ranged : (B : Rule → Type 0) (rs : List Rule) (ls : List Law) → Ranged ls → Ranged (rules-laws B rs ++ ls)
+rules-ranged B [] ls k = k
+rules-ranged B (points-differ p ∷ rs) ls k = more (omega arith) (omega arith) (rules-ranged B rs ls k)
+
 command-ranged : (p : Phase) (k : ℕ) (fs : List Bytes) → Ranged (command-laws p k fs)
 command-ranged P.Tbl k fs = more (omega arith) (omega arith) (more (omega arith) (omega arith) none)
 command-ranged (P.Atr t) k fs = more (omega arith) (omega arith) none
 command-ranged (P.Frm t) k fs = more (omega arith) (omega arith) none
 command-ranged (P.Rows t m n) k fs =
-    either-ranged (eqb k Rec) (more (omega arith) (omega arith) (fields-ranged (standing t) fs _ (more (omega arith) (omega arith) (more (omega arith) (omega arith) none))))
+    either-ranged (eqb k Rec) (more (omega arith) (omega arith) (fields-ranged (standing t) fs _ (rules-ranged _ (rules t) _ (more (omega arith) (omega arith) none))))
     (more (omega arith) (omega arith) (more (omega arith) (omega arith) (more (omega arith) (omega arith) (more (omega arith) (omega arith) none))))
 command-ranged (P.Ended t n) k fs = none
 

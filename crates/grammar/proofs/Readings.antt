@@ -10,7 +10,7 @@ use lib.ListN.{length}
 use borrow.Author.Tests.{eqb-true}
 use Rattle.page.specs.Bytes.{Bytes}
 use Rattle.page.specs.Lines.{content, command, Tbl, Atr, Frm, Rec, End, Com, Missing}
-use Rattle.page.specs.Tables.{number-at, table-count}
+use Rattle.page.specs.Tables.{number-at, TABLES}
 use Rattle.page.specs.Cut.{begins-table}
 use Rattle.page.specs.Marks.{may-mark}
 use Rattle.page.specs.Section.{outcome}
@@ -78,8 +78,8 @@ module _ {latin : Bool} where
       (skipped-read t (suc a) rs (λ l b ys h x. rw (plain-line t 0 b Atr l ys (h .says .named) refl refl)
       (skipped-read t (suc b) rs (λ l d zs h x. rw (plain-line t 0 d Frm l zs (h .says .named) refl refl) (records-read t 0 (suc d) (length rs) refl (inl refl) x)) x)) x))
 
-  -- a table that is denoted is one of the eight
-  pub denoted-known : {ls : List Bytes} (t : ℕ) (rs : List Record) → Denotes latin ls t rs → t < table-count
+  -- a table that is denoted is one of the list
+  pub denoted-known : {ls : List Bytes} (t : ℕ) (rs : List Record) → Denotes latin ls t rs → t < TABLES
   denoted-known t rs (found h x) = h .known
   denoted-known t rs (skip h x) = denoted-known t rs x
 

@@ -12,7 +12,7 @@ use borrow.Author.Tests.{lt-ltb, lt-leb}
 use Rattle.page.specs.Bytes.{Bytes}
 use Rattle.page.specs.Lines.{content, blank, command, rest, clean, Tbl, Atr, Frm, Rec, End, Com, Unknown, Missing}
 use Rattle.page.specs.Fields.{fields}
-use Rattle.page.specs.Tables.{Named, table-count, columns, standing, width}
+use Rattle.page.specs.Tables.{Named, TABLES, columns, rules, standing, width}
 use Rattle.page.specs.Marks.{remarkOf}
 use Rattle.page.specs.Section
 use Rattle.page.specs.Records.{Datum, Record}
@@ -26,7 +26,7 @@ use Rattle.page.specs.declared.Step.the-variants as S
 use Rattle.page.proofs.TableLaws.{name-tells}
 use Rattle.laws.proofs.Decides.{tested, untested, both, equal, at-most}
 use Rattle.laws.proofs.Tests.{names-d, formats-d, rises-d, blank-missing}
-use Rattle.grammar.proofs.Values.{values-length, points-d, empty-d}
+use Rattle.grammar.proofs.Values.{values-length, rule-d, rules-kept, empty-d}
 use Rattle.grammar.proofs.Agrees.{step-agrees}
 
 -- a line with a command is not blank
@@ -58,16 +58,16 @@ pub leads-go : {latin : Bool} {l : Bytes} {p q : Phase} → Leads latin l p q �
 unfolding Section.step Section.content-step Section.choose Section.com-step Section.mark-step Section.line-step Section.tbl-step Section.atr-step Section.frm-step Section.rec-step Section.rec-verdict Section.end-step Section.count-step width standing
 leads-go (quiet (empty ok b)) = rw (ok, b)
 leads-go (quiet {p} (remark s e)) = rw (known-step Com s (omega arith) p, e)
-leads-go (tbl {t} h) = rw (known-step Tbl (h .says) (omega arith) P.Tbl, h .name, name-tells t (h .known), lt-ltb t table-count (h .known))
+leads-go (tbl {t} h) = rw (known-step Tbl (h .says) (omega arith) P.Tbl, h .name, name-tells t (h .known), lt-ltb t TABLES (h .known))
 leads-go {l = l} (atr {t} h) = rw (known-step Atr (h .says) (omega arith) (P.Atr t), tested (names-d (columns t) (fields-of l)) (h .names))
 leads-go {l = l} (frm {t} h) = rw (known-step Frm (h .says) (omega arith) (P.Frm t), tested (formats-d (standing t) (fields-of l)) (h .formats))
 leads-go (mark {t} {m} {n} {i} h) = rw (known-step Com (h .says) (omega arith) (P.Rows t m n), h .reads, tested (rises-d t i m) (h .may, h .rises))
-leads-go {l = l} (record-line {t} {m} {n} h) =
+leads-go {l = l} (record-line {t} {m} {n} {vs} h) =
     rw (
       known-step Rec (h .says) (omega arith) (P.Rows t m n),
       tested (equal (length (fields-of l)) (length (standing t))) (values-length (h .fields)),
       fields-right (h .fields),
-      untested (points-d t m (h .fields)) (h .points),
+      rules-kept (fields-of l) vs (rules t) (rule-d t m (h .fields)) (h .rules),
       untested (empty-d m (h .fields)) (h .filled),
       add-one,
     )

@@ -1,6 +1,6 @@
 -- A record's fields: what the grammar reads in them is read once, is what `valuesOf` gives, and the tests on fields decide the rules on values.
 use mathlib.Core.Path.{_≡_, refl, ap, _∙_}
-use mathlib.Core.Bool.{Bool, true, false, not, _&&_, _||_, false≢true}
+use mathlib.Core.Bool.{Bool, true, false, _&&_, _||_, false≢true}
 use mathlib.Core.List.{List, [], _∷_, List·Memᴰ, List·Memᴰ·head, List·Memᴰ·tail, List·Memᴰ·not-nil, List·Memᴰ·cases-cons}
 use mathlib.Core.Logic.{inl, inr}
 use mathlib.Core.Option.{Option, none, some}
@@ -11,17 +11,18 @@ use lib.ListN.{length, getD}
 use borrow.Author.Tests.{ne-eqb, le-leb, lt-leb}
 use Rattle.page.specs.Bytes.{Bytes, pick, all}
 use Rattle.page.specs.Fields.{textOf, bodyOf, numberOf, digit, digits, value}
-use Rattle.page.specs.Tables.{Named, no-column, standing, columns, table-at, all-tables, points-from}
+use Rattle.page.specs.Tables.{Named, Rule, points-differ, no-column, columns, rules, standing}
 use Rattle.page.specs.Marks.{owner-of}
-use Rattle.page.specs.Section.{record-text, amount-at, points-same, same-points, no-bytes, empty-marked}
+use Rattle.page.specs.Section.{record-text, amount-at, broken, first-broken, no-bytes, empty-marked}
 use Rattle.page.specs.Records.{Datum, number, words, Record, datumOf, valuesOf}
-use Rattle.page.specs.Grammar.{Holds, a-number, a-text, marked, owner-by, Values, no-field, a-field, SamePoints}
+use Rattle.page.specs.Grammar.{Holds, a-number, a-text, marked, owner-by, Values, no-field, a-field, Breaks, same-points}
 use Rattle.page.specs.Refusals.{marks-of}
 use Rattle.page.specs.declared.Column.{Column}
 use Rattle.page.specs.declared.Number.the-variants as N
 use Rattle.page.specs.declared.Owner.{Owner}
 use Rattle.page.specs.declared.Owner.the-variants as O
-use Rattle.laws.proofs.Decides.{Decides, holds, fails, when, both, one-of, equal, at-most}
+use Rattle.page.proofs.TableLaws.{points-there}
+use Rattle.laws.proofs.Decides.{Decides, holds, fails, untested, when, both, one-of, equal, at-most}
 
 and-false : (b : Bool) → (b && false) ≡ false
 and-false true = refl
@@ -75,41 +76,35 @@ number-at-field m i (c ∷ cs) [] k l e = absurd (let z : ⊥ = omega arith in z
 number-at-field m i (c ∷ cs) (f ∷ fs) zero l e = rw e
 number-at-field m i (c ∷ cs) (f ∷ fs) (suc k) l e = number-at-field m (suc i) cs fs k (omega arith) e
 
--- the four columns of the two points are numbers
-abbrev NumberAt : ℕ → ℕ → Type 0
-NumberAt t k = getD (standing t) k no-column .column .text ≡ false
+-- the machine asks the rules of the fields' numbers, the grammar of the values
+module _ (t : ℕ) (fs : List Bytes) (vs : Record) (at : (k : ℕ) → getD (columns t) k no-column .column .text ≡ false → getD vs k (number 0) ≡ number (amount-at fs k)) where
+  pub rule-decided : (r : Rule) → List·Memᴰ r (rules t) → Decides (Breaks vs r) (broken r fs)
+  unfolding broken
+  rule-decided (points-differ p) m =
+      let q = points-there t p m in
+      let a = at p (q .type-from) in
+      let b = at (p + 1) (q .number-from) in
+      let c = at (p + 2) (q .type-to) in
+      let d = at (p + 3) (q .number-to) in
+      when (λ x. let y = x .0 in let z = x .1 in same-points (cc) (cc)) (back a b c d)
+      (both (equal (amount-at fs p) (amount-at fs (p + 2))) (equal (amount-at fs (p + 1)) (amount-at fs (p + 3))))
+    where
+      back : getD vs p (number 0) ≡ number (amount-at fs p) → getD vs (p + 1) (number 0) ≡ number (amount-at fs (p + 1)) → getD vs (p + 2) (number 0) ≡ number (amount-at fs (p + 2)) →
+          getD vs (p + 3) (number 0) ≡ number (amount-at fs (p + 3)) → Breaks vs (points-differ p) → (amount-at fs p ≡ amount-at fs (p + 2)) × (amount-at fs (p + 1) ≡ amount-at fs (p + 3))
+      back a b c d (same-points x y) = ((cc), (cc))
 
-points-numbers : (t : ℕ) → ¬ (points-from t ≡ 0) → NumberAt t (points-from t) × NumberAt t (points-from t + 1) × NumberAt t (points-from t + 2) × NumberAt t (points-from t + 3)
-unfolding points-from standing columns table-at all-tables
-points-numbers zero n = absurd (n refl)
-points-numbers (suc zero) n = absurd (n refl)
-points-numbers (suc (suc zero)) n = absurd (n refl)
-points-numbers (suc (suc (suc zero))) n = absurd (n refl)
-points-numbers (suc (suc (suc (suc zero)))) n = absurd (n refl)
-points-numbers (suc (suc (suc (suc (suc zero))))) n = absurd (n refl)
-points-numbers (suc (suc (suc (suc (suc (suc zero)))))) n = (refl, refl, refl, refl)
-points-numbers (suc (suc (suc (suc (suc (suc (suc zero))))))) n = (refl, refl, refl, refl)
-points-numbers (suc (suc (suc (suc (suc (suc (suc (suc t)))))))) n = absurd (n refl)
+pub rule-d : (t m : ℕ) {fs : List Bytes} {vs : Record} → Values (marks-of m) 1 (standing t) fs vs → (r : Rule) → List·Memᴰ r (rules t) → Decides (Breaks vs r) (broken r fs)
+unfolding standing
+rule-d t m {fs} {vs} h =
+    rule-decided t fs vs (λ k e. ap (λ (x : Record). getD x k (number 0)) (values-are m (omega arith) h) ∙ number-at-field m 1 (standing t) fs k (values-length h) e)
 
--- 14: the machine compares the fields' numbers, the grammar the values
-pub points-d : (t m : ℕ) {fs : List Bytes} {vs : Record} → Values (marks-of m) 1 (standing t) fs vs → Decides (SamePoints t vs) (same-points t fs)
-unfolding same-points points-same
-points-d t m {fs} {vs} h = by (eqb (points-from t) 0) (equal (points-from t) 0)
-  where
-    at : (k : ℕ) → NumberAt t k → getD vs k (number 0) ≡ number (amount-at fs k)
-    at k e = ap (λ (x : Record). getD x k (number 0)) (values-are m (omega arith) h) ∙ number-at-field m 1 (standing t) fs k (values-length h) e
-
-    by : (b : Bool) → Decides (points-from t ≡ 0) b →
-        Decides (SamePoints t vs) (not b && (eqb (amount-at fs (points-from t)) (amount-at fs (points-from t + 2)) && eqb (amount-at fs (points-from t + 1)) (amount-at fs (points-from t + 3))))
-    by true (holds e) = fails (λ s. s .has e)
-    by false (fails n) =
-        let k = points-numbers t n in
-        let a = at (points-from t) (k .0) in
-        let b = at (points-from t + 1) (k .1) in
-        let c = at (points-from t + 2) (k .2) in
-        let d = at (points-from t + 3) (k .3) in
-        when (λ p. record { has = n; types = let x = p .0 in cc; places = let x = p .1 in cc }) (λ s. ((let x = s .types in cc), (let x = s .places in cc)))
-        (both (equal (amount-at fs (points-from t)) (amount-at fs (points-from t + 2))) (equal (amount-at fs (points-from t + 1)) (amount-at fs (points-from t + 3))))
+-- values that break no rule of a list have no number of one
+pub rules-kept : (fs : List Bytes) (vs : Record) (rs : List Rule) → ((r : Rule) → List·Memᴰ r rs → Decides (Breaks vs r) (broken r fs)) →
+    ((r : Rule) → List·Memᴰ r rs → ¬ Breaks vs r) → first-broken rs fs ≡ 0
+unfolding first-broken
+rules-kept fs vs [] d n = refl
+rules-kept fs vs (r ∷ rs) d n =
+    rw (untested (d r (List·Memᴰ·head refl)) (n r (List·Memᴰ·head refl)), rules-kept fs vs rs (λ x k. d x (List·Memᴰ·tail k)) (λ x k. n x (List·Memᴰ·tail k)))
 
 -- no number is a text
 quoted-no-number : (f : Bytes) → numberOf (34 ∷ f) ≡ N.Nothing

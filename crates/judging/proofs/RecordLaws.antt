@@ -1,26 +1,27 @@
 -- A record's fields from the left, against the columns of its table. Assumes nothing.
 use mathlib.Core.Path.{_≡_, refl, ap, sym, _∙_}
 use mathlib.Core.Bool.{Bool, true, false, _&&_}
-use mathlib.Core.List.{List, [], _∷_}
+use mathlib.Core.List.{List, [], _∷_, List·Memᴰ, List·Memᴰ·head, List·Memᴰ·tail}
 use Prim.Native.Nat.{ℕ, zero, suc, _+_, _<_, _≤_}
 use native.Mathlib.Numerals.{add-one}
 use native.Mathlib.Omega.{arith}
-use lib.Dec.{eqb, leb, ltb, lit≤}
+use lib.Dec.{eqb, leb, ltb}
 use lib.ListN.{length, getD, set, drop, drop-of-length-le, length-drop}
 use lib.Seq.{drop-cons, getD-set-same, getD-set-other}
 use borrow.Author.Tests.{eq-eqb, ne-eqb, eqb-true, eqb-false, ltb-true}
 use Rattle.page.specs.Bytes.{Bytes, pick}
 use Rattle.page.specs.Fields.{fields, numberOf}
-use Rattle.page.specs.Tables.{Named, all-tables, no-column, table-at, columns, standing, column-at, width, points-from}
-use Rattle.page.specs.Section.{number-field, fieldOf, field-number, first-of, first-wrong, amount, amount-at, points-same, same-points}
+use Rattle.page.specs.Tables.{Named, Rule, points-differ, WIDEST, no-column, standing, column-at, width, rules}
+use Rattle.page.specs.Section.{number-field, fieldOf, field-number, first-of, first-wrong, amount, amount-at, broken, first-broken}
 use Rattle.page.specs.declared.Column.{Column}
 use Rattle.page.specs.declared.Number.{Number}
 use Rattle.page.specs.declared.Number.the-variants as N
 use Rattle.page.specs.declared.Field.the-variants as F
 use Rattle.page.proofs.TestLaws.{false-true}
-use Rattle.page.proofs.TableLaws.{standing-width, standing-column}
+use Rattle.page.proofs.TableLaws.{width-le, standing-width, standing-column, points-there}
+use Rattle.tables.specs.Choices.{rules-of}
 use Rattle.page.proofs.FieldLaws.{from, from-end}
-use Rattle.judging.specs.Judging.{number-of, Numbers, Judged, points-equal}
+use Rattle.judging.specs.Judging.{number-of, Numbers, Judged, breaks, broken-by}
 
 -- "each field from the left": no field is left, no column is left, or one of each
 
@@ -56,19 +57,6 @@ pub column-read : (c d : Column) (f : Bytes) → d .text ≡ c .text → d .lo �
 unfolding fieldOf
 column-read c d f a b e = rw (a, b, e)
 
--- the last of the four columns of the two points
-pub points-small : (t : ℕ) → points-from t ≤ 3
-unfolding points-from
-points-small zero = omega arith
-points-small (suc zero) = omega arith
-points-small (suc (suc zero)) = omega arith
-points-small (suc (suc (suc zero))) = omega arith
-points-small (suc (suc (suc (suc zero)))) = omega arith
-points-small (suc (suc (suc (suc (suc zero))))) = omega arith
-points-small (suc (suc (suc (suc (suc (suc zero)))))) = omega arith
-points-small (suc (suc (suc (suc (suc (suc (suc zero))))))) = omega arith
-points-small (suc (suc (suc (suc (suc (suc (suc (suc t)))))))) = omega arith
-
 -- the numbers of a record, as a walk keeps them
 
 number-known : (c : Column) (f : Bytes) → field-number (fieldOf c f) ≡ 0 → c .text ≡ false → number-of (fieldOf c f) ≡ amount (numberOf f)
@@ -98,44 +86,64 @@ module _ (t : ℕ) (fs : List Bytes) (k : ℕ) (ns : List ℕ) where
           let x : i ≡ k → ⊥ = eqb-false i k q in
           rw (getD-set-other ns k i _ 0 x) (m i (omega arith) e)
 
--- the four columns of the two points are there, and numbers
+-- the rules, asked of the numbers
 
-record Plain (t : ℕ) : Type 0 where
-  fits : points-from t + 4 ≤ width t
-  type-from : column-at t (points-from t) .text ≡ false
-  number-from : column-at t (points-from t + 1) .text ≡ false
-  type-to : column-at t (points-from t + 2) .text ≡ false
-  number-to : column-at t (points-from t + 3) .text ≡ false
+rule-known : (t : ℕ) (fs : List Bytes) (ns : List ℕ) → Numbers t fs (width t) ns → (r : Rule) → List·Memᴰ r (rules t) → breaks r ns ≡ broken r fs
+unfolding breaks broken column-at width
+rule-known t fs ns m (points-differ p) h =
+    let x = points-there t p h in
+    let f = x .fits in
+    rw (
+      m p (omega arith) (x .type-from),
+      m (p + 1) (omega arith) (x .number-from),
+      m (p + 2) (omega arith) (x .type-to),
+      m (p + 3) (omega arith) (x .number-to),
+    )
 
-points-plain : (t : ℕ) → (points-from t ≡ 0 → ⊥) → Plain t
-unfolding points-from width column-at columns table-at all-tables
-points-plain zero h = absurd (h refl)
-points-plain (suc zero) h = absurd (h refl)
-points-plain (suc (suc zero)) h = absurd (h refl)
-points-plain (suc (suc (suc zero))) h = absurd (h refl)
-points-plain (suc (suc (suc (suc zero)))) h = absurd (h refl)
-points-plain (suc (suc (suc (suc (suc zero))))) h = absurd (h refl)
-points-plain (suc (suc (suc (suc (suc (suc zero)))))) h =
-    record { fits = lit≤ tt; type-from = refl; number-from = refl; type-to = refl; number-to = refl }
-points-plain (suc (suc (suc (suc (suc (suc (suc zero))))))) h =
-    record { fits = lit≤ tt; type-from = refl; number-from = refl; type-to = refl; number-to = refl }
-points-plain (suc (suc (suc (suc (suc (suc (suc (suc t)))))))) h = absurd (h refl)
+rules-same : (fs : List Bytes) (ns : List ℕ) (rs : List Rule) → ((r : Rule) → List·Memᴰ r rs → breaks r ns ≡ broken r fs) → broken-by rs ns ≡ first-broken rs fs
+unfolding broken-by first-broken
+rules-same fs ns [] h = refl
+rules-same fs ns (r ∷ rs) h =
+    rw (h r (List·Memᴰ·head refl), rules-same fs ns rs (λ x m. h x (List·Memᴰ·tail m)))
 
-pub points-known : (t : ℕ) (fs : List Bytes) (ns : List ℕ) → Numbers t fs (width t) ns → points-equal t ns ≡ same-points t fs
-unfolding points-equal same-points points-same
-points-known t fs ns m = by (eqb (points-from t) 0) refl
-  where
-    by : (b : Bool) → eqb (points-from t) 0 ≡ b → points-equal t ns ≡ same-points t fs
-    by true q = rw q
-    by false q =
-        let x = points-plain t (eqb-false (points-from t) 0 q) in
-        let f = x .fits in
-        rw (
-          m (points-from t) (omega arith) (x .type-from),
-          m (points-from t + 1) (omega arith) (x .number-from),
-          m (points-from t + 2) (omega arith) (x .type-to),
-          m (points-from t + 3) (omega arith) (x .number-to),
-        )
+pub rules-known : (t : ℕ) (fs : List Bytes) (ns : List ℕ) → Numbers t fs (width t) ns → broken-by (rules t) ns ≡ first-broken (rules t) fs
+rules-known t fs ns m = rules-same fs ns (rules t) (rule-known t fs ns m)
+
+-- the rules of a table by the column where its two points begin
+
+module _ (t p : ℕ) (e : rules-of p ≡ rules t) where
+  pub no-points : (ns : List ℕ) → p ≡ 0 → 0 ≡ broken-by (rules t) ns
+  unfolding broken-by rules-of
+  no-points ns z = let q : rules t ≡ [] = sym e ∙ rw z in rw q
+
+  module _ (n : p ≡ 0 → ⊥) where
+    points-rule : rules t ≡ points-differ p ∷ []
+    unfolding rules-of
+    points-rule = sym e ∙ by p n
+      where
+        by : (q : ℕ) → (q ≡ 0 → ⊥) → rules-of q ≡ points-differ q ∷ []
+        by zero n = absurd (n refl)
+        by (suc q) n = refl
+
+    pub points-in : p + 4 ≤ WIDEST
+    unfolding width
+    points-in =
+        let m : List·Memᴰ (points-differ p) (rules t) = rw points-rule (List·Memᴰ·head refl) in
+        omega (arith, points-there t p m .fits, width-le t)
+
+    module _ (ns : List ℕ) where
+      points-told : broken-by (rules t) ns ≡ pick (eqb (getD ns p 0) (getD ns (p + 2) 0) && eqb (getD ns (p + 1) 0) (getD ns (p + 3) 0)) 14 0
+      unfolding broken-by breaks
+      points-told = rw points-rule
+
+      pub types-apart : (getD ns p 0 ≡ getD ns (p + 2) 0 → ⊥) → 0 ≡ broken-by (rules t) ns
+      types-apart a = sym (points-told ∙ rw (ne-eqb (getD ns p 0) (getD ns (p + 2) 0) a))
+
+      pub places-apart : getD ns p 0 ≡ getD ns (p + 2) 0 → (getD ns (p + 1) 0 ≡ getD ns (p + 3) 0 → ⊥) → 0 ≡ broken-by (rules t) ns
+      places-apart a b = sym (points-told ∙ rw (eq-eqb (getD ns p 0) (getD ns (p + 2) 0) a, ne-eqb (getD ns (p + 1) 0) (getD ns (p + 3) 0) b))
+
+      pub points-same : getD ns p 0 ≡ getD ns (p + 2) 0 → getD ns (p + 1) 0 ≡ getD ns (p + 3) 0 → 14 ≡ broken-by (rules t) ns
+      points-same a b = sym (points-told ∙ rw (eq-eqb (getD ns p 0) (getD ns (p + 2) 0) a, eq-eqb (getD ns (p + 1) 0) (getD ns (p + 3) 0) b))
 
 -- a walk over a record's fields that has passed k of them: no field is left, or no column
 

@@ -1,12 +1,12 @@
 -- What one walk over a record's fields finds.
 use mathlib.Core.Path.{_≡_}
-use mathlib.Core.Bool.{Bool, true, false, not, _&&_}
-use mathlib.Core.List.{List}
+use mathlib.Core.Bool.{Bool, true, false, _&&_}
+use mathlib.Core.List.{List, [], _∷_}
 use Prim.Native.Nat.{ℕ, _+_, _<_}
 use lib.Dec.{eqb}
 use lib.ListN.{length, getD}
-use Rattle.page.specs.Bytes.{Bytes}
-use Rattle.page.specs.Tables.{width, column-at, standing, points-from}
+use Rattle.page.specs.Bytes.{Bytes, pick}
+use Rattle.page.specs.Tables.{Rule, points-differ, rule-number, width, column-at, standing}
 use Rattle.page.specs.Section.{first-wrong, amount-at}
 use Rattle.page.specs.declared.Field.{Field}
 use Rattle.page.specs.declared.Field.the-variants as F
@@ -27,8 +27,10 @@ pub record Judged (t : ℕ) (fs : List Bytes) (wrong : ℕ) (whole : Bool) (ns :
   pub ends : whole ≡ true → length fs ≡ width t
   pub numbers : wrong ≡ 0 → length fs ≡ width t → Numbers t fs (width t) ns
 
--- the two points of a record with these numbers
-unfoldable pub points-equal : ℕ → List ℕ → Bool
-points-equal t ns =
-    not (eqb (points-from t) 0) && (eqb (getD ns (points-from t) 0) (getD ns (points-from t + 2) 0)
-    && eqb (getD ns (points-from t + 1) 0) (getD ns (points-from t + 3) 0))
+-- whether a record with these numbers breaks a rule, and the number of the first that it breaks
+unfoldable pub breaks : Rule → List ℕ → Bool
+breaks (points-differ p) ns = eqb (getD ns p 0) (getD ns (p + 2) 0) && eqb (getD ns (p + 1) 0) (getD ns (p + 3) 0)
+
+unfoldable pub broken-by : List Rule → List ℕ → ℕ
+broken-by [] ns = 0
+broken-by (r ∷ rs) ns = pick (breaks r ns) (rule-number r) (broken-by rs ns)

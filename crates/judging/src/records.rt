@@ -4,17 +4,17 @@ ghost use mathlib.Core.Bool.{true};
 ghost use lib.Dec.{eqb};
 ghost use lib.ListN.{length};
 ghost use Rattle.page.specs.Fields.{fields};
-ghost use Rattle.page.specs.Tables.{width};
+ghost use Rattle.page.specs.Tables.{width, rules};
 ghost use Rattle.page.specs.Section.{field-number, amount-at, empty-marked, rec-verdict};
-ghost use Rattle.judging.specs.Judging.{number-of, Judged, points-equal};
+ghost use Rattle.judging.specs.Judging.{number-of, Judged, broken-by};
 use page::Column;
 use page::Field;
-use page::tables::WIDEST;
-use page::tables::find_highs;
-use page::tables::find_kinds;
-use page::tables::find_lows;
-use page::tables::find_points;
-use page::tables::find_width;
+use tables::WIDEST;
+use tables::find_highs;
+use tables::find_kinds;
+use tables::find_lows;
+use tables::find_points;
+use tables::find_width;
 
 // What one walk over a record's fields finds: the number of the first wrong one (0: none), whether they are known to be as many as the
 // columns, and the values of the number columns.
@@ -113,18 +113,22 @@ pub fn amount_at(w: &[u8], k: usize) -> u64
     fields::amount_of(commands::field_at(w, k))
 }
 
-// "In 225 and 247 the two points, type and number together, differ."
-fn same_points(ns: [u64; WIDEST], t: usize) -> bool
-    ensures { λ r. ⌜ r ≡ points-equal t ns ⌝ }
+// The number of the first rule of its table that a record breaks, 0 if none: "In 225 and 247 the two points, type and number together,
+// differ."
+fn judge_rules(ns: [u64; WIDEST], t: usize) -> u32
+    ensures { λ r. ⌜ r ≡ broken-by (rules t) ns ⌝ }
 {
     let p = find_points(t);
     if p == 0 {
-        return false;
+        return 0;
     }
     if ns[p] != ns[p + 2] {
-        return false;
+        return 0;
     }
-    ns[p + 1] == ns[p + 3]
+    if ns[p + 1] != ns[p + 3] {
+        return 0;
+    }
+    14
 }
 
 // "15 for a marked empty text": m is the field of the mark that waits, 0 if none does.
@@ -151,8 +155,9 @@ pub fn judge_record(w: &[u8], t: usize, m: u64) -> u32
     if v != 0 {
         return v;
     }
-    if same_points(ns, t) {
-        return 14;
+    let broken = judge_rules(ns, t);
+    if broken != 0 {
+        return broken;
     }
     if marks_empty(w, m) {
         return 15;

@@ -2,24 +2,23 @@
 use mathlib.Core.Path.{_≡_, refl, ap, sym, _∙_}
 use mathlib.Core.Bool.{Bool, true, false}
 use mathlib.Core.List.{List, [], _∷_, map}
-use Prim.Native.Nat.{ℕ, zero, suc, _+_, _*_, _/_, _%_, _^_, _<_, _≤_, zero-le}
-use native.Mathlib.Nat.{pow-suc, pow-le-pow-right}
-use native.Mathlib.Numerals.{add-one}
+use Prim.Native.Nat.{ℕ, zero, suc, _+_, _*_, _/_, _%_, _<_, _≤_}
 use native.Mathlib.Omega.{arith}
-use lib.Dec.{eqb, leb, lit<}
-use lib.ListN.{length, drop, drop-of-length-le, length-drop, List·getD-eq-default}
+use lib.Dec.{eqb, leb}
+use lib.ListN.{length, drop, drop-of-length-le, List·getD-eq-default}
 use lib.Seq.{drop-cons}
 use borrow.Author.Tests.{leb-true, leb-false}
 use Rattle.page.specs.Bytes.{Bytes, pick}
-use Rattle.page.specs.Tables.{Named, no-column, columns, column-at, width, standing}
+use Rattle.page.specs.Tables.{Named, WIDEST, columns, standing}
 use Rattle.page.specs.Marks.{owner-of}
 use Rattle.page.specs.Records.{number, Record, datumOf, valuesOf}
 use Rattle.page.specs.File.{key-in, referred}
 use Rattle.page.specs.declared.Column.{Column}
 use Rattle.page.specs.declared.Owner.{Owner}
-use Rattle.page.proofs.TableLaws.{fill, width-le}
-use Rattle.keys.proofs.ReferenceLaws.{flagged, flags-columns}
-use Rattle.keys.specs.Numbers.{datum-number, seven, key-numbers, refer-numbers, field-as, chosen, kind-of, choice-by, key-choice, flags, reference-at, refer-choice}
+use Rattle.tables.specs.Arrays.{fill}
+use Rattle.tables.proofs.ReferenceLaws.{flagged, flags-columns}
+use Rattle.tables.specs.Choices.{kind-of, choice-by, key-choice, flags, reference-at, refer-choice}
+use Rattle.keys.specs.Numbers.{datum-number, seven, key-numbers, refer-numbers, field-as, chosen}
 
 pub chosen-none : (fs : List Bytes) → chosen 0 fs ≡ []
 unfolding chosen
@@ -105,55 +104,7 @@ pub chosen-reference : (t r m : ℕ) (fs : List Bytes)
     → seven (chosen (refer-choice t r) fs) ≡ refer-numbers (reference-at t r .columns) (valuesOf m 1 (standing t) fs)
 unfolding refer-choice refer-numbers standing seven
 chosen-reference t r m fs =
-    let bs = flags 8 0 (reference-at t r .columns) in
+    let bs = flags WIDEST 0 (reference-at t r .columns) in
     let vs = valuesOf m 1 (columns t) fs in
     ap (fill 7 0) (chosen-selected bs (columns t) fs m 1)
     ∙ sym (fill-flagged 7 0 bs vs) ∙ ap (λ (ks : List ℕ). fill 7 0 (map datum-number (referred ks vs))) (flags-columns t r)
-
--- a key's choice, from the last column on
-
-kind-le : (b : Bool) (c : Column) → kind-of b c ≤ 2
-unfolding kind-of
-kind-le b c = by b (c .text)
-  where
-    by : (b x : Bool) → pick b (pick x 2 1) 0 ≤ 2
-    by true true = omega arith
-    by true false = omega arith
-    by false x = omega arith
-
-pub choice-lt : (bs : List Bool) (cs : List Named) → choice-by bs cs < 4 ^ length cs
-unfolding choice-by
-choice-lt [] cs = pow-pos cs
-  where
-    pow-pos : (cs : List Named) → 0 < 4 ^ length cs
-    pow-pos cs = pow-le-pow-right (lit< tt) zero-le
-choice-lt (b ∷ bs) [] = omega arith
-choice-lt (b ∷ bs) (c ∷ cs) =
-    let ih = choice-lt bs cs in
-    let p : 4 ^ suc (length cs) ≡ 4 ^ length cs * 4 = pow-suc 4 (length cs) in
-    let k = kind-le b (c .column) in
-    omega arith
-
--- the choice of the columns from k on
-unfoldable pub choice-from : (Column → Bool) → ℕ → ℕ → ℕ
-choice-from p t k = choice-by (map (λ (c : Named). p (c .column)) (drop k (columns t))) (drop k (columns t))
-
-pub choice-end : (p : Column → Bool) (t k : ℕ) → width t ≤ k → choice-from p t k ≡ 0
-unfolding choice-from choice-by width
-choice-end p t k h = rw (drop-of-length-le (columns t) h)
-
-pub choice-down : (p : Column → Bool) (t k : ℕ) → k < width t → choice-from p t k ≡ choice-from p t (k + 1) * 4 + kind-of (p (column-at t k)) (column-at t k)
-unfolding choice-from choice-by width column-at
-choice-down p t k h = rw (add-one, drop-cons (columns t) k no-column h)
-
-pub choice-all : (p : Column → Bool) (t : ℕ) → choice-from p t 0 ≡ key-choice p t
-unfolding choice-from key-choice
-choice-all p t = refl
-
-pub choice-small : (p : Column → Bool) (t k : ℕ) → choice-from p t k < 65536
-unfolding choice-from width
-choice-small p t k =
-    let a = choice-lt (map (λ (c : Named). p (c .column)) (drop k (columns t))) (drop k (columns t)) in
-    let l : length (drop k (columns t)) ≤ 8 = omega (arith, length-drop k (columns t), width-le t) in
-    let b : 4 ^ length (drop k (columns t)) ≤ 4 ^ 8 = pow-le-pow-right (lit< tt) l in
-    omega arith

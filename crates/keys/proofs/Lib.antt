@@ -1,5 +1,4 @@
 pub mod PackLaws
-pub mod ReferenceLaws
 pub mod ChoiceLaws
 pub mod SameLaws
 pub mod SoundLaws

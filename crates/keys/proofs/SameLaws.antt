@@ -15,10 +15,12 @@ use Rattle.page.specs.File.{same-datum, same-record, key-in, by-primary, referr
 use Rattle.page.specs.declared.Column.{Column}
 use Rattle.page.specs.declared.Owner.{Owner}
 use Rattle.page.proofs.TestLaws.{and-left, and-right}
-use Rattle.page.proofs.TableLaws.{each, fill}
-use Rattle.keys.specs.Numbers.{datum-number, seven, key-numbers, refer-numbers, reference-at}
+use Rattle.page.proofs.TableLaws.{each}
+use Rattle.tables.specs.Arrays.{fill}
+use Rattle.tables.specs.Choices.{reference-at}
+use Rattle.keys.specs.Numbers.{datum-number, seven, key-numbers, refer-numbers}
 use Rattle.keys.proofs.PackLaws.{byte, packed-same}
-use Rattle.keys.proofs.ReferenceLaws.{count, Small, short, plain-at, reference-size, reference-plain, primary-plain, small-primary}
+use Rattle.tables.proofs.ReferenceLaws.{count, Small, short, plain-at, reference-size, reference-plain, primary-plain, small-primary}
 
 -- a value as its column asks; its bytes are bytes
 pub data Fits (c : Column) : Datum → Type 0 where

@@ -11,7 +11,7 @@ use borrow.Author.Tests.{leb-true, lt-ltb}
 use Rattle.page.specs.Bytes.{Bytes, pick, all, until, trimOf, trim}
 use Rattle.page.specs.Lines.{content, command, rest, semicolon, allowed, clean, Rec}
 use Rattle.page.specs.Fields.{parts-here, inside-after, into, split, fields, quote, with-byte, bodyOf, textOf}
-use Rattle.page.specs.Tables.{Named, number-at, table-count, columns, standing}
+use Rattle.page.specs.Tables.{Named, number-at, TABLES, columns, standing}
 use Rattle.page.specs.Section.{outcome, record-text}
 use Rattle.page.specs.Records.{Datum, number, Record, recordsOf, table-of}
 use Rattle.page.specs.Grammar.{fields-of, Says, Holds, a-number, a-text, Values, no-field, a-field, Then, found, skip, Records, pause, a-mark, a-record, the-end, Denotes}
@@ -149,7 +149,7 @@ module _ {latin : Bool} (t : ℕ) where
 -- of a section's lines that begin with a `tbl` line and have verdict 0
 pub record Sound (latin : Bool) (ls : List Bytes) : Type 0 where
   pub verdict : outcome latin ls .verdict ≡ 0
-  pub known : table-of ls < table-count
+  pub known : table-of ls < TABLES
   pub number : outcome latin ls .table ≡ number-at (table-of ls)
   pub fit : Every (Fitting (columns (table-of ls))) (recordsOf latin ls)
 

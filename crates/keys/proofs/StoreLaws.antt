@@ -13,7 +13,7 @@ use lib.Seq.{set-out, set-append-seam, append-snoc}
 use Rattle.page.specs.Bytes.{Bytes, pick}
 use Rattle.page.specs.Fields.{with-byte, field-size}
 use Rattle.page.specs.Records.{own-bytes}
-use Rattle.page.proofs.TableLaws.{fill}
+use Rattle.tables.specs.Arrays.{fill}
 use Rattle.page.proofs.FieldLaws.{from, from-end}
 use Rattle.digits.specs.Runs.{field-from}
 use Rattle.digits.proofs.RunLaws.{from-next}

@@ -10,10 +10,11 @@ ghost use Rattle.page.specs.Section.{record-text};
 ghost use Rattle.page.specs.Records.{own-bytes, valuesOf};
 ghost use Rattle.page.specs.Tables.{standing};
 ghost use Rattle.digits.specs.Runs.{field-from};
-ghost use Rattle.keys.specs.Numbers.{push, packed, seven, chosen, field-as, reference-at, refer-numbers};
-use crate::choice::choose_reference;
+ghost use Rattle.tables.specs.Choices.{reference-at};
+ghost use Rattle.keys.specs.Numbers.{push, packed, seven, chosen, field-as, refer-numbers};
 use crate::key::Key;
 use crate::key::PLACES;
+use tables::choose_reference;
 
 // A field as a number, and where it ends.
 struct Taken {

@@ -10,7 +10,7 @@ use lib.ListN.{length, take}
 use borrow.Author.Tests.{eqb-true, leb-true, le-ltb, ne-eqb}
 use Rattle.page.specs.Bytes.{Bytes, bytes, pick, same, until, no-space, trim}
 use Rattle.page.specs.Lines.{blank, command, semicolon, find, known, Mod, Unknown, Missing}
-use Rattle.page.specs.Tables.{Named, table-at, table-named, table-count}
+use Rattle.page.specs.Tables.{Named, table-at, table-named, TABLES}
 use Rattle.page.specs.Section.{names-same, format-ok, formats-ok}
 use Rattle.page.specs.Grammar.{Formats, no-format, a-format, Rises, lone, above}
 use Rattle.page.specs.Refusals.{marks-of, One}
@@ -115,10 +115,10 @@ one-d (f ∷ []) = holds (f, refl)
 one-d (f ∷ g ∷ fs) = rw (ne-eqb (length (f ∷ g ∷ fs)) 1 (λ e. omega arith)) (fails (λ o. let e = o .1 in absurd (false≢true (cc))))
 
 -- the name of one of the tables
-pub named-d : (f : Bytes) → Decides ((t : ℕ) × (t < table-count) × (f ∷ [] ≡ bytes (table-at t .name) ∷ [])) (ltb (table-named f) table-count)
-named-d f = when (λ h. (table-named f, h, ap (λ (x : Bytes). x ∷ []) (sym (named-is f h)))) back (below (table-named f) table-count)
+pub named-d : (f : Bytes) → Decides ((t : ℕ) × (t < TABLES) × (f ∷ [] ≡ bytes (table-at t .name) ∷ [])) (ltb (table-named f) TABLES)
+named-d f = when (λ h. (table-named f, h, ap (λ (x : Bytes). x ∷ []) (sym (named-is f h)))) back (below (table-named f) TABLES)
   where
-    back : (t : ℕ) × (t < table-count) × (f ∷ [] ≡ bytes (table-at t .name) ∷ []) → table-named f < table-count
+    back : (t : ℕ) × (t < TABLES) × (f ∷ [] ≡ bytes (table-at t .name) ∷ []) → table-named f < TABLES
     back x =
         let t = x .0 in
         let h = x .1 in

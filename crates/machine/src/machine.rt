@@ -14,7 +14,7 @@ use page::Number;
 use page::Phase;
 use page::Remark;
 use page::Step;
-use page::tables::TABLES;
+use tables::TABLES;
 
 // "`tbl` 10, 7"
 pub fn step_tbl(w: &[u8]) -> Step
@@ -100,7 +100,7 @@ pub fn step_mark(p: Phase, i: u64) -> Step
         Phase::Atr(_) => Step::Stop(15),
         Phase::Frm(_) => Step::Stop(15),
         Phase::Rows(t, m, n) => {
-            if !page::tables::may_mark(t, i) {
+            if !tables::may_mark(t, i) {
                 return Step::Stop(15);
             }
             if m < i {

@@ -1,3 +1,2 @@
 pub mod FormatLaws
-pub mod WordLaws
 pub mod TitleLaws

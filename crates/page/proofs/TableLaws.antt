@@ -1,69 +1,32 @@
 -- The fixed tables: what holds of each entry is computed over the one list of tables. Assumes nothing.
 use mathlib.Core.Path.{_≡_, refl, ap, sym, _∙_}
-use mathlib.Core.Bool.{Bool, true, false, false≢true, not, _&&_, _||_}
-use mathlib.Core.List.{List, [], _∷_, map}
-use Prim.Native.Nat.{ℕ, zero, suc, _-_, _<_, _≤_}
-use native.Mathlib.Nat.{lt-of-not-le}
+use mathlib.Core.Logic.{⊎-elim}
+use mathlib.Core.Bool.{Bool, true, false, false≢true, not, _&&_}
+use mathlib.Core.List.{List, [], _∷_, map, List·Memᴰ, List·Memᴰ·not-nil, List·Memᴰ·cases-cons}
+use Prim.Native.Nat.{ℕ, zero, suc, _+_, _-_, _<_, _≤_}
+use native.Mathlib.Nat.{lt-of-not-le, eq-or-lt-of-le, le-of-suc-le-suc}
 use native.Mathlib.Omega.{arith}
-use lib.Dec.{eqb, leb, ltb}
+use lib.Dec.{eqb, leb}
 use lib.ListN.{length, getD, List·getD-map, List·getD-eq-default}
-use borrow.Author.Tests.{leb-true, ltb-true, eqb-true, not-true}
+use borrow.Author.Tests.{leb-true, not-true}
 use Rattle.page.specs.declared.Column.{Column}
 use Rattle.page.specs.Bytes.{Bytes, bytes, pick, same}
 use Rattle.page.specs.Lines.{find}
-use Rattle.page.specs.Tables.{Named, Table, all-tables, no-table, no-column, table-at, number-at, columns, width, column-at, name-at, standing, table-named}
+use Rattle.page.specs.Tables.{Named, Rule, points-differ, rule-number, Table, all-tables, TABLES, WIDEST, MOST, no-table, no-column, table-at, number-at, columns, width, column-at, name-at, rules, standing, table-named}
 use Rattle.page.specs.Marks.{may-mark}
-use Rattle.page.proofs.NameLaws.{find-within, found}
+use Rattle.page.proofs.NameLaws.{found}
 use Rattle.page.proofs.TestLaws.{and-left, and-right}
 
--- a list cut or filled up to n places
-unfoldable pub fill : {A : Type 0} → ℕ → A → List A → List A
-fill zero d xs = []
-fill (suc n) d [] = d ∷ fill n d []
-fill (suc n) d (x ∷ xs) = x ∷ fill n d xs
+-- the list is as long as it is said to be, and an entry past its end is no table
+pub tables-counted : length all-tables ≡ TABLES
+unfolding all-tables
+tables-counted = refl
 
-fill-at : {A : Type 0} (d : A) (n : ℕ) (xs : List A) (k : ℕ) → k < n → getD (fill n d xs) k d ≡ getD xs k d
-unfolding fill
-fill-at d zero xs k h = absurd (omega arith)
-fill-at d (suc n) [] zero h = refl
-fill-at d (suc n) [] (suc k) h = fill-at d n [] k (omega arith)
-fill-at d (suc n) (x ∷ xs) zero h = refl
-fill-at d (suc n) (x ∷ xs) (suc k) h = fill-at d n xs k (omega arith)
-
-pub fill-none : {A : Type 0} (d : A) (k : ℕ) → k < 8 → getD (fill 8 d []) k d ≡ d
-fill-none d k h = fill-at d 8 [] k h
-
--- a property of the columns, as an array has it: a row of eight places a table
-module _ {B : Type 0} (f : Named → B) where
-  unfoldable pub array : List Table → List (List B)
-  array xs = map (λ (x : Table). fill 8 (f no-column) (map f (x .columns))) xs
-
-  array-at : (xs : List Table) (t k : ℕ) → k < 8
-      → getD (getD (array xs) t []) k (f no-column) ≡ f (getD (getD xs t no-table .columns) k no-column)
-  unfolding array
-  array-at [] t k h = refl
-  array-at (x ∷ xs) zero k h = fill-at (f no-column) 8 (map f (x .columns)) k h ∙ List·getD-map f (x .columns) k no-column
-  array-at (x ∷ xs) (suc t) k h = array-at xs t k h
-
-  pub entry : (t k : ℕ) → k < 8 → getD (getD (array all-tables) t []) k (f no-column) ≡ f (getD (columns t) k no-column)
-  unfolding columns table-at
-  entry t k h = array-at all-tables t k h
-
-pub column-entry : {B : Type 0} (f : Column → B) (t k : ℕ) → k < 8
-    → getD (getD (array (λ (c : Named). f (c .column)) all-tables) t []) k (f (no-column .column)) ≡ f (column-at t k)
-unfolding column-at
-column-entry f t k h = entry (λ (c : Named). f (c .column)) t k h
-
-pub name-entry : (t k : ℕ) → k < 8 → getD (getD (array (λ (c : Named). c .name) all-tables) t []) k "" ≡ name-at t k
-unfolding name-at
-name-entry t k h = entry (λ (c : Named). c .name) t k h
-
--- past the tables, and past a table's columns
-pub past-tables : (t : ℕ) → 8 ≤ t → table-at t ≡ no-table
+pub past-tables : (t : ℕ) → TABLES ≤ t → table-at t ≡ no-table
 unfolding table-at all-tables
 past-tables t h = List·getD-eq-default all-tables no-table h
 
-pub past-width : (t : ℕ) → 8 ≤ t → width t ≡ 0
+pub past-width : (t : ℕ) → TABLES ≤ t → width t ≡ 0
 unfolding width columns
 past-width t h = ap (λ (x : Table). length (x .columns)) (past-tables t h)
 
@@ -73,7 +36,7 @@ unfoldable pub each : {A : Type 0} → (A → Bool) → List A → Bool
 each p [] = true
 each p (x ∷ xs) = p x && each p xs
 
-each-at : {A : Type 0} (p : A → Bool) (d : A) → p d ≡ true → (l : List A) → each p l ≡ true → (n : ℕ) → p (getD l n d) ≡ true
+pub each-at : {A : Type 0} (p : A → Bool) (d : A) → p d ≡ true → (l : List A) → each p l ≡ true → (n : ℕ) → p (getD l n d) ≡ true
 unfolding each
 each-at p d h [] e n = h
 each-at p d h (x ∷ xs) e zero = and-left (p x) (each p xs) e
@@ -90,21 +53,13 @@ column-test p h e t k =
     each-at (λ (c : Named). p (c .column)) no-column h (table-at t .columns)
     (table-test (λ (x : Table). each (λ (c : Named). p (c .column)) (x .columns)) refl e t) k
 
-pub number-small : (t : ℕ) → number-at t < 4294967296
-unfolding number-at all-tables each
-number-small t = ltb-true _ _ (table-test (λ (x : Table). ltb (x .number) 4294967296) refl refl t)
-
-pub width-le : (t : ℕ) → width t ≤ 8
+pub width-le : (t : ℕ) → width t ≤ WIDEST
 unfolding width columns all-tables each
-width-le t = leb-true _ _ (table-test (λ (x : Table). leb (length (x .columns)) 8) refl refl t)
+width-le t = leb-true _ _ (table-test (λ (x : Table). leb (length (x .columns)) WIDEST) refl refl t)
 
-pub column-bounds : (t k : ℕ) → (column-at t k .lo ≤ 1) × (column-at t k .hi ≤ 999999999) × (column-at t k .size ≤ 40)
+pub references-le : (t : ℕ) → length (table-at t .references) ≤ MOST
 unfolding all-tables each
-column-bounds t k = (
-  leb-true _ _ (column-test (λ (c : Column). leb (c .lo) 1) refl refl t k),
-  leb-true _ _ (column-test (λ (c : Column). leb (c .hi) 999999999) refl refl t k),
-  leb-true _ _ (column-test (λ (c : Column). leb (c .size) 40) refl refl t k),
-)
+references-le t = leb-true _ _ (table-test (λ (x : Table). leb (length (x .references)) MOST) refl refl t)
 
 pub past-names : (t k : ℕ) → width t ≤ k → name-at t k ≡ ""
 unfolding name-at width
@@ -115,10 +70,6 @@ unfolding column-at width
 past-columns t k h = ap (λ (c : Named). c .column) (List·getD-eq-default (columns t) no-column h)
 
 -- in the words of `standing`
-
-pub standing-columns : (t : ℕ) → standing t ≡ columns t
-unfolding standing
-standing-columns t = refl
 
 pub standing-width : (t : ℕ) → length (standing t) ≡ width t
 unfolding standing width
@@ -134,26 +85,11 @@ pub may-mark-column : (t i : ℕ) → may-mark t i ≡ (leb 1 i && column-at t (
 unfolding may-mark standing column-at
 may-mark-column t i = refl
 
-pub fillable-within : (t k : ℕ) → column-at t k .fillable ≡ true → (k < width t) × (t < 8)
+pub fillable-within : (t k : ℕ) → column-at t k .fillable ≡ true → (k < width t) × (t < TABLES)
 fillable-within t k e =
     let h : k < width t = lt-of-not-le (λ l. false≢true (sym (ap (λ (c : Column). c .fillable) (past-columns t k l)) ∙ e)) in
-    let g : t < 8 = lt-of-not-le (λ l. let z = past-width t l in omega arith) in
+    let g : t < TABLES = lt-of-not-le (λ l. let z = past-width t l in omega arith) in
     (h, g)
-
--- a text that may be filled is in no key, and has room for 40 bytes
-pub fillable-is-text : (t k : ℕ) → column-at t k .fillable ≡ true
-    → (column-at t k .text ≡ true) × (column-at t k .primary ≡ false) × (column-at t k .second ≡ false) × (column-at t k .hi ≡ 40)
-unfolding all-tables each
-fillable-is-text t k e = (
-  follows _ _ (column-test (λ (c : Column). not (c .fillable) || c .text) refl refl t k) e,
-  not-true _ (follows _ _ (column-test (λ (c : Column). not (c .fillable) || not (c .primary)) refl refl t k) e),
-  not-true _ (follows _ _ (column-test (λ (c : Column). not (c .fillable) || not (c .second)) refl refl t k) e),
-  eqb-true _ _ (follows _ _ (column-test (λ (c : Column). not (c .fillable) || eqb (c .hi) 40) refl refl t k) e),
-)
-  where
-    follows : (a b : Bool) → (not a || b) ≡ true → a ≡ true → b ≡ true
-    follows true b h g = h
-    follows false b h g = absurd (false≢true g)
 
 -- at most one column of a table may be marked
 
@@ -198,23 +134,27 @@ one-markable t i j e f =
     let k : i - 1 ≡ j - 1 = one-fillable t (i - 1) (j - 1) (a .1) (b .1) in
     omega arith
 
-pub may-mark-within : (t i : ℕ) → may-mark t i ≡ true → (1 ≤ i) × (i ≤ width t) × (t < 8)
+pub may-mark-within : (t i : ℕ) → may-mark t i ≡ true → (1 ≤ i) × (i ≤ width t) × (t < TABLES)
 may-mark-within t i e =
     let a = mark-parts t i e in
     let w = fillable-within t (i - 1) (a .1) in
     (a .0, omega arith, w .1)
 
--- the eight tables, one by one
-pub each-of-eight : (P : ℕ → Type 0) → P 0 → P 1 → P 2 → P 3 → P 4 → P 5 → P 6 → P 7 → (t : ℕ) → t < 8 → P t
-each-of-eight P a b c d e f g h zero l = a
-each-of-eight P a b c d e f g h (suc zero) l = b
-each-of-eight P a b c d e f g h (suc (suc zero)) l = c
-each-of-eight P a b c d e f g h (suc (suc (suc zero))) l = d
-each-of-eight P a b c d e f g h (suc (suc (suc (suc zero)))) l = e
-each-of-eight P a b c d e f g h (suc (suc (suc (suc (suc zero))))) l = f
-each-of-eight P a b c d e f g h (suc (suc (suc (suc (suc (suc zero)))))) l = g
-each-of-eight P a b c d e f g h (suc (suc (suc (suc (suc (suc (suc zero))))))) l = h
-each-of-eight P a b c d e f g h (suc (suc (suc (suc (suc (suc (suc (suc t)))))))) l = absurd (omega arith)
+-- what two functions of a table's place give alike at each of the tables, computed as one equation
+
+unfoldable pub listed : {A : Type 0} → (ℕ → A) → ℕ → List A
+listed f zero = []
+listed f (suc n) = f n ∷ listed f n
+
+listed-at : {A : Type 0} (f g : ℕ → A) (n : ℕ) → listed f n ≡ listed g n → (t : ℕ) → t < n → f t ≡ g t
+unfolding listed
+listed-at f g zero e t h = absurd (omega arith)
+listed-at f g (suc n) e t h =
+    ⊎-elim (λ (q : t ≡ n). let z : f n ≡ g n = cc in rw q z)
+    (λ (l : t < n). let z : listed f n ≡ listed g n = cc in listed-at f g n z t l) (eq-or-lt-of-le (le-of-suc-le-suc h))
+
+pub each-table : {A : Type 0} (f g : ℕ → A) → listed f TABLES ≡ listed g TABLES → (t : ℕ) → t < TABLES → f t ≡ g t
+each-table f g e t h = listed-at f g TABLES e t h
 
 -- a table is told by its number
 
@@ -222,20 +162,20 @@ unfoldable pub numbered : ℕ → List Table → ℕ
 numbered n [] = 0
 numbered n (x ∷ xs) = pick (eqb n (x .number)) 0 (suc (numbered n xs))
 
-pub number-tells : (t : ℕ) → t < 8 → numbered (number-at t) all-tables ≡ t
-unfolding numbered number-at table-at all-tables
-number-tells = each-of-eight (λ (t : ℕ). numbered (number-at t) all-tables ≡ t) refl refl refl refl refl refl refl refl
+pub number-tells : (t : ℕ) → t < TABLES → numbered (number-at t) all-tables ≡ t
+unfolding listed numbered number-at table-at all-tables
+number-tells = each-table (λ (t : ℕ). numbered (number-at t) all-tables) (λ (t : ℕ). t) refl
 
-pub number-injective : (t u : ℕ) → t < 8 → u < 8 → number-at t ≡ number-at u → t ≡ u
+pub number-injective : (t u : ℕ) → t < TABLES → u < TABLES → number-at t ≡ number-at u → t ≡ u
 number-injective t u h k e = sym (number-tells t h) ∙ ap (λ (n : ℕ). numbered n all-tables) e ∙ number-tells u k
 
 -- and by its name
 
-pub name-tells : (t : ℕ) → t < 8 → table-named (bytes (table-at t .name)) ≡ t
-unfolding table-named find same bytes table-at all-tables
-name-tells = each-of-eight (λ (t : ℕ). table-named (bytes (table-at t .name)) ≡ t) refl refl refl refl refl refl refl refl
+pub name-tells : (t : ℕ) → t < TABLES → table-named (bytes (table-at t .name)) ≡ t
+unfolding listed table-named find same bytes table-at all-tables
+name-tells = each-table (λ (t : ℕ). table-named (bytes (table-at t .name))) (λ (t : ℕ). t) refl
 
-pub named-is : (w : Bytes) → table-named w < 8 → bytes (table-at (table-named w) .name) ≡ w
+pub named-is : (w : Bytes) → table-named w < TABLES → bytes (table-at (table-named w) .name) ≡ w
 unfolding table-named table-at all-tables
 named-is w h =
     let n = map (λ (t : Table). t .name) all-tables in
@@ -243,6 +183,44 @@ named-is w h =
     ap bytes (sym (List·getD-map (λ (t : Table). t .name) all-tables (table-named w) no-table))
     ∙ rw z at (found 0 n w h)
 
-pub named-le : (w : Bytes) → table-named w ≤ 8
-unfolding table-named all-tables
-named-le w = find-within 0 (map (λ (t : Table). t .name) all-tables) w .1
+-- the rules of a table
+
+pub rule-some : (r : Rule) → eqb (rule-number r) 0 ≡ false
+rule-some (points-differ p) = refl
+
+each-in : {A : Type 0} (p : A → Bool) (l : List A) → each p l ≡ true → (x : A) → List·Memᴰ x l → p x ≡ true
+unfolding each
+each-in p [] e x m = absurd (List·Memᴰ·not-nil m)
+each-in p (y ∷ l) e x m =
+    ⊎-elim (λ (q : x ≡ y). rw q (and-left (p y) (each p l) e)) (λ (n : List·Memᴰ x l). each-in p l (and-right (p y) (each p l) e) x n) (List·Memᴰ·cases-cons m)
+
+-- the four columns of the two points are there, and numbers
+pub record Pointed (cs : List Named) (p : ℕ) : Type 0 where
+  pub fits : p + 4 ≤ length cs
+  pub type-from : getD cs p no-column .column .text ≡ false
+  pub number-from : getD cs (p + 1) no-column .column .text ≡ false
+  pub type-to : getD cs (p + 2) no-column .column .text ≡ false
+  pub number-to : getD cs (p + 3) no-column .column .text ≡ false
+
+abbrev plain-at : List Named → ℕ → Bool
+plain-at cs k = not (getD cs k no-column .column .text)
+
+abbrev rule-stands : List Named → Rule → Bool
+rule-stands cs (points-differ p) = leb (p + 4) (length cs) && (plain-at cs p && (plain-at cs (p + 1) && (plain-at cs (p + 2) && plain-at cs (p + 3))))
+
+pub points-there : (t p : ℕ) → List·Memᴰ (points-differ p) (rules t) → Pointed (columns t) p
+unfolding columns rules each all-tables
+points-there t p m =
+    let cs = columns t in
+    let a : rule-stands cs (points-differ p) ≡ true =
+    each-in (rule-stands cs) (rules t) (table-test (λ (x : Table). each (rule-stands (x .columns)) (x .rules)) refl refl t) (points-differ p) m in
+    let b = and-right (leb (p + 4) (length cs)) (plain-at cs p && (plain-at cs (p + 1) && (plain-at cs (p + 2) && plain-at cs (p + 3)))) a in
+    let d = and-right (plain-at cs p) (plain-at cs (p + 1) && (plain-at cs (p + 2) && plain-at cs (p + 3))) b in
+    let e = and-right (plain-at cs (p + 1)) (plain-at cs (p + 2) && plain-at cs (p + 3)) d in
+    record {
+      fits = leb-true (p + 4) (length cs) (and-left (leb (p + 4) (length cs)) _ a);
+      type-from = not-true _ (and-left (plain-at cs p) _ b);
+      number-from = not-true _ (and-left (plain-at cs (p + 1)) _ d);
+      type-to = not-true _ (and-left (plain-at cs (p + 2)) _ e);
+      number-to = not-true _ (and-right (plain-at cs (p + 2)) (plain-at cs (p + 3)) e);
+    }

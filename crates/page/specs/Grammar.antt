@@ -9,7 +9,7 @@ use lib.ListN.{length, getD}
 use Rattle.page.specs.Bytes.{Bytes, bytes, pick}
 use Rattle.page.specs.Lines.{content, blank, command, rest, clean, Tbl, Atr, Frm, Rec, End, Com}
 use Rattle.page.specs.Fields.{fields, numberOf}
-use Rattle.page.specs.Tables.{Named, table-at, table-count, columns, standing, points-from}
+use Rattle.page.specs.Tables.{Named, Rule, points-differ, TABLES, table-at, columns, rules, standing}
 use Rattle.page.specs.Marks.{remarkOf, may-mark}
 use Rattle.page.specs.Section.{format-ok, record-text}
 use Rattle.page.specs.Records.{Datum, number, words, Record}
@@ -35,7 +35,7 @@ pub data Quiet (latin : Bool) (l : Bytes) : Type 0 where
 -- "`tbl; name`": table t of the list
 pub record TblLine (latin : Bool) (t : ℕ) (l : Bytes) : Type 0 where
   pub says : Says latin Tbl l
-  pub known : t < table-count
+  pub known : t < TABLES
   pub name : fields-of l ≡ bytes (table-at t .name) ∷ []
 
 -- "`atr` with exactly the columns below in this order"
@@ -71,17 +71,15 @@ pub data Values (ms : List ℕ) : ℕ → List Named → List Bytes → Record �
   a-field : {i : ℕ} {c : Named} {cs : List Named} {f : Bytes} {fs : List Bytes} {v : Datum} {vs : Record} →
       Holds (owner-by ms i) (c .column) f v → Values ms (suc i) cs fs vs → Values ms i (c ∷ cs) (f ∷ fs) (v ∷ vs)
 
--- "the two points, type and number together"; p is the column where they begin
-pub record SamePoints (t : ℕ) (vs : Record) : Type 0 where
-  pub has : ¬ (points-from t ≡ 0)
-  pub types : getD vs (points-from t) (number 0) ≡ getD vs (points-from t + 2) (number 0)
-  pub places : getD vs (points-from t + 1) (number 0) ≡ getD vs (points-from t + 3) (number 0)
+-- a record's values break a rule: "the two points, type and number together", are the same
+pub data Breaks (vs : Record) : Rule → Type 0 where
+  same-points : {p : ℕ} → getD vs p (number 0) ≡ getD vs (p + 2) (number 0) → getD vs (p + 1) (number 0) ≡ getD vs (p + 3) (number 0) → Breaks vs (points-differ p)
 
 -- a `rec` line after the marks ms
 pub record RecLine (latin : Bool) (t : ℕ) (ms : List ℕ) (vs : Record) (l : Bytes) : Type 0 where
   pub says : Says latin Rec l
   pub fields : Values ms 1 (standing t) (fields-of l) vs
-  pub points : ¬ SamePoints t vs
+  pub rules : (r : Rule) → List·Memᴰ r (rules t) → ¬ Breaks vs r
   pub filled : ¬ List·Memᴰ (words O.Suggestion []) vs
 
 -- "Several marks of one record rise strictly": i stands above the mark before it

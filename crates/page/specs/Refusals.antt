@@ -10,11 +10,11 @@ use lib.ListN.{length}
 use Rattle.page.specs.Bytes.{Bytes, bytes}
 use Rattle.page.specs.Lines.{content, blank, command, rest, clean, Tbl, Atr, Frm, Rec, End, Com, Unknown, Missing}
 use Rattle.page.specs.Fields.{numberOf}
-use Rattle.page.specs.Tables.{Named, table-at, table-count, columns, standing}
+use Rattle.page.specs.Tables.{Named, Rule, rule-number, TABLES, table-at, columns, rules, standing}
 use Rattle.page.specs.Marks.{remarkOf, may-mark}
 use Rattle.page.specs.Section.{record-text, table-in}
 use Rattle.page.specs.Records.{Datum, words, Record}
-use Rattle.page.specs.Grammar.{fields-of, Quiet, TblLine, AtrLine, FrmLine, MarkLine, RecLine, EndLine, Formats, Holds, Values, SamePoints, Rises}
+use Rattle.page.specs.Grammar.{fields-of, Quiet, TblLine, AtrLine, FrmLine, MarkLine, RecLine, EndLine, Formats, Holds, Values, Breaks, Rises}
 use Rattle.page.specs.declared.Number.the-variants as N
 use Rattle.page.specs.declared.Owner.the-variants as O
 use Rattle.page.specs.declared.Remark.{Remark}
@@ -65,13 +65,18 @@ fields-laws (c ∷ cs) [] = []
 fields-laws (c ∷ cs) (f ∷ fs) =
     kind-law (c .column .text) f ∷ law 13 (¬ ((v : Datum) × Holds O.Operator (c .column) f v)) ∷ fields-laws cs fs
 
+-- the rules of a table, in their order; B says what it is to break one
+abbrev pub rules-laws : (Rule → Type 0) → List Rule → List Law
+rules-laws B [] = []
+rules-laws B (r ∷ rs) = law (rule-number r) (B r) ∷ rules-laws B rs
+
 -- "`rec` 10, each field from the left, 14, 15 for a marked empty text"
 abbrev pub rec-laws : ℕ → List ℕ → List Bytes → List Law
 rec-laws t ms fs =
     law 10 (¬ (length fs ≡ length (standing t))) ∷
     (fields-laws (standing t) fs ++
-    (law 14 ((vs : Record) × Values ms 1 (standing t) fs vs × SamePoints t vs) ∷
-    law 15 ((vs : Record) × Values ms 1 (standing t) fs vs × List·Memᴰ (words O.Suggestion []) vs) ∷ []))
+    (rules-laws (λ (r : Rule). (vs : Record) × Values ms 1 (standing t) fs vs × Breaks vs r) (rules t) ++
+    (law 15 ((vs : Record) × Values ms 1 (standing t) fs vs × List·Memᴰ (words O.Suggestion []) vs) ∷ [])))
 
 -- "`end` 15 for a mark without record, 10, 12, 16"
 abbrev pub end-laws : List ℕ → ℕ → List Bytes → List Law
@@ -81,7 +86,7 @@ end-laws ms n fs =
 
 -- "`tbl` 10, 7; `atr` 8; `frm` 9"
 abbrev pub command-laws : Phase → ℕ → List Bytes → List Law
-command-laws P.Tbl k fs = law 10 (¬ One fs) ∷ law 7 (¬ ((t : ℕ) × (t < table-count) × (fs ≡ bytes (table-at t .name) ∷ []))) ∷ []
+command-laws P.Tbl k fs = law 10 (¬ One fs) ∷ law 7 (¬ ((t : ℕ) × (t < TABLES) × (fs ≡ bytes (table-at t .name) ∷ []))) ∷ []
 command-laws (P.Atr t) k fs = law 8 (¬ (fs ≡ map (λ (c : Named). bytes (c .name)) (columns t))) ∷ []
 command-laws (P.Frm t) k fs = law 9 (¬ Formats (standing t) fs) ∷ []
 command-laws (P.Rows t m n) k fs = either-laws (eqb k Rec) (rec-laws t (marks-of m) fs) (end-laws (marks-of m) n fs)

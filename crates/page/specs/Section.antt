@@ -8,7 +8,7 @@ use lib.ListN.{length, getD, take, drop}
 use Rattle.page.specs.Bytes.{Bytes, bytes, pick, same, until}
 use Rattle.page.specs.Lines.{content, blank, command, rest, clean, Tbl, Atr, Frm, Rec, End, Com, Unknown}
 use Rattle.page.specs.Fields.{fields, textOf, numberOf, digit, digits, value}
-use Rattle.page.specs.Tables.{Named, number-at, width, columns, standing, table-named, table-count, points-from}
+use Rattle.page.specs.Tables.{Named, Rule, points-differ, rule-number, TABLES, number-at, width, columns, rules, standing, table-named}
 use Rattle.page.specs.Marks.{remarkOf, may-mark}
 use Rattle.page.specs.declared.Number.{Number}
 use Rattle.page.specs.declared.Number.the-variants as N
@@ -36,7 +36,7 @@ first-of v w = pick (eqb v 0) w v
 unfoldable pub tbl-step : List Bytes → Step
 tbl-step fs =
     choose (eqb (length fs) 1)
-    (choose (ltb (table-named (getD fs 0 [])) table-count) (S.Go (P.Atr (table-named (getD fs 0 [])))) (S.Stop 7)) (S.Stop 10)
+    (choose (ltb (table-named (getD fs 0 [])) TABLES) (S.Go (P.Atr (table-named (getD fs 0 [])))) (S.Stop 7)) (S.Stop 10)
 
 -- "`atr` with exactly the columns below in this order": 8
 unfoldable pub names-same : List Named → List Bytes → Bool
@@ -104,7 +104,7 @@ first-wrong [] fs = 0
 first-wrong (c ∷ cs) [] = 0
 first-wrong (c ∷ cs) (f ∷ fs) = first-of (field-number (fieldOf (c .column) f)) (first-wrong cs fs)
 
--- 14: "the two points, type and number together" are the same
+-- a record's number in field k, from 0
 abbrev pub amount : Number → ℕ
 amount (N.Plus n) = n
 amount (N.Minus n) = 0
@@ -113,11 +113,14 @@ amount N.Nothing = 0
 unfoldable pub amount-at : List Bytes → ℕ → ℕ
 amount-at fs k = amount (numberOf (getD fs k []))
 
-unfoldable pub points-same : List Bytes → ℕ → Bool
-points-same fs p = eqb (amount-at fs p) (amount-at fs (p + 2)) && eqb (amount-at fs (p + 1)) (amount-at fs (p + 3))
+-- whether a record's fields break a rule: "the two points are the same"
+unfoldable pub broken : Rule → List Bytes → Bool
+broken (points-differ p) fs = eqb (amount-at fs p) (amount-at fs (p + 2)) && eqb (amount-at fs (p + 1)) (amount-at fs (p + 3))
 
-unfoldable pub same-points : ℕ → List Bytes → Bool
-same-points t fs = not (eqb (points-from t) 0) && points-same fs (points-from t)
+-- the number of the first rule that they break
+unfoldable pub first-broken : List Rule → List Bytes → ℕ
+first-broken [] fs = 0
+first-broken (r ∷ rs) fs = pick (broken r fs) (rule-number r) (first-broken rs fs)
 
 -- 15: the text that is marked is empty
 abbrev pub no-bytes : Option Bytes → Bool
@@ -132,7 +135,7 @@ empty-marked m fs = leb 1 m && no-bytes (record-text (getD fs (m - 1) []))
 unfoldable pub rec-verdict : ℕ → ℕ → List Bytes → ℕ
 rec-verdict t m fs =
     pick (eqb (length fs) (width t))
-    (first-of (first-wrong (standing t) fs) (pick (same-points t fs) 14 (pick (empty-marked m fs) 15 0))) 10
+    (first-of (first-wrong (standing t) fs) (first-of (first-broken (rules t) fs) (pick (empty-marked m fs) 15 0))) 10
 
 unfoldable pub rec-step : ℕ → ℕ → ℕ → List Bytes → Step
 rec-step t m n fs = choose (eqb (rec-verdict t m fs) 0) (S.Go (P.Rows t 0 (n + 1))) (S.Stop (rec-verdict t m fs))

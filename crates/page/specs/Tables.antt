@@ -17,11 +17,21 @@ pub record Reference : Type 0 where
   pub columns : List ℕ
   pub target : String
 
+-- a rule of a table's records
+pub data Rule : Type 0 where
+  -- "In 225 and 247 the two points, type and number together, differ": p is the column, from 0, where the four of them begin
+  points-differ : (p : ℕ) → Rule
+
+-- its number: 14 is "the two points are the same"
+abbrev pub rule-number : Rule → ℕ
+rule-number (points-differ p) = 14
+
 pub record Table : Type 0 where
   pub number : ℕ
   pub name : String
   pub columns : List Named
   pub references : List Reference
+  pub rules : List Rule
 
 -- "P marks the primary key, C the second key"; F a text that may be marked and filled
 pub data Mark : Type 0 where
@@ -80,30 +90,41 @@ to columns target = record { columns = columns; target = target }
 abbrev pub to-version : Reference
 to-version = to (0 ∷ []) "MENGE_BASIS_VERSIONEN"
 
-abbrev pub table : ℕ → String → List Named → List Reference → Table
-table number name columns references = record { number = number; name = name; columns = columns; references = references }
+abbrev pub table : ℕ → String → List Named → List Reference → List Rule → Table
+table number name columns references rules =
+    record { number = number; name = name; columns = columns; references = references; rules = rules }
 
 unfoldable pub all-tables : List Table
 all-tables =
-    table 485 "MENGE_BASIS_VERSIONEN" (version P ∷ char "BASIS_VERSION_TEXT" 40 F ∷ []) [] ∷
-    table 993 "BASIS_VER_GUELTIGKEIT" (num "VER_GUELTIGKEIT" 1 99999999 8 P ∷ version plain ∷ []) (to (1 ∷ []) "MENGE_BASIS_VERSIONEN" ∷ []) ∷
+    table 485 "MENGE_BASIS_VERSIONEN" (version P ∷ char "BASIS_VERSION_TEXT" 40 F ∷ []) [] [] ∷
+    table 993 "BASIS_VER_GUELTIGKEIT" (num "VER_GUELTIGKEIT" 1 99999999 8 P ∷ version plain ∷ []) (to (1 ∷ []) "MENGE_BASIS_VERSIONEN" ∷ []) [] ∷
     table 348 "FIRMENKALENDER"
     (version P ∷ num "BETRIEBSTAG" 1 99999999 8 P ∷ char "BETRIEBSTAG_TEXT" 40 F ∷ day-type plain ∷ [])
-    (to-version ∷ to (0 ∷ 3 ∷ []) "MENGE_TAGESART" ∷ []) ∷
-    table 290 "MENGE_TAGESART" (version P ∷ day-type P ∷ char "TAGESART_TEXT" 40 F ∷ []) (to-version ∷ []) ∷
+    (to-version ∷ to (0 ∷ 3 ∷ []) "MENGE_TAGESART" ∷ []) [] ∷
+    table 290 "MENGE_TAGESART" (version P ∷ day-type P ∷ char "TAGESART_TEXT" 40 F ∷ []) (to-version ∷ []) [] ∷
     table 998 "MENGE_ONR_TYP"
     (version PC ∷ num "ONR_TYP_NR" 1 7 2 P ∷ char "STR_ONR_TYP" 6 C ∷ char "ONR_TYP_TEXT" 40 F ∷ [])
-    (to-version ∷ []) ∷
-    table 332 "MENGE_FAHRTART" (version PC ∷ num "FAHRTART_NR" 1 4 2 P ∷ char "STR_FAHRTART" 6 C ∷ []) (to-version ∷ []) ∷
+    (to-version ∷ []) [] ∷
+    table 332 "MENGE_FAHRTART" (version PC ∷ num "FAHRTART_NR" 1 4 2 P ∷ char "STR_FAHRTART" 6 C ∷ []) (to-version ∷ []) [] ∷
     table 225 "REC_UEB" (version P ∷ region ∷ points (num "UEB_LAENGE" 1 81890 6 plain ∷ []))
-    (to-version ∷ to (0 ∷ 2 ∷ []) "MENGE_ONR_TYP" ∷ to (0 ∷ 4 ∷ []) "MENGE_ONR_TYP" ∷ []) ∷
+    (to-version ∷ to (0 ∷ 2 ∷ []) "MENGE_ONR_TYP" ∷ to (0 ∷ 4 ∷ []) "MENGE_ONR_TYP" ∷ []) (points-differ 2 ∷ []) ∷
     table 247 "UEB_FZT" (version P ∷ region ∷ num "FGR_NR" 1 999999999 9 P ∷ points (num "UEB_FAHRZEIT" 1 65532 6 plain ∷ []))
-    (to-version ∷ to (0 ∷ 1 ∷ 3 ∷ 4 ∷ 5 ∷ 6 ∷ []) "REC_UEB" ∷ []) ∷
+    (to-version ∷ to (0 ∷ 1 ∷ 3 ∷ 4 ∷ 5 ∷ 6 ∷ []) "REC_UEB" ∷ []) (points-differ 3 ∷ []) ∷
     []
+
+-- how many tables there are, the columns of the widest, and the most references of one; that it is so is computed in TableLaws
+abbrev pub TABLES : ℕ
+TABLES = 8
+
+abbrev pub WIDEST : ℕ
+WIDEST = 8
+
+abbrev pub MOST : ℕ
+MOST = 3
 
 -- table t of the list, and its column k, from 0; past the end, nothing
 abbrev pub no-table : Table
-no-table = table 0 "" [] []
+no-table = table 0 "" [] [] []
 
 abbrev pub no-column : Named
 no-column = num "" 0 0 0 plain
@@ -126,16 +147,12 @@ column-at t k = getD (columns t) k no-column .column
 unfoldable pub name-at : ℕ → ℕ → String
 name-at t k = getD (columns t) k no-column .name
 
+unfoldable pub rules : ℕ → List Rule
+rules t = table-at t .rules
+
 -- a table by its name: its place in the list, or one past the last
 unfoldable pub table-named : Bytes → ℕ
 table-named w = find 0 (map (λ (t : Table). t .name) all-tables) w
-
-abbrev pub table-count : ℕ
-table-count = 8
-
--- "In 225 and 247 the two points, type and number together, differ": the column (from 0) where the four of them begin; 0: none
-unfoldable pub points-from : ℕ → ℕ
-points-from t = getD (0 ∷ 0 ∷ 0 ∷ 0 ∷ 0 ∷ 0 ∷ 2 ∷ 3 ∷ []) t 0
 
 -- "`atr` with exactly the columns below in this order": the columns of a section of table t, as they stand in its lines
 unfoldable pub standing : ℕ → List Named

@@ -1,5 +1,4 @@
-// The types that document 01's definitions and the code share, and the fixed tables.
-pub mod tables;
+// The types that document 01's definitions and the code share.
 
 // Bytes of a file, from the first to before the last place.
 pub struct Span {

@@ -20,8 +20,8 @@ use output::put_bytes;
 use output::put_line_end;
 use output::put_quoted;
 use output::put_separator;
-use page::tables::find_column;
-use page::tables::find_width;
+use tables::find_width;
+use tables::is_text;
 
 // Is the text of a column's field i marked in what is written? m is the field of the mark that waits.
 fn is_marked(t: usize, k: usize, m: u64, change: Change) -> bool
@@ -37,8 +37,7 @@ fn is_marked(t: usize, k: usize, m: u64, change: Change) -> bool
     if m != k as u64 + 1 {
         return false;
     }
-    let column = find_column(t, k);
-    column.text
+    is_text(t, k)
 }
 
 fn put_mark_of(out: &mut [u8], at: usize, t: usize, k: usize, m: u64, change: Change) -> usize
@@ -115,8 +114,7 @@ fn put_field(
         return put_quoted(out, at, text);
     }
     if is_stripped(change.strip, m, k) {
-        let column = find_column(t, k);
-        if column.text {
+        if is_text(t, k) {
             return put_bytes(out, at, b"\"\"");
         }
         return put_bytes(out, at, skip_zeros(f));

@@ -5,18 +5,19 @@ use mathlib.Core.List.{List, [], _∷_, _++_}
 use Prim.Native.Nat.{ℕ, zero, suc, _+_, _-_, _<_, _≤_}
 use native.Mathlib.Omega.{arith}
 use borrow.Author.Count.{below-more}
-use borrow.Author.Tests.{leb-true, eq-eqb, ne-eqb, eqb-true, eqb-false}
-use lib.Dec.{eqb, leb}
+use borrow.Author.Tests.{eq-eqb, ne-eqb, eqb-true, eqb-false}
+use lib.Dec.{eqb}
 use lib.ListN.{length, getD, take, drop}
 use Rattle.page.specs.Bytes.{Bytes, pick}
 use Rattle.page.specs.Lines.{lines, content, command, rest, Rec}
 use Rattle.page.specs.Fields.{fields}
-use Rattle.page.specs.Tables.{Table, all-tables, table-at, standing}
+use Rattle.page.specs.Tables.{MOST, table-at, standing}
 use Rattle.page.specs.Records.{valuesOf}
 use Rattle.page.specs.File.{any, by-primary, lost, first-record, filedOf}
 use Rattle.page.specs.declared.Refusal.{Refusal}
-use Rattle.page.proofs.TableLaws.{each, table-test}
-use Rattle.keys.specs.Numbers.{key-choice, refer-numbers, reference-at, target-at}
+use Rattle.page.proofs.TableLaws.{references-le}
+use Rattle.tables.specs.Choices.{key-choice, reference-at, target-at}
+use Rattle.keys.specs.Numbers.{refer-numbers}
 use Rattle.references.specs.declared.aims.Aim.{Aim}
 use Rattle.references.specs.declared.aims.Aims.{Aims}
 use Rattle.seats.specs.declared.seating.Seat.{Seat}
@@ -28,11 +29,8 @@ use Rattle.references.specs.Aims.{aim-at, reached, lacks, lacks-some, la
 use Rattle.references.proofs.LostLaws.{place-few, reaches-none, reaches-some, lost-none, lost-at}
 use Rattle.seats.proofs.RepeatLaws.{seat-bounds}
 
-pub few-references : (t n : ℕ) → n ≡ length (table-at t .references) → n ≤ 3
-unfolding each all-tables
-few-references t n e =
-    let l : length (table-at t .references) ≤ 3 = leb-true _ _ (table-test (λ (x : Table). leb (length (x .references)) 3) refl refl t) in
-    omega arith
+pub few-references : (t n : ℕ) → n ≡ length (table-at t .references) → n ≤ MOST
+few-references t n e = let l = references-le t in omega arith
 
 module _ (s : Bytes) (seats : Seats) (z : Ready s seats) (t r u : ℕ) (x : u ≡ target-at t r) (p : ℕ) (q : p ≡ getD (seats .place) u 0) where
   -- a target without a section
@@ -50,7 +48,7 @@ module _ (s : Bytes) (seats : Seats) (z : Ready s seats) (t r u : ℕ) (x : u �
 pub aiming-three : (s : Bytes) (seats : Seats) (t : ℕ) (aims : Aims) → Aimed s seats t 0 (aim-at aims 0) → Aimed s seats t 1 (aim-at aims 1) → Aimed s seats t 2 (aim-at aims 2) → Aiming s seats t aims
 aiming-three s seats t aims a b c = record { each = by }
   where
-    by : (r : ℕ) → r < 3 → Aimed s seats t r (aim-at aims r)
+    by : (r : ℕ) → r < MOST → Aimed s seats t r (aim-at aims r)
     by zero h = a
     by (suc zero) h = b
     by (suc (suc zero)) h = c
@@ -59,7 +57,7 @@ aiming-three s seats t aims a b c = record { each = by }
 pub aims-within : {s : Bytes} {seats : Seats} {t : ℕ} {aims : Aims} → Aiming s seats t aims → Within s aims
 aims-within z = record { each = λ r h. (z .each r h .low, z .each r h .high) }
 
-pub aim-bounds : {s : Bytes} {aims : Aims} → Within s aims → (r : ℕ) → r < 3 → (a : Aim) → a ≡ aim-at aims r → (a .from ≤ a .to) × (a .to ≤ length s)
+pub aim-bounds : {s : Bytes} {aims : Aims} → Within s aims → (r : ℕ) → r < MOST → (a : Aim) → a ≡ aim-at aims r → (a .from ≤ a .to) × (a .to ≤ length s)
 aim-bounds z r h a e = rw e (z .each r h)
 
 pub reached-at : (s : Bytes) (aims : Aims) (r : ℕ) (a : Aim) → a ≡ aim-at aims r → (k : List ℕ) (x : Bool) → x ≡ reached s a k → x ≡ reached s (aim-at aims r) k
@@ -76,7 +74,7 @@ unfolding loses lacks-some misses lacks
 loses-is {s} {seats} {t} {aims} z l =
     let n = length (table-at t .references) in
     let fs = fields (rest (content l)) in
-    let few : n ≤ 3 = few-references t n refl in
+    let few : n ≤ MOST = few-references t n refl in
     ap (λ (b : Bool). pick (is-record l) b false) (some-same (misses s seats t fs) (lacks s aims t fs) 0 n (λ k h. ap not (z .each k (omega arith) .is fs)))
 
 line-same : (f g : List Bytes → Bytes → Bool) → ((b : List Bytes) (l : Bytes) → f b l ≡ g b l) → (b : List Bytes) (n : ℕ) (ls : List Bytes) → first-line f b n ls ≡ first-line g b n ls

@@ -18,7 +18,8 @@ use Rattle.page.specs.Answers.{refusal, sound}
 use Rattle.page.specs.File.{any, Filed, filed-in, filed, filedOf, key-of, by-primary, meets, lost, first-record}
 use Rattle.page.proofs.CutLaws.{no-section}
 use Rattle.page.proofs.FileLaws.{first-section, by-section, meets-nowhere, meets-in}
-use Rattle.keys.specs.Numbers.{key-numbers, refer-numbers, key-choice, no-reference, reference-at, target-at}
+use Rattle.tables.specs.Choices.{key-choice, no-reference, reference-at, target-at}
+use Rattle.keys.specs.Numbers.{key-numbers, refer-numbers}
 use Rattle.keys.proofs.ChoiceLaws.{chosen-key, chosen-reference}
 use Rattle.keys.proofs.SameLaws.{Fitting, reference-same}
 use Rattle.keys.proofs.SoundLaws.{Sound}

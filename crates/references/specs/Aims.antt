@@ -8,10 +8,11 @@ use lib.ListN.{length, take, drop}
 use Rattle.page.specs.Bytes.{Bytes, pick}
 use Rattle.page.specs.Lines.{lines, content, rest}
 use Rattle.page.specs.Fields.{fields}
-use Rattle.page.specs.Tables.{table-at, standing}
+use Rattle.page.specs.Tables.{MOST, table-at, standing}
 use Rattle.page.specs.Records.{valuesOf}
 use Rattle.page.specs.File.{any}
-use Rattle.keys.specs.Numbers.{refer-numbers, reference-at}
+use Rattle.tables.specs.Choices.{reference-at}
+use Rattle.keys.specs.Numbers.{refer-numbers}
 use Rattle.scans.specs.Scan.{is-record, bears, some}
 use Rattle.seats.specs.Faults.{reaches}
 use Rattle.references.specs.declared.aims.Aim.{Aim}
@@ -42,7 +43,7 @@ pub record Aimed (s : Bytes) (seats : Seats) (t r : ℕ) (a : Aim) : Type 0 wher
   pub is : (fs : List Bytes) → reaches s seats t fs r ≡ reached s a (refer-numbers (reference-at t r .columns) (valuesOf 0 1 (standing t) fs))
 
 pub record Within (s : Bytes) (aims : Aims) : Type 0 where
-  pub each : (r : ℕ) → r < 3 → (aim-at aims r .from ≤ aim-at aims r .to) × (aim-at aims r .to ≤ length s)
+  pub each : (r : ℕ) → r < MOST → (aim-at aims r .from ≤ aim-at aims r .to) × (aim-at aims r .to ≤ length s)
 
 pub record Aiming (s : Bytes) (seats : Seats) (t : ℕ) (aims : Aims) : Type 0 where
-  pub each : (r : ℕ) → r < 3 → Aimed s seats t r (aim-at aims r)
+  pub each : (r : ℕ) → r < MOST → Aimed s seats t r (aim-at aims r)

@@ -3,12 +3,9 @@ ghost use mathlib.Core.Path.{_≡_};
 ghost use lib.ListN.{getD};
 ghost use Rattle.seats.specs.Seating.{Ready};
 ghost use Rattle.references.specs.Aims.{aim-at, Aimed, Aiming};
-use page::tables::TABLES;
 use seats::Seats;
 use seats::find_seat;
-
-// The most references that a table has.
-pub const MOST: usize = 3;
+use tables::TABLES;
 
 // A reference's fields, its target by its place in the list of tables, the bytes of the target's section, none if it has no section, and
 // the fields of the target's key.
@@ -42,8 +39,8 @@ fn take_aim(s: &[u8], seats: Seats, t: usize, r: usize) -> Aim
     requires { ⌜ Ready (now s) seats ⌝ }
     ensures { λ x. ⌜ Aimed (now (s .entry)) seats t r x ⌝ }
 {
-    let refer = keys::choose_reference(t, r);
-    let u = keys::find_target(t, r);
+    let refer = tables::choose_reference(t, r);
+    let u = tables::find_target(t, r);
     let k = find_place(seats, u);
     if k == 0 {
         return Aim {
@@ -57,7 +54,7 @@ fn take_aim(s: &[u8], seats: Seats, t: usize, r: usize) -> Aim
     let seat = find_seat(seats, k - 1);
     let from = seat.from;
     let to = seat.to;
-    let key = keys::choose_key(u, false);
+    let key = tables::choose_key(u, false);
     Aim {
         refer: refer,
         target: u,

@@ -1,10 +1,10 @@
 // Guesses for the references of the records of a section, from one record on until the room is used up: one walk over these records, and one
 // over the records of each target.
 ghost use Prim.Native.Nat.{_≤_};
+ghost use Rattle.page.specs.Tables.{MOST};
 ghost use Rattle.references.specs.Aims.{Within};
 use crate::aims::Aim;
 use crate::aims::Aims;
-use crate::aims::MOST;
 use crate::aims::find_aim;
 use guesses::Known;
 use guesses::hash_line;
@@ -15,6 +15,7 @@ use guesses::note_key;
 use guesses::note_place;
 use guesses::wipe;
 use lines::Cursor;
+use tables::MOST;
 
 fn widen(t: usize) -> u64 {
     t as u64
@@ -27,7 +28,7 @@ pub fn hash_reference(w: &[u8], at: usize, a: Aim) -> u64 {
 
 // How many keys that were not marked a line refers to.
 fn note_record(w: &[u8], at: usize, aims: Aims, known: Known, g: &mut [u32]) -> usize
-    ensures { λ r. ⌜ r ≤ 3 ⌝ }
+    ensures { λ r. ⌜ r ≤ MOST ⌝ }
 {
     let mut new: usize = 0;
     let mut next: usize = 0;

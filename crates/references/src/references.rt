@@ -4,6 +4,7 @@ ghost use mathlib.Core.Bool.{true};
 ghost use mathlib.Core.List.{[]};
 ghost use Prim.Native.Nat.{_-_, _<_, _≤_};
 ghost use lib.ListN.{length, take, drop};
+ghost use Rattle.page.specs.Tables.{MOST};
 ghost use Rattle.page.specs.File.{lost, first-record, filedOf};
 ghost use Rattle.seats.specs.Seating.{seat-at, Ready};
 ghost use Rattle.seats.specs.Faults.{lost-line, Looked};
@@ -116,7 +117,7 @@ fn reaches(
     known: Known,
     g: &mut [u32],
 ) -> Reach
-    requires { ⌜ Within (now s) aims × (r < 3) ⌝ }
+    requires { ⌜ Within (now s) aims × (r < MOST) ⌝ }
     ensures { λ x. ⌜ x .met ≡ reached (now (s .entry)) (aim-at aims r) (key .k) ⌝ }
 {
     let a = find_aim(aims, r);
@@ -163,7 +164,7 @@ fn loses(
         };
     }
     let f = lines::rest_of(c);
-    let n = keys::count_references(t);
+    let n = tables::count_references(t);
     let mut known = last;
     let mut r: usize = 0;
     while r < n {

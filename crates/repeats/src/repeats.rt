@@ -2,7 +2,7 @@
 ghost use mathlib.Core.Path.{_≡_};
 ghost use mathlib.Core.List.{[]};
 ghost use Rattle.page.specs.File.{repeats, first-record, filedOf};
-ghost use Rattle.keys.specs.Numbers.{by-key};
+ghost use Rattle.tables.specs.Choices.{by-key};
 ghost use Rattle.seats.specs.Seating.{Ready};
 ghost use Rattle.seats.specs.Faults.{repeat-number, scan-end};
 use crate::rounds::find_repeat;
@@ -43,7 +43,7 @@ pub fn first_repeat(s: &[u8], seats: Seats, second: bool) -> Refusal
     'scan: while i < count {
         let seat = find_seat(seats, i);
         let from = seat.from;
-        let choice = keys::choose_key(seat.table, second);
+        let choice = tables::choose_key(seat.table, second);
         let to = find_end(seat, choice);
         let size = to - from;
         let mut top = Key { k: [0; 7] };

@@ -11,7 +11,7 @@ use lib.ListN.{length}
 use Rattle.page.specs.Bytes.{Bytes, all}
 use Rattle.page.specs.Lines.{lines, joined, allowed, Tbl, Eof}
 use Rattle.page.specs.Fields.{digit}
-use Rattle.page.specs.Tables.{table-at, table-count}
+use Rattle.page.specs.Tables.{table-at, TABLES}
 use Rattle.page.specs.Cut.{begins-table, begins-end, Piece, a-table, a-trailer, Cut, put, cut, Section, placed, header-lines, sections, from-end, trailer-lines}
 use Rattle.page.specs.Records.{number, words, Record}
 use Rattle.page.specs.Model.{Content, Model}
@@ -61,7 +61,7 @@ inner-head h s =
     (every-append (inner-if "dve" (h .dve) (λ t p. inner-of (text-seen (commands .5) t p) refl refl) (s .dve))
     (inner-if "fft" (h .fft) (λ t p. inner-of (text-seen (commands .6) t p) refl refl) (s .fft)))))))
 
-module _ (latin : Bool) (t : ℕ) (known : t < table-count) where
+module _ (latin : Bool) (t : ℕ) (known : t < TABLES) where
   inner-marks : (i : ℕ) (vs : Record) → Every Inner (mark-lines i vs)
   unfolding mark-lines mark-lines-of
   inner-marks i [] = none-left

@@ -2,20 +2,21 @@
 use mathlib.Core.Path.{_≡_, refl}
 use mathlib.Core.Bool.{Bool, true, false}
 use mathlib.Core.List.{List, [], _∷_, _++_, map, append-assoc}
-use Prim.Native.Nat.{ℕ, zero, suc, _<_}
+use Prim.Native.Nat.{ℕ, _<_}
 use Prim.Native.String.{String}
-use native.Mathlib.Omega.{arith}
-use lib.Dec.{leb}
+use lib.Dec.{leb, ltb}
 use lib.ListN.{length, getD}
+use borrow.Author.Tests.{ltb-true}
 use Rattle.page.specs.Bytes.{Bytes, bytes, all}
 use Rattle.page.specs.Lines.{content, command, rest, Tbl, Atr, Frm}
 use Rattle.page.specs.Fields.{fields}
-use Rattle.page.specs.Tables.{Named, Table, table-at, table-named, columns, table-count}
+use Rattle.page.specs.Tables.{Named, Table, table-at, table-named, columns, TABLES}
 use Rattle.page.specs.Section.{step}
 use Rattle.page.specs.Form.{line-end, separated, line, format-text}
 use Rattle.page.specs.Open.{open-all}
 use Rattle.page.specs.declared.Phase.the-variants as P
 use Rattle.page.specs.declared.Step.the-variants as S
+use Rattle.page.proofs.TableLaws.{listed, each-table}
 use Rattle.page.proofs.LineLaws.{Ended}
 use Rattle.round.proofs.WrittenLines.{ended-of}
 
@@ -47,26 +48,28 @@ pub record Heads (latin : Bool) (i : ℕ) (t : Table) : Type 0 where
   pub frm-printed : all (leb 32) (bytes "frm" ++ separated (formats t)) ≡ true
   pub some : 0 < length (t .columns)
 
-pub heads : (latin : Bool) (i : ℕ) → i < table-count → Heads latin i (table-at i)
-unfolding open-all
-heads true zero h = record { tbl = refl; atr = refl; frm = refl; tbl-named = refl; atr-named = refl; frm-named = refl; table = refl; tbl-printed = refl; atr-printed = refl; frm-printed = refl; some = omega arith }
-heads true (suc zero) h = record { tbl = refl; atr = refl; frm = refl; tbl-named = refl; atr-named = refl; frm-named = refl; table = refl; tbl-printed = refl; atr-printed = refl; frm-printed = refl; some = omega arith }
-heads true (suc (suc zero)) h = record { tbl = refl; atr = refl; frm = refl; tbl-named = refl; atr-named = refl; frm-named = refl; table = refl; tbl-printed = refl; atr-printed = refl; frm-printed = refl; some = omega arith }
-heads true (suc (suc (suc zero))) h = record { tbl = refl; atr = refl; frm = refl; tbl-named = refl; atr-named = refl; frm-named = refl; table = refl; tbl-printed = refl; atr-printed = refl; frm-printed = refl; some = omega arith }
-heads true (suc (suc (suc (suc zero)))) h = record { tbl = refl; atr = refl; frm = refl; tbl-named = refl; atr-named = refl; frm-named = refl; table = refl; tbl-printed = refl; atr-printed = refl; frm-printed = refl; some = omega arith }
-heads true (suc (suc (suc (suc (suc zero))))) h = record { tbl = refl; atr = refl; frm = refl; tbl-named = refl; atr-named = refl; frm-named = refl; table = refl; tbl-printed = refl; atr-printed = refl; frm-printed = refl; some = omega arith }
-heads true (suc (suc (suc (suc (suc (suc zero)))))) h = record { tbl = refl; atr = refl; frm = refl; tbl-named = refl; atr-named = refl; frm-named = refl; table = refl; tbl-printed = refl; atr-printed = refl; frm-printed = refl; some = omega arith }
-heads true (suc (suc (suc (suc (suc (suc (suc zero))))))) h = record { tbl = refl; atr = refl; frm = refl; tbl-named = refl; atr-named = refl; frm-named = refl; table = refl; tbl-printed = refl; atr-printed = refl; frm-printed = refl; some = omega arith }
-heads true (suc (suc (suc (suc (suc (suc (suc (suc i)))))))) h = absurd (omega arith)
-heads false zero h = record { tbl = refl; atr = refl; frm = refl; tbl-named = refl; atr-named = refl; frm-named = refl; table = refl; tbl-printed = refl; atr-printed = refl; frm-printed = refl; some = omega arith }
-heads false (suc zero) h = record { tbl = refl; atr = refl; frm = refl; tbl-named = refl; atr-named = refl; frm-named = refl; table = refl; tbl-printed = refl; atr-printed = refl; frm-printed = refl; some = omega arith }
-heads false (suc (suc zero)) h = record { tbl = refl; atr = refl; frm = refl; tbl-named = refl; atr-named = refl; frm-named = refl; table = refl; tbl-printed = refl; atr-printed = refl; frm-printed = refl; some = omega arith }
-heads false (suc (suc (suc zero))) h = record { tbl = refl; atr = refl; frm = refl; tbl-named = refl; atr-named = refl; frm-named = refl; table = refl; tbl-printed = refl; atr-printed = refl; frm-printed = refl; some = omega arith }
-heads false (suc (suc (suc (suc zero)))) h = record { tbl = refl; atr = refl; frm = refl; tbl-named = refl; atr-named = refl; frm-named = refl; table = refl; tbl-printed = refl; atr-printed = refl; frm-printed = refl; some = omega arith }
-heads false (suc (suc (suc (suc (suc zero))))) h = record { tbl = refl; atr = refl; frm = refl; tbl-named = refl; atr-named = refl; frm-named = refl; table = refl; tbl-printed = refl; atr-printed = refl; frm-printed = refl; some = omega arith }
-heads false (suc (suc (suc (suc (suc (suc zero)))))) h = record { tbl = refl; atr = refl; frm = refl; tbl-named = refl; atr-named = refl; frm-named = refl; table = refl; tbl-printed = refl; atr-printed = refl; frm-printed = refl; some = omega arith }
-heads false (suc (suc (suc (suc (suc (suc (suc zero))))))) h = record { tbl = refl; atr = refl; frm = refl; tbl-named = refl; atr-named = refl; frm-named = refl; table = refl; tbl-printed = refl; atr-printed = refl; frm-printed = refl; some = omega arith }
-heads false (suc (suc (suc (suc (suc (suc (suc (suc i)))))))) h = absurd (omega arith)
+-- under either character set
+pub each-latin : {A : Type 0} (f g : Bool → ℕ → A) → listed (f true) TABLES ≡ listed (g true) TABLES → listed (f false) TABLES ≡ listed (g false) TABLES →
+    (latin : Bool) (i : ℕ) → i < TABLES → f latin i ≡ g latin i
+each-latin f g a b true = each-table (f true) (g true) a
+each-latin f g a b false = each-table (f false) (g false) b
+
+pub heads : (latin : Bool) (i : ℕ) → i < TABLES → Heads latin i (table-at i)
+unfolding listed open-all
+heads latin i h =
+    record {
+      tbl = each-latin (λ l t. step l P.Tbl (tbl-line (table-at t))) (λ l t. S.Go (P.Atr t)) refl refl latin i h;
+      atr = each-latin (λ l t. step l (P.Atr t) (atr-line (table-at t))) (λ l t. S.Go (P.Frm t)) refl refl latin i h;
+      frm = each-latin (λ l t. step l (P.Frm t) (frm-line (table-at t))) (λ l t. S.Go (P.Rows t 0 0)) refl refl latin i h;
+      tbl-named = each-table (λ t. command (content (tbl-line (table-at t)))) (λ t. Tbl) refl i h;
+      atr-named = each-table (λ t. command (content (atr-line (table-at t)))) (λ t. Atr) refl i h;
+      frm-named = each-table (λ t. command (content (frm-line (table-at t)))) (λ t. Frm) refl i h;
+      table = each-table (λ t. table-named (getD (fields (rest (content (tbl-line (table-at t))))) 0 [])) (λ t. t) refl i h;
+      tbl-printed = each-table (λ t. all (leb 32) (bytes "tbl" ++ separated (bytes (table-at t .name) ∷ []))) (λ t. true) refl i h;
+      atr-printed = each-table (λ t. all (leb 32) (bytes "atr" ++ separated (names (table-at t)))) (λ t. true) refl i h;
+      frm-printed = each-table (λ t. all (leb 32) (bytes "frm" ++ separated (formats (table-at t)))) (λ t. true) refl i h;
+      some = ltb-true 0 (length (table-at i .columns)) (each-table (λ t. ltb 0 (length (table-at t .columns))) (λ t. true) refl i h);
+    }
 
 ended-line : (c : String) (fs : List Bytes) → all (leb 32) (bytes c ++ separated fs) ≡ true → Ended (line c fs)
 unfolding line line-end

@@ -1,25 +1,25 @@
 -- What an accepted record says may be said: values in range and of their size, of allowed bytes. Assumes nothing.
-use mathlib.Core.Path.{_≡_, refl, ap, sym, _∙_}
-use mathlib.Core.Bool.{Bool, true, false, not, _&&_, _||_, false≢true}
+use mathlib.Core.Path.{_≡_, refl, sym}
+use mathlib.Core.Bool.{Bool, true, false, _&&_, _||_, false≢true}
 use mathlib.Core.List.{List, [], _∷_, map, List·Memᴰ, List·Memᴰ·head, List·Memᴰ·tail}
 use Prim.Native.Nat.{ℕ, zero, suc, _+_, _-_, _<_, _≤_}
 use native.Mathlib.Omega.{arith}
 use lib.Dec.{eqb, leb}
 use lib.ListN.{length, getD, take, drop}
-use borrow.Author.Tests.{eqb-true, eqb-false}
+use borrow.Author.Tests.{eqb-true}
 use Rattle.page.specs.Bytes.{Bytes, pick, all, until, trimOf, trim}
 use Rattle.page.specs.Lines.{content, semicolon, rest, allowed, clean, Rec}
 use Rattle.page.specs.Fields.{parts-here, inside-after, into, split, fields}
-use Rattle.page.specs.Tables.{Named, no-column, all-tables, table-at, columns, standing, points-from}
+use Rattle.page.specs.Tables.{Named, no-column, columns, standing}
 use Rattle.page.specs.Marks.{may-mark}
 use Rattle.page.specs.Section.{record-text}
-use Rattle.page.specs.Records.{number, words, Record}
+use Rattle.page.specs.Records.{words, Record}
 use Rattle.page.specs.Grammar as Grammar
-use Rattle.page.specs.Grammar.{Says, marked, owner-by, Values, no-field, a-field, SamePoints, RecLine, Then, found, skip, Records, pause, a-mark, a-record, the-end, Denotes}
+use Rattle.page.specs.Grammar.{Says, marked, owner-by, Values, no-field, a-field, RecLine, Then, found, skip, Records, pause, a-mark, a-record, the-end, Denotes}
 use Rattle.page.specs.Rules.{Every, none-left, one-more}
 use Rattle.page.specs.declared.Column.{Column}
 use Rattle.page.specs.declared.Owner.the-variants as O
-use Rattle.round.specs.Round.{Fits, a-number, a-text, a-suggestion, FitAll, no-value, a-value, amount-of, amount-in, points-alike, SoundRecord}
+use Rattle.round.specs.Round.{Fits, a-number, a-text, a-suggestion, FitAll, no-value, a-value, SoundRecord}
 use Rattle.round.proofs.WrittenTexts.{text-exactly, all-quoted}
 use Rattle.page.proofs.TestLaws.{and-left, and-right}
 
@@ -108,53 +108,6 @@ module _ (latin : Bool) (ms : List ℕ) where
       (λ (e : words (owner-by ms i) t ≡ words O.Suggestion []). n (List·Memᴰ·head (sym e))))
       (values-fit g qs (next-fit i c cs f) (λ (m : List·Memᴰ (words O.Suggestion []) vs). n (List·Memᴰ·tail m)))
 
--- the two points are numbers
-number-there : (latin : Bool) {cs : List Named} {vs : Record} → FitAll latin cs vs → (k : ℕ) → getD cs k no-column .column .text ≡ false →
-    getD vs k (number 0) ≡ number (amount-in vs k)
-unfolding amount-in amount-of
-number-there latin no-value k e = refl
-number-there latin (a-value (a-number t l h) g) zero e = refl
-number-there latin (a-value (a-text t l h) g) zero e = absurd (false≢true (sym e ∙ t))
-number-there latin (a-value (a-suggestion t f p l h) g) zero e = absurd (false≢true (sym e ∙ t))
-number-there latin (a-value f g) (suc k) e = number-there latin g k e
-
-abbrev numeric : ℕ → ℕ → Type 0
-numeric t k = getD (columns t) k no-column .column .text ≡ false
-
-points-numeric : (t : ℕ) → ¬ (points-from t ≡ 0) → numeric t (points-from t) × numeric t (points-from t + 2) × numeric t (points-from t + 1) × numeric t (points-from t + 3)
-unfolding points-from columns table-at all-tables
-points-numeric zero n = absurd (n refl)
-points-numeric (suc zero) n = absurd (n refl)
-points-numeric (suc (suc zero)) n = absurd (n refl)
-points-numeric (suc (suc (suc zero))) n = absurd (n refl)
-points-numeric (suc (suc (suc (suc zero)))) n = absurd (n refl)
-points-numeric (suc (suc (suc (suc (suc zero))))) n = absurd (n refl)
-points-numeric (suc (suc (suc (suc (suc (suc zero)))))) n = (refl, refl, refl, refl)
-points-numeric (suc (suc (suc (suc (suc (suc (suc zero))))))) n = (refl, refl, refl, refl)
-points-numeric (suc (suc (suc (suc (suc (suc (suc (suc t)))))))) n = absurd (n refl)
-
-points-apart : (latin : Bool) (t : ℕ) (vs : Record) → FitAll latin (columns t) vs → ¬ SamePoints t vs → points-alike t vs ≡ false
-unfolding points-alike
-points-apart latin t vs f n = by (eqb (points-from t) 0) (eqb (amount-in vs (points-from t)) (amount-in vs (points-from t + 2))) (eqb (amount-in vs (points-from t + 1)) (amount-in vs (points-from t + 3))) refl refl refl
-  where
-    by : (a b c : Bool) → eqb (points-from t) 0 ≡ a → eqb (amount-in vs (points-from t)) (amount-in vs (points-from t + 2)) ≡ b →
-        eqb (amount-in vs (points-from t + 1)) (amount-in vs (points-from t + 3)) ≡ c → (not a && (b && c)) ≡ false
-    by true b c x y z = refl
-    by false false c x y z = refl
-    by false true false x y z = refl
-    by false true true x y z =
-        let p = points-numeric t (eqb-false (points-from t) 0 x) in
-        absurd
-        (n (record {
-          has = eqb-false (points-from t) 0 x;
-          types =
-              number-there latin f (points-from t) (p .0) ∙ ap number (eqb-true (amount-in vs (points-from t)) (amount-in vs (points-from t + 2)) y)
-              ∙ sym (number-there latin f (points-from t + 2) (p .1));
-          places =
-              number-there latin f (points-from t + 1) (p .2) ∙ ap number (eqb-true (amount-in vs (points-from t + 1)) (amount-in vs (points-from t + 3)) z)
-              ∙ sym (number-there latin f (points-from t + 3) (p .3));
-        }))
-
 -- what a line of a section denotes may be said
 
 module _ (latin : Bool) (t : ℕ) where
@@ -179,7 +132,7 @@ module _ (latin : Bool) (t : ℕ) where
   unfolding standing
   line-sound {ms} {vs} l a r =
       let f : FitAll latin (columns t) vs = values-fit latin ms (r .fields) (fields-all (allowed latin) (content l) (line-allowed l (r .says))) (may-fit a) (r .filled) in
-      record { fit = f; apart = points-apart latin t vs f (r .points) }
+      record { fit = f; rules = r .rules }
 
   records-sound : {n : ℕ} {ms : List ℕ} {ls : List Bytes} {rs : List Record} → AllMay ms → Records latin t n ms ls rs → Every (SoundRecord latin t) rs
   records-sound a (pause q r) = records-sound a r

@@ -1,33 +1,33 @@
 -- A written record, its marks and a written `end` line are taken back by the section's machine. Assumes nothing.
-use mathlib.Core.Path.{_≡_, refl, ap}
-use mathlib.Core.Bool.{Bool, true, false, not, _&&_, _||_}
-use mathlib.Core.List.{List, [], _∷_, _++_, map}
+use mathlib.Core.Path.{_≡_, refl, ap, sym, _∙_}
+use mathlib.Core.Bool.{Bool, true, false, not, _&&_, _||_, false≢true}
+use mathlib.Core.List.{List, [], _∷_, map}
 use Prim.Native.Nat.{ℕ, zero, suc, _<_, _≤_, _^_}
 use native.Mathlib.Omega.{arith}
 use lib.Dec.{leb, ltb}
-use lib.ListN.{length}
+use lib.ListN.{length, getD}
 use borrow.Author.Tests.{le-leb, leb-true, ltb-true}
-use Rattle.page.specs.Bytes.{Bytes, bytes, pick, all}
+use Rattle.page.specs.Bytes.{Bytes, bytes, all}
 use Rattle.page.specs.Lines.{allowed}
-use Rattle.page.specs.Fields.{digit, digits, value, numberOf}
-use Rattle.page.specs.Tables.{Named, all-tables, table-at, columns}
+use Rattle.page.specs.Fields.{digit, digits, numberOf}
+use Rattle.page.specs.Tables.{Named, Table, all-tables, WIDEST, no-column, columns, width}
 use Rattle.page.specs.Marks.{owner-of}
 use Rattle.page.specs.Section.{record-text, text-field, number-field, fieldOf, field-number, first-wrong, amount, amount-at}
 use Rattle.page.specs.Records.{Datum, number, words, Record, datumOf, valuesOf}
-use Rattle.page.specs.Form.{separated, decimal, doubled, quoted, datum-text}
+use Rattle.page.specs.Form.{separated, decimal, datum-text}
 use Rattle.page.specs.declared.Column.{Column}
-use Rattle.page.specs.declared.Number.the-variants as N
 use Rattle.page.specs.declared.Owner.{Owner}
 use Rattle.page.specs.declared.Owner.the-variants as O
-use Rattle.round.specs.Round.{Fits, a-number, a-text, a-suggestion, FitAll, no-value, a-value, amount-of, amount-in}
+use Rattle.round.specs.Round.{Fits, a-number, a-text, a-suggestion, FitAll, no-value, a-value}
 use Rattle.laws.proofs.WrittenScans.{all-mono, all-append}
 use Rattle.round.proofs.WrittenNumbers.{number-decimal, decimal-all}
 use Rattle.round.proofs.WrittenTexts.{quoted-all}
 use Rattle.round.proofs.WrittenFields.{Field, Fields, no-field, a-field, quoted-field, decimal-field}
 use Rattle.page.proofs.TestLaws.{and-left, and-right}
+use Rattle.page.proofs.TableLaws.{each, table-test, width-le}
 use Rattle.page.proofs.TextLaws.{quoted-text}
 
--- columns of the eight tables: their bounds are small, and at most one of them may be marked
+-- columns of the tables: their bounds are small, and at most one of them may be marked
 
 unfoldable pub small : List Named → Bool
 small [] = true
@@ -45,30 +45,16 @@ one-fillable (c ∷ cs) = not (c .column .fillable && fillable-in cs) && one-fil
 pub record Tame (cs : List Named) : Type 0 where
   pub small : small cs ≡ true
   pub lone : one-fillable cs ≡ true
-  pub narrow : length cs ≤ 8
-
--- a fact of each table's columns, and of no columns
-by-table : (Q : List Named → Type 0) → Q (columns 0) → Q (columns 1) → Q (columns 2) → Q (columns 3) → Q (columns 4) → Q (columns 5) → Q (columns 6) →
-    Q (columns 7) → Q [] → (t : ℕ) → Q (columns t)
-unfolding columns table-at all-tables
-by-table Q a b c d e f g h n zero = a
-by-table Q a b c d e f g h n (suc zero) = b
-by-table Q a b c d e f g h n (suc (suc zero)) = c
-by-table Q a b c d e f g h n (suc (suc (suc zero))) = d
-by-table Q a b c d e f g h n (suc (suc (suc (suc zero)))) = e
-by-table Q a b c d e f g h n (suc (suc (suc (suc (suc zero))))) = f
-by-table Q a b c d e f g h n (suc (suc (suc (suc (suc (suc zero)))))) = g
-by-table Q a b c d e f g h n (suc (suc (suc (suc (suc (suc (suc zero))))))) = h
-by-table Q a b c d e f g h n (suc (suc (suc (suc (suc (suc (suc (suc t)))))))) = n
+  pub narrow : length cs ≤ WIDEST
 
 pub tame : (t : ℕ) → Tame (columns t)
-unfolding columns table-at all-tables small fillable-in one-fillable
-tame =
-    by-table Tame (record { small = refl; lone = refl; narrow = omega arith }) (record { small = refl; lone = refl; narrow = omega arith })
-    (record { small = refl; lone = refl; narrow = omega arith }) (record { small = refl; lone = refl; narrow = omega arith })
-    (record { small = refl; lone = refl; narrow = omega arith }) (record { small = refl; lone = refl; narrow = omega arith })
-    (record { small = refl; lone = refl; narrow = omega arith }) (record { small = refl; lone = refl; narrow = omega arith })
-    (record { small = refl; lone = refl; narrow = omega arith })
+unfolding columns width all-tables each small fillable-in one-fillable
+tame t =
+    record {
+      small = table-test (λ (x : Table). small (x .columns)) refl refl t;
+      lone = table-test (λ (x : Table). one-fillable (x .columns)) refl refl t;
+      narrow = width-le t;
+    }
 
 -- one value
 
@@ -111,15 +97,6 @@ datum-field (number n) = decimal-field n
 datum-field (words o t) = quoted-field t
 
 -- a text is no number
-pub quoted-none : (t : Bytes) → numberOf (quoted t) ≡ N.Nothing
-unfolding numberOf quoted digits all digit
-quoted-none t = by (leb 1 (length (34 ∷ doubled t ++ 34 ∷ []))) (leb (length (34 ∷ doubled t ++ 34 ∷ [])) 18)
-  where
-    by : (x y : Bool) → pick (x && y && false) (N.Plus (value 0 (34 ∷ doubled t ++ 34 ∷ []))) N.Nothing ≡ N.Nothing
-    by true true = refl
-    by true false = refl
-    by false y = refl
-
 nothing-there : amount (numberOf []) ≡ 0
 unfolding numberOf digits
 nothing-there = refl
@@ -167,11 +144,14 @@ module _ (latin : Bool) where
   separated-allowed (a-value {c} {v} {vs} f g) =
       all-append (allowed latin) (datum-text v) (separated (map datum-text vs)) (datum-allowed latin (c .column) v f) (separated-allowed g)
 
-  pub amount-back : {cs : List Named} {vs : Record} → FitAll latin cs vs → small cs ≡ true → (k : ℕ) → amount-at (map datum-text vs) k ≡ amount-in vs k
-  unfolding amount-at amount-in amount-of datum-text small
-  amount-back no-value s k = nothing-there
-  amount-back (a-value {c} {cs} {v = number n} {vs} (a-number x l h) g) s zero =
+  -- the number of a number's column is read back
+  pub number-back : {cs : List Named} {vs : Record} → FitAll latin cs vs → small cs ≡ true → (k : ℕ) → getD cs k no-column .column .text ≡ false →
+      getD vs k (number 0) ≡ number (amount-at (map datum-text vs) k)
+  unfolding amount-at datum-text small
+  number-back no-value s k e = ap number (sym nothing-there)
+  number-back (a-value {c} {cs} {v = number n} {vs} (a-number x l h) g) s zero e =
       let z : n < 10 ^ 18 = omega (arith, ltb-true (c .column .hi) (10 ^ 18) (and-left (ltb (c .column .hi) (10 ^ 18)) (small cs) s)) in
       rw (number-decimal n z)
-  amount-back (a-value {c} {cs} {v = words o t} {vs} f g) s zero = rw (quoted-none t)
-  amount-back (a-value {c} {cs} f g) s (suc k) = amount-back g (and-right (ltb (c .column .hi) (10 ^ 18)) (small cs) s) k
+  number-back (a-value (a-text x l h) g) s zero e = absurd (false≢true (sym e ∙ x))
+  number-back (a-value (a-suggestion x f p l h) g) s zero e = absurd (false≢true (sym e ∙ x))
+  number-back (a-value {c} {cs} f g) s (suc k) e = number-back g (and-right (ltb (c .column .hi) (10 ^ 18)) (small cs) s) k e

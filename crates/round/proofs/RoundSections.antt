@@ -9,7 +9,7 @@ use lib.ListN.{length, getD}
 use borrow.Author.Tests.{le-leb}
 use Rattle.page.specs.Bytes.{Bytes}
 use Rattle.page.specs.Lines.{joined}
-use Rattle.page.specs.Tables.{no-column, number-at, table-at, columns, standing, table-count}
+use Rattle.page.specs.Tables.{no-column, number-at, table-at, columns, standing, TABLES}
 use Rattle.page.specs.Marks.{may-mark}
 use Rattle.page.specs.Section.{record-text, empty-marked, finish, continue, run, outcome}
 use Rattle.page.specs.Records.{Datum, number, words, Record, Entry, waits, record-in, entries, table-of, entriesOf, recordsOf}
@@ -77,7 +77,7 @@ full-of j b u fs q =
 
 -- the machine over a record's lines, and the record
 
-module _ (latin : Bool) (t : ℕ) (known : t < table-count) where
+module _ (latin : Bool) (t : ℕ) (known : t < TABLES) where
   -- what the lines of a record lead to, and the line where it stands
   record Read (vs : Record) (k n : ℕ) (ls : List Bytes) : Type 0 where
     at : ℕ

@@ -9,24 +9,25 @@ use borrow.Author.Tests.{eq-eqb, ne-eqb, lt-ltb, not-true}
 use Rattle.page.specs.Bytes.{Bytes, bytes, all}
 use Rattle.page.specs.Lines.{content, rest, allowed, Rec, End, Com}
 use Rattle.page.specs.Fields.{digit}
-use Rattle.page.specs.Tables.{Named, no-column, columns, width, standing, points-from}
+use Rattle.page.specs.Tables.{Named, no-column, columns, width, rules, standing}
 use Rattle.page.specs.Marks.{remarkOf, may-mark, owner-of}
-use Rattle.page.specs.Section.{choose, points-same, same-points, empty-marked, rec-verdict, rec-step, count-step, end-step, mark-step, com-step, line-step, content-step, step}
+use Rattle.page.specs.Section.{choose, first-broken, empty-marked, rec-verdict, rec-step, count-step, end-step, mark-step, com-step, line-step, content-step, step}
 use Rattle.page.specs.Records.{Datum, number, words, Record}
 use Rattle.page.specs.Form.{separated, line, decimal, quoted, datum-text, mark-line}
 use Rattle.page.specs.declared.Owner.the-variants as O
 use Rattle.page.specs.declared.Phase.the-variants as P
 use Rattle.page.specs.declared.Remark.the-variants as R
 use Rattle.page.specs.declared.Step.the-variants as S
-use Rattle.round.specs.Round.{a-number, a-text, a-suggestion, FitAll, no-value, a-value, points-alike, SoundRecord}
+use Rattle.round.specs.Round.{a-number, a-text, a-suggestion, FitAll, no-value, a-value, SoundRecord}
 use Rattle.laws.proofs.WrittenScans.{all-mono}
 use Rattle.round.proofs.WrittenNumbers.{number-decimal, decimal-all}
 use Rattle.round.proofs.WrittenTexts.{quoted-all}
 use Rattle.round.proofs.WrittenFields.{no-field, a-field, quoted-field, decimal-field}
 use Rattle.round.proofs.WrittenLines.{commands, Seen, seen, separated-more, separated-none, quote-allowed}
 use Rattle.round.proofs.WrittenDates.{mark-again}
-use Rattle.round.proofs.RoundRecords.{tame, small, fillable-in, one-fillable, digit-allowed, Owned, no-owner, of-number, of-words, wrong-back, width-back, fields-stand, separated-allowed, amount-back}
+use Rattle.round.proofs.RoundRecords.{tame, small, fillable-in, one-fillable, digit-allowed, Owned, no-owner, of-number, of-words, wrong-back, width-back, fields-stand, separated-allowed, number-back}
 use Rattle.page.proofs.TestLaws.{and-left, and-right, neither}
+use Rattle.grammar.proofs.Values.{rule-decided, rules-kept}
 
 -- the marks of a record, line by line
 unfoldable pub mark-lines-of : ℕ → Datum → List Bytes
@@ -157,11 +158,10 @@ module _ (latin : Bool) (t : ℕ) (v : Datum) (vs : Record) (r : SoundRecord lat
   pub rec-seen : Seen latin rec-line Rec (datum-text v) (map datum-text vs)
   rec-seen = seen (commands .10) (datum-text v) (map datum-text vs) latin (fields-stand latin (v ∷ vs)) (rw (and-true latin t) (separated-allowed latin (r .fit)))
 
-  points-back : same-points t (map datum-text (v ∷ vs)) ≡ false
-  unfolding same-points points-same points-alike
-  points-back =
-      let a = amount-back latin (r .fit) (tame t .small) in
-      rw (a (points-from t), a (points-from t + 2), a (points-from t + 1), a (points-from t + 3)) (r .apart)
+  rules-back : first-broken (rules t) (map datum-text (v ∷ vs)) ≡ 0
+  rules-back =
+      rules-kept (map datum-text (v ∷ vs)) (v ∷ vs) (rules t)
+      (rule-decided t (map datum-text (v ∷ vs)) (v ∷ vs) (number-back latin (r .fit) (tame t .small))) (r .rules)
 
   verdict-back : (m : ℕ) → empty-marked m (map datum-text (v ∷ vs)) ≡ false → rec-verdict t m (map datum-text (v ∷ vs)) ≡ 0
   unfolding rec-verdict width standing
@@ -169,7 +169,7 @@ module _ (latin : Bool) (t : ℕ) (v : Datum) (vs : Record) (r : SoundRecord lat
       rw (
         eq-eqb (length (map datum-text (v ∷ vs))) (length (columns t)) (length-map (v ∷ vs) datum-text ∙ width-back latin (r .fit)),
         wrong-back latin (r .fit) (tame t .small),
-        points-back,
+        rules-back,
         e,
       )
 

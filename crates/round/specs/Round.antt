@@ -1,18 +1,18 @@
 -- What a file may say: values that its columns may hold, of bytes that are allowed.
 use mathlib.Core.Path.{_≡_}
-use mathlib.Core.Bool.{Bool, true, false, not, _&&_}
-use mathlib.Core.List.{List, [], _∷_}
+use mathlib.Core.Bool.{Bool, true, false}
+use mathlib.Core.List.{List, [], _∷_, List·Memᴰ}
 use mathlib.Core.Option.{Option, none, some}
-use Prim.Native.Nat.{ℕ, _+_, _≤_, _<_}
-use lib.Dec.{eqb}
-use lib.ListN.{length, getD}
+use Prim.Native.Nat.{ℕ, _≤_, _<_}
+use lib.ListN.{length}
 use Rattle.page.specs.Bytes.{Bytes, all}
 use Rattle.page.specs.Lines.{allowed}
-use Rattle.page.specs.Tables.{Named, table-count, columns, points-from}
+use Rattle.page.specs.Tables.{Named, Rule, TABLES, columns, rules}
 use Rattle.page.specs.Dates.{real-date, real-time}
 use Rattle.page.specs.Head.{Head}
 use Rattle.page.specs.Records.{Datum, number, words, Record}
 use Rattle.page.specs.Model.{Content, Model}
+use Rattle.page.specs.Grammar.{Breaks}
 use Rattle.page.specs.Rules.{Every}
 use Rattle.page.specs.declared.Column.{Column}
 use Rattle.page.specs.declared.Owner.the-variants as O
@@ -29,25 +29,12 @@ pub data FitAll (latin : Bool) : List Named → Record → Type 0 where
   no-value : FitAll latin [] []
   a-value : {c : Named} {cs : List Named} {v : Datum} {vs : Record} → Fits latin (c .column) v → FitAll latin cs vs → FitAll latin (c ∷ cs) (v ∷ vs)
 
--- "the two points, type and number together"
-unfoldable pub amount-of : Datum → ℕ
-amount-of (number n) = n
-amount-of (words o t) = 0
-
-unfoldable pub amount-in : Record → ℕ → ℕ
-amount-in vs k = amount-of (getD vs k (number 0))
-
-unfoldable pub points-alike : ℕ → Record → Bool
-points-alike t vs =
-    not (eqb (points-from t) 0)
-    && (eqb (amount-in vs (points-from t)) (amount-in vs (points-from t + 2)) && eqb (amount-in vs (points-from t + 1)) (amount-in vs (points-from t + 3)))
-
 pub record SoundRecord (latin : Bool) (t : ℕ) (vs : Record) : Type 0 where
   pub fit : FitAll latin (columns t) vs
-  pub apart : points-alike t vs ≡ false
+  pub rules : (r : Rule) → List·Memᴰ r (rules t) → ¬ Breaks vs r
 
 pub record SoundContent (latin : Bool) (c : Content) : Type 0 where
-  pub known : c .table < table-count
+  pub known : c .table < TABLES
   pub records : Every (SoundRecord latin (c .table)) (c .records)
 
 -- a header's text, and one that need not stand

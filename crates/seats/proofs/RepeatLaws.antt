@@ -10,7 +10,7 @@ use lib.ListN.{length, getD, take, drop}
 use Rattle.page.specs.Bytes.{Bytes, pick}
 use Rattle.page.specs.Lines.{lines, content, rest}
 use Rattle.page.specs.Fields.{fields}
-use Rattle.page.specs.Tables.{all-tables, table-at, columns}
+use Rattle.page.specs.Tables.{all-tables, TABLES, table-at, columns}
 use Rattle.page.specs.Cut.{Section, sections}
 use Rattle.page.specs.Head.{latinOf}
 use Rattle.page.specs.Records.{Record, record-in, entries, table-of}
@@ -20,10 +20,11 @@ use Rattle.page.specs.File.{any, Filed, filed-in, filedOf, same-record, key-in,
 use Rattle.page.specs.declared.Column.{Column}
 use Rattle.page.proofs.CutLaws.{no-section}
 use Rattle.page.proofs.KeyLaws.{any-append, faulty, record-none}
-use Rattle.page.proofs.TableLaws.{each-of-eight}
+use Rattle.page.proofs.TableLaws.{listed, each-table}
 use Rattle.page.proofs.FileLaws.{repeats-by-section}
-use Rattle.keys.specs.Numbers.{key-numbers, kind-of, choice-by, by-key, key-choice}
-use Rattle.keys.proofs.ReferenceLaws.{Small, small-primary, small-second}
+use Rattle.tables.specs.Choices.{kind-of, choice-by, by-key, key-choice}
+use Rattle.keys.specs.Numbers.{key-numbers}
+use Rattle.tables.proofs.ReferenceLaws.{Small, small-primary, small-second}
 use Rattle.keys.proofs.ChoiceLaws.{chosen-key}
 use Rattle.keys.proofs.SameLaws.{Fitting, key-same}
 use Rattle.keys.proofs.SoundLaws.{Sound}
@@ -106,10 +107,10 @@ module _ (p : Column → Bool) (small : Small p) (i t : ℕ) where
   no-repeat v es k h = record-none v (repeats p) [] es (λ m l. rw (h m l, k))
 
 -- a table has a key exactly if a field is chosen for it
-has-choice : (second : Bool) (t : ℕ) → t < 8 → has-key (by-key second) t ≡ not (eqb (key-choice (by-key second) t) 0)
-unfolding has-key any columns table-at all-tables key-choice choice-by kind-of
-has-choice true = each-of-eight (λ (t : ℕ). has-key (by-key true) t ≡ not (eqb (key-choice (by-key true) t) 0)) refl refl refl refl refl refl refl refl
-has-choice false = each-of-eight (λ (t : ℕ). has-key (by-key false) t ≡ not (eqb (key-choice (by-key false) t) 0)) refl refl refl refl refl refl refl refl
+has-choice : (second : Bool) (t : ℕ) → t < TABLES → has-key (by-key second) t ≡ not (eqb (key-choice (by-key second) t) 0)
+unfolding listed has-key any columns table-at all-tables key-choice choice-by kind-of
+has-choice true = each-table (has-key (by-key true)) (λ (t : ℕ). not (eqb (key-choice (by-key true) t) 0)) refl
+has-choice false = each-table (has-key (by-key false)) (λ (t : ℕ). not (eqb (key-choice (by-key false) t) 0)) refl
 
 small-key : (second : Bool) → Small (by-key second)
 small-key true = small-second

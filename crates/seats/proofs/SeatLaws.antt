@@ -12,7 +12,7 @@ use lib.ListN.{length, getD, take, drop, set, length-set, length-map, replicate,
 use lib.Seq.{drop-cons, drop-length, getD-set-same, getD-set-other, getD-take, length-take-le}
 use Rattle.page.specs.Bytes.{Bytes, pick}
 use Rattle.page.specs.Lines.{lines}
-use Rattle.page.specs.Tables.{number-at}
+use Rattle.page.specs.Tables.{TABLES, number-at}
 use Rattle.page.specs.Cut.{Section, sections}
 use Rattle.page.specs.Head.{latinOf}
 use Rattle.page.specs.Records.{table-of}
@@ -136,12 +136,12 @@ pub record Going (s : Bytes) (n at : ℕ) (seats : List Seat) (place : List ℕ)
   pub settled : Settled s at
   pub rest : sections-from s at ≡ drop n (sections s)
   pub passed : n ≤ length (sections s)
-  pub long : length seats ≡ 8
-  pub wide : length place ≡ 8
+  pub long : length seats ≡ TABLES
+  pub wide : length place ≡ TABLES
   pub many : filled place ≡ n
   pub seated : Seated s n seats place
 
-pub going-few : (s : Bytes) (n at : ℕ) (seats : List Seat) (place : List ℕ) → Going s n at seats place → n ≤ 8
+pub going-few : (s : Bytes) (n at : ℕ) (seats : List Seat) (place : List ℕ) → Going s n at seats place → n ≤ TABLES
 going-few s n at seats place g = omega (arith, filled-le place, g .many, g .wide)
 
 pub none-taken : (n k : ℕ) → _≡_ {A = ℕ} (getD (replicate n 0) k 0) 0
@@ -149,7 +149,7 @@ none-taken zero k = refl
 none-taken (suc n) zero = refl
 none-taken (suc n) (suc k) = none-taken n k
 
-pub going-first : (s : Bytes) (at : ℕ) → Next s 0 at → (seats : List Seat) → length seats ≡ 8 → (place : List ℕ) → length place ≡ 8
+pub going-first : (s : Bytes) (at : ℕ) → Next s 0 at → (seats : List Seat) → length seats ≡ TABLES → (place : List ℕ) → length place ≡ TABLES
     → ((k : ℕ) → getD place k 0 ≡ 0) → Going s 0 at seats place
 going-first s at x seats l place w z =
     record {
@@ -200,7 +200,7 @@ module _ (s : Bytes) (v : first-unsound 1 (rowsOf s) ≡ sound) where
     here : Among s at n
     here = among s at h (g .settled) n (g .rest)
 
-    pub table-known : t < 8
+    pub table-known : t < TABLES
     table-known =
         let k = sound-at s v n (here .within) .known in
         let y : t ≡ table-of (getD (sections s) n no-section .lines) = q ∙ ap (λ (a : Section). table-of (a .lines)) (sym (here .is)) in
@@ -228,7 +228,7 @@ module _ (s : Bytes) (v : first-unsound 1 (rowsOf s) ≡ sound) where
         rw (here .is) (record { low = omega arith; high = omega arith; lines = rw k; table = q; known = table-known })
 
     module _ (z : getD place t 0 ≡ 0) where
-      pub seat-room : n < 8
+      pub seat-room : n < TABLES
       seat-room = omega (arith, filled-room place t (omega (arith, g .wide, table-known)) z, g .many, g .wide)
 
       other-table : (i : ℕ) → i < n → getD seats i no-seat .table ≡ t → ⊥

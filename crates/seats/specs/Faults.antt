@@ -13,7 +13,8 @@ use Rattle.page.specs.Records.{valuesOf}
 use Rattle.page.specs.Answers.{sound}
 use Rattle.page.specs.File.{any, by-primary, lost, first-record, filedOf}
 use Rattle.page.specs.declared.Refusal.{Refusal}
-use Rattle.keys.specs.Numbers.{key-choice, refer-numbers, reference-at, target-at}
+use Rattle.tables.specs.Choices.{key-choice, reference-at, target-at}
+use Rattle.keys.specs.Numbers.{refer-numbers}
 use Rattle.scans.specs.Scan.{is-record, bears, again, first-line, some}
 use Rattle.seats.specs.Seating.{seat-at}
 use Rattle.seats.specs.declared.seating.Seat.{Seat}

@@ -6,6 +6,7 @@ use lib.Dec.{eqb}
 use lib.ListN.{length, getD, take, drop}
 use Rattle.page.specs.Bytes.{Bytes, pick}
 use Rattle.page.specs.Lines.{lines}
+use Rattle.page.specs.Tables.{TABLES}
 use Rattle.page.specs.Cut.{Section, sections}
 use Rattle.page.specs.Records.{table-of}
 use Rattle.page.specs.Answers.{sound}
@@ -27,7 +28,7 @@ pub record Sits (s : Bytes) (x : Section) (a : Seat) : Type 0 where
   pub high : a .to ≤ length s
   pub lines : x .lines ≡ lines (take (a .to - a .from) (drop (a .from) s))
   pub table : a .table ≡ table-of (x .lines)
-  pub known : a .table < 8
+  pub known : a .table < TABLES
 
 -- each of the first n sections stands at its seat, and at the place of its table
 pub record Seated (s : Bytes) (n : ℕ) (seats : List Seat) (place : List ℕ) : Type 0 where
@@ -39,7 +40,7 @@ pub record Seated (s : Bytes) (n : ℕ) (seats : List Seat) (place : List ℕ) :
 pub record Ready (s : Bytes) (r : Seats) : Type 0 where
   pub sound : first-unsound 1 (rowsOf s) ≡ sound
   pub count : r .count ≡ length (sections s)
-  pub few : r .count ≤ 8
+  pub few : r .count ≤ TABLES
   pub seated : Seated s (r .count) (r .seats) (r .place)
 
 -- 17: "the second table's line 1"

@@ -1,10 +1,11 @@
 // Where each table stands.
 ghost use mathlib.Core.Path.{_≡_};
 ghost use Prim.Native.Nat.{_<_};
+ghost use Rattle.page.specs.Tables.{TABLES};
 ghost use Rattle.page.specs.Answers.{sound};
 ghost use Rattle.page.specs.File.{rowsOf, first-unsound};
 ghost use Rattle.seats.specs.Seating.{seat-at, Seating};
-use page::tables::TABLES;
+use tables::TABLES;
 
 // A section: its table by its place in the list of tables, and its bytes.
 pub struct Seat {
@@ -64,7 +65,7 @@ pub fn seat_tables(s: &[u8]) -> Seats
 }
 
 pub fn find_seat(seats: Seats, i: usize) -> Seat
-    requires { ⌜ i < 8 ⌝ }
+    requires { ⌜ i < TABLES ⌝ }
     ensures { λ r. ⌜ r ≡ seat-at seats i ⌝ }
 {
     let all = seats.seats;

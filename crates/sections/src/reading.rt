@@ -13,7 +13,7 @@ use page::Outcome;
 use page::Phase;
 use page::Row;
 use page::Step;
-use page::tables::find_number;
+use tables::find_number;
 
 // "Table number is 0 if the `tbl` line fails."
 fn table_in(p: Phase) -> u32

@@ -62,7 +62,7 @@ fn value_at(file: &[u8], i: usize, at: usize, r: usize, f: usize) -> Got
         return Got::Refused(refuse_with(24));
     }
     let t = table_at(file, at);
-    if is_outside(f, page::tables::find_width(t)) {
+    if is_outside(f, tables::find_width(t)) {
         return Got::Refused(refuse_with(24));
     }
     let e = at + row.length;

@@ -107,8 +107,7 @@ pub fn value_in(w: &[u8], at: usize, m: u64, t: usize, f: usize) -> Value
     ensures { λ r. ⌜ r ≡ value-in t (record { at = at; rest = now (w .entry); mark = m }) f ⌝ }
 {
     let k = f - 1;
-    let column = page::tables::find_column(t, k);
-    if column.text {
+    if tables::is_text(t, k) {
         return Value::Words(find_words(w, at, m, f));
     }
     Value::Number(amount_at(w, k))

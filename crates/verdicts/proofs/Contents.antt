@@ -9,7 +9,7 @@ use lib.Dec.{eqb}
 use lib.ListN.{length}
 use borrow.Author.Tests.{ne-eqb}
 use Rattle.page.specs.Bytes.{pick}
-use Rattle.page.specs.Tables.{number-at, table-count}
+use Rattle.page.specs.Tables.{number-at, TABLES}
 use Rattle.page.specs.Cut.{Section}
 use Rattle.page.specs.Section.{outcome, refused}
 use Rattle.page.specs.Records.{Record, recordsOf, table-of}
@@ -89,8 +89,8 @@ module _ (latin : Bool) where
       let g = tables-are (every-tail e) t in
       cc
 
-  -- their tables are of the eight
-  pub tables-known : {xs : List Section} {cs : List Content} → Tables latin xs cs → Every (λ c. c .table < table-count) cs
+  -- their tables are of the list
+  pub tables-known : {xs : List Section} {cs : List Content} → Tables latin xs cs → Every (λ c. c .table < TABLES) cs
   tables-known no-table = none-left
   tables-known (a-table {c} d t) = one-more (denoted-known (c .table) (c .records) d) (tables-known t)
 
@@ -104,9 +104,9 @@ module _ (latin : Bool) where
       by (inr i) f = f i
 
 -- a table is met before by its number exactly if it is by its place in the list
-again-more : (seen : List Content) (b : Content) (nums : List ℕ) → b .table < table-count →
-    ((c : Content) → c .table < table-count → Decides (TableAgain seen c) (any (eqb (number-at (c .table))) nums)) →
-    (c : Content) → c .table < table-count → Decides (TableAgain (seen ++ (b ∷ [])) c) (any (eqb (number-at (c .table))) (number-at (b .table) ∷ nums))
+again-more : (seen : List Content) (b : Content) (nums : List ℕ) → b .table < TABLES →
+    ((c : Content) → c .table < TABLES → Decides (TableAgain seen c) (any (eqb (number-at (c .table))) nums)) →
+    (c : Content) → c .table < TABLES → Decides (TableAgain (seen ++ (b ∷ [])) c) (any (eqb (number-at (c .table))) (number-at (b .table) ∷ nums))
 unfolding any
 again-more seen b nums l d c h =
     when into back (one-of (when (λ e. sym (number-injective (c .table) (b .table) h l e)) (λ e. ap number-at (sym e)) (equal (number-at (c .table)) (number-at (b .table)))) (d c h))
@@ -134,14 +134,14 @@ module _ (latin : Bool) where
 
   -- 17: no table comes a second time, or this is the first that does
   pub again-settled : (nums : List ℕ) (i : ℕ) (seen : List Content) {xs : List Section} {cs : List Content} → Tables latin xs cs →
-      ((c : Content) → c .table < table-count → Decides (TableAgain seen c) (any (eqb (number-at (c .table))) nums)) → AgainTold nums i seen xs cs
+      ((c : Content) → c .table < TABLES → Decides (TableAgain seen c) (any (eqb (number-at (c .table))) nums)) → AgainTold nums i seen xs cs
   unfolding first-again first-here first-later
   again-settled nums i seen no-table d = inl (none-nil TableAgain seen, refl)
   again-settled nums i seen (a-table {x} {xs} {c} {cs} h t) d =
       by (any (eqb (number-at (c .table))) nums) refl (d c known)
       (again-settled (number-at (c .table) ∷ nums) (suc i) (seen ++ (c ∷ [])) t (again-more seen c nums known d))
     where
-      known : c .table < table-count
+      known : c .table < TABLES
       known = denoted-known (c .table) (c .records) h
 
       one : (b : Bool) → any (eqb (number-at (c .table))) nums ≡ b →

@@ -10,7 +10,7 @@ use lib.Dec.{eqb, leb}
 use lib.ListN.{length}
 use borrow.Author.Tests.{ne-eqb}
 use Rattle.page.specs.Bytes.{Bytes, pick}
-use Rattle.page.specs.Tables.{table-count}
+use Rattle.page.specs.Tables.{TABLES}
 use Rattle.page.specs.Cut.{Section, sections, header-lines, trailer-lines}
 use Rattle.page.specs.Header.{headOf}
 use Rattle.page.specs.Head.{latinOf}
@@ -92,7 +92,7 @@ module _ (s : Bytes) where
       by (inl x) = absurd (none-first (KeyAgain p) [] (filedOf s) e (x .0) f)
       by (inr x) = x .2 ∙ ap (λ (d : Filed). refusal v (d .section) (d .line)) (first-once (KeyAgain p) [] (filedOf s) (x .0) e (x .1) f .1)
 
-  known-filed : {cs : List Content} → Tables (latinOf s) (sections s) cs → Every (λ d. d .table < table-count) (filedOf s)
+  known-filed : {cs : List Content} → Tables (latinOf s) (sections s) cs → Every (λ d. d .table < TABLES) (filedOf s)
   known-filed {cs} t = filed-known cs (filedOf s) (as-filed t) (tables-known (latinOf s) t)
 
   trailer-found : (n : ℕ) → TrailerFault (length (sections s)) (trailer-lines s) n → trailerOf s ≡ Stages.finding 3 n

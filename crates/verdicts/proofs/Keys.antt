@@ -4,7 +4,7 @@ use mathlib.Core.Bool.{Bool, true}
 use mathlib.Core.List.{List, [], _∷_, _++_, map, List·Memᴰ, List·Memᴰ·head, List·Memᴰ·tail, List·Memᴰ·not-nil, List·Memᴰ·cases-cons, Memᴰ·append-left, Memᴰ·append-right, List·Memᴰ·append-cases}
 use mathlib.Core.Logic.{_⊎_, inl, inr, _↔_}
 use Prim.Native.Nat.{ℕ, suc, _<_}
-use Rattle.page.specs.Tables.{Reference, table-at, table-count}
+use Rattle.page.specs.Tables.{Reference, table-at, TABLES}
 use Rattle.page.specs.Cut.{Section}
 use Rattle.page.specs.Records.{Record, Entry, entriesOf, recordsOf, table-of}
 use Rattle.page.specs.File.{Filed, filed-in, filed}
@@ -137,7 +137,7 @@ pub keys-exactly : (p : Column → Bool) (cs : List Content) (es : List Filed) �
 keys-exactly p cs es k t = (keys-from p [] [] k t none-left, keys-to p [] [] k t none-left)
 
 -- 20: every record's references are found exactly if every table's are
-pub references-exactly : (cs : List Content) (es : List Filed) → FiledAs cs es → Every (λ d. d .table < table-count) es → NoneOf (Lost es) [] es ↔ Every (Refers cs) cs
+pub references-exactly : (cs : List Content) (es : List Filed) → FiledAs cs es → Every (λ d. d .table < TABLES) es → NoneOf (Lost es) [] es ↔ Every (Refers cs) cs
 references-exactly cs es k known = (into, back)
   where
     meets : (e : Filed) (r : Reference) → Found es e r → Meets cs (e .values) r
@@ -166,5 +166,5 @@ references-exactly cs es k known = (into, back)
         x .2 (met e (x .0) z (content-filed k (z .here) (z .there)))
 
 -- the records' tables are known
-pub filed-known : (cs : List Content) (es : List Filed) → FiledAs cs es → Every (λ c. c .table < table-count) cs → Every (λ d. d .table < table-count) es
+pub filed-known : (cs : List Content) (es : List Filed) → FiledAs cs es → Every (λ c. c .table < TABLES) cs → Every (λ d. d .table < TABLES) es
 filed-known cs es k a = every-from es (λ d m. let y = filed-content d k m in rw (y .2) (every-at cs a (y .1)))

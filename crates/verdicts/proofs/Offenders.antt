@@ -8,13 +8,13 @@ use native.Mathlib.Omega.{arith}
 use lib.Dec.{eqb, ltb}
 use Rattle.page.specs.Bytes.{bytes, pick, same}
 use Rattle.page.specs.Lines.{find}
-use Rattle.page.specs.Tables.{Reference, all-tables, table-at, table-named, table-count, columns}
+use Rattle.page.specs.Tables.{Reference, all-tables, table-at, table-named, TABLES, columns}
 use Rattle.page.specs.Records.{Datum, number, words, Record}
 use Rattle.page.specs.File.{any, Filed, same-datum, same-record, key-of, by-primary, has-key, repeats, referred, meets, lost, first-record}
 use Rattle.page.specs.Answers.{refusal, sound}
 use Rattle.page.specs.Rules.{Every, none-left, one-more, bare, key}
 use Rattle.page.specs.declared.Column.{Column}
-use Rattle.page.proofs.TableLaws.{past-tables, each-of-eight, name-tells}
+use Rattle.page.proofs.TableLaws.{past-tables, listed, each-table, name-tells}
 use Rattle.verdicts.specs.First.{First, NoneOf}
 use Rattle.verdicts.specs.Files.{KeyAgain, Found, Lost}
 use Rattle.laws.proofs.Decides.{Decides, holds, fails, when, both, equal, below}
@@ -93,21 +93,26 @@ keys-settled v p es = scan-settled v (repeats p) (KeyAgain p) (again-d p) [] [] 
 abbrev Named : Reference → Type 0
 Named r = table-at (table-named (bytes (r .target))) .name ≡ r .target
 
-eight-targets : (t : ℕ) → t < 8 → Every Named (table-at t .references)
-unfolding table-at table-named all-tables find same bytes
-eight-targets =
-    each-of-eight (λ (t : ℕ). Every Named (table-at t .references)) none-left (one-more refl none-left) (one-more refl (one-more refl none-left))
-    (one-more refl none-left) (one-more refl none-left) (one-more refl none-left) (one-more refl (one-more refl (one-more refl none-left))) (one-more refl (one-more refl none-left))
+all-named : (rs : List Reference) → map (λ (r : Reference). table-at (table-named (bytes (r .target))) .name) rs ≡ map (λ (r : Reference). r .target) rs → Every Named rs
+all-named [] e = none-left
+all-named (r ∷ rs) e =
+    let a : table-at (table-named (bytes (r .target))) .name ≡ r .target = cc in
+    let b : map (λ (r : Reference). table-at (table-named (bytes (r .target))) .name) rs ≡ map (λ (r : Reference). r .target) rs = cc in
+    one-more a (all-named rs b)
 
 targets : (t : ℕ) → Every Named (table-at t .references)
-targets t = by (ltb t 8) (below t 8)
+unfolding listed table-at table-named all-tables find same bytes
+targets t = by (ltb t TABLES) (below t TABLES)
   where
-    by : (b : Bool) → Decides (t < 8) b → Every Named (table-at t .references)
-    by true (holds h) = eight-targets t h
+    by : (b : Bool) → Decides (t < TABLES) b → Every Named (table-at t .references)
+    by true (holds h) =
+        all-named (table-at t .references)
+        (each-table (λ (t : ℕ). map (λ (r : Reference). table-at (table-named (bytes (r .target))) .name) (table-at t .references))
+        (λ (t : ℕ). map (λ (r : Reference). r .target) (table-at t .references)) refl t h)
     by false (fails n) = rw (past-tables t (omega arith)) none-left
 
 -- 20: the test of a reference
-meets-d : (e d : Filed) (r : Reference) → Named r → d .table < table-count →
+meets-d : (e d : Filed) (r : Reference) → Named r → d .table < TABLES →
     Decides ((table-at (d .table) .name ≡ r .target) × (key by-primary (d .table) (d .values) ≡ map bare (referred (r .columns) (e .values)))) (meets e r d)
 unfolding meets key-of key
 meets-d e d r n h =
@@ -115,7 +120,7 @@ meets-d e d r n h =
     (same-record-d (key-of by-primary d) (referred (r .columns) (e .values)))
 
 -- a reference is found among the records by the test exactly if one of them has the key
-pub found-d : (every : List Filed) → Every (λ d. d .table < table-count) every → (e : Filed) (r : Reference) → List·Memᴰ r (table-at (e .table) .references) →
+pub found-d : (every : List Filed) → Every (λ d. d .table < TABLES) every → (e : Filed) (r : Reference) → List·Memᴰ r (table-at (e .table) .references) →
     Decides (Found every e r) (any (meets e r) every)
 found-d every k e r m =
     when (λ x. (x .0, x .1, x .2 .0, x .2 .1)) (λ x. (x .0, x .1, (x .2, x .3)))
@@ -125,7 +130,7 @@ not-d : {A : Type 0} {b : Bool} → Decides A b → Decides (¬ A) (not b)
 not-d (holds a) = fails (λ n. n a)
 not-d (fails n) = holds n
 
-lost-d : (every : List Filed) → Every (λ d. d .table < table-count) every → (ms ss : List Filed) (e : Filed) → Alike ms ss → Decides (Lost every ss e) (lost every e)
+lost-d : (every : List Filed) → Every (λ d. d .table < TABLES) every → (ms ss : List Filed) (e : Filed) → Alike ms ss → Decides (Lost every ss e) (lost every e)
 unfolding lost
 lost-d every k ms ss e a = any-d (λ (r : Reference). not (any (meets e r) every)) (table-at (e .table) .references) (λ r m. not-d (found-d every k e r m))
 
@@ -135,5 +140,5 @@ LostTold es =
     ((e : Filed) × First (Lost es) [] es e × (first-record 20 (λ before. lost es) [] es ≡ refusal 20 (e .section) (e .line)))
 
 -- every record's references are found, or this is the first record of which one is not
-pub lost-settled : (es : List Filed) → Every (λ d. d .table < table-count) es → LostTold es
+pub lost-settled : (es : List Filed) → Every (λ d. d .table < TABLES) es → LostTold es
 lost-settled es k = scan-settled 20 (λ before. lost es) (Lost es) (lost-d es k) [] [] es (λ d. (λ m. m, λ m. m))

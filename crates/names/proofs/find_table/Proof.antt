@@ -6,17 +6,17 @@ use borrow.Author.Needs.{needs}
 use lib.ListN.{length, getD, drop}
 use Rattle.page.specs.Bytes.{bytes, same}
 use Rattle.page.specs.Lines.{find}
-use Rattle.page.specs.Tables.{table-named}
+use Rattle.page.specs.Tables.{TABLES, table-named}
 use Rattle.page.proofs.NameLaws.{find-hit, find-more, find-none}
-use Rattle.names.proofs.WordLaws.{titles, titles-length, title-at}
+use Rattle.tables.proofs.WordLaws.{titles, titles-length, title-at}
 use Rattle.names.proofs.find_table.Statement.{statement}
 use Rattle.names.proofs.find_table.Tie as tie
 
 abbrev Inv-loop : tie.InvT-loop
-Inv-loop w t₀ t = (t ≤ 8) × (find t (drop t titles) w ≡ table-named w)
+Inv-loop w t₀ t = (t ≤ TABLES) × (find t (drop t titles) w ≡ table-named w)
 
 abbrev μ-loop : tie.MeasureT-loop
-μ-loop w t₀ t = 8 - t
+μ-loop w t₀ t = TABLES - t
 
 loop-holds : tie.Need-loop-holds Inv-loop μ-loop
 unfolding table-named titles
@@ -55,7 +55,7 @@ loop-again c =
 returns-2 : tie.Need-returns-2 Inv-loop μ-loop
 returns-2 c =
     let l = c .before .loop in
-    let e : l .t ≡ 8 = omega arith in
+    let e : l .t ≡ TABLES = omega arith in
     sym (find-none titles (c .before .before .before .args .w .now) (l .t) (l .t) (omega (arith, titles-length))) ∙ l .inv .1
 
 pub find-table-spec : {M : Type 1} → statement M

@@ -1,4 +1,5 @@
 use mathlib.Core.Path.{_≡_, ap, sym, _∙_}
+use mathlib.Core.Bool.{Bool}
 use Prim.Native.Nat.{_+_, _-_, _<_, _≤_}
 use native.Mathlib.Omega.{arith}
 use borrow.Author.Needs.{needs}
@@ -41,8 +42,8 @@ returns c =
 field-end-requires : tie.Need-field-end-requires Inv-loop μ-loop
 field-end-requires c κs = search needs
 
-find-column-requires : tie.Need-find-column-requires Inv-loop μ-loop
-find-column-requires c κs = search needs
+is-text-requires : tie.Need-is-text-requires Inv-loop μ-loop
+is-text-requires c κs = search needs
 
 sub-trimmed : tie.Need-sub-trimmed Inv-loop μ-loop
 sub-trimmed c =
@@ -72,11 +73,11 @@ returns-2 c =
     let h : l .at ≤ length w = search needs in
     let k : l .k < length (standing (a .t)) = omega arith in
     let f = take (e .result - l .at) (drop (l .at) w) in
-    let o : getD (standing (a .t)) (l .k) no-column .column ≡ c .before .before .before .before .find-column .result =
-    standing-column (a .t) (l .k) ∙ sym (c .before .before .before .before .find-column .ensures) in
+    let o : getD (standing (a .t)) (l .k) no-column .column .text ≡ c .before .before .before .before .is-text .result =
+    ap (λ (x : Column). x .text) (standing-column (a .t) (l .k)) ∙ sym (c .before .before .before .before .is-text .ensures) in
     let q : format-ok (getD (standing (a .t)) (l .k) no-column .column .text) (trim f) ≡ c .before .is-format .result =
-    ap (λ (x : Column). format-ok (x .text) (trim f)) o
-    ∙ ap (format-ok (c .before .before .before .before .find-column .result .text)) (sym (c .before .before .trimmed .ensures)) ∙ sym (c .before .is-format .ensures) in
+    ap (λ (x : Bool). format-ok x (trim f)) o
+    ∙ ap (format-ok (c .before .before .before .before .is-text .result)) (sym (c .before .before .trimmed .ensures)) ∙ sym (c .before .is-format .ensures) in
     let m = from-more w (l .at) (e .result) h (e .ensures) in
     sym (matches-not has-format (standing (a .t)) (l .k) k (from w (l .at)) _ _ m (q ∙ not-true _ (c .if2 .taken))) ∙ l .inv .2
 
@@ -101,11 +102,11 @@ loop-again c =
     let h : l .at ≤ length w = search needs in
     let k : l .k < length (standing (a .t)) = omega arith in
     let f = take (e .result - l .at) (drop (l .at) w) in
-    let o : getD (standing (a .t)) (l .k) no-column .column ≡ c .before .before .before .before .find-column .result =
-    standing-column (a .t) (l .k) ∙ sym (c .before .before .before .before .find-column .ensures) in
+    let o : getD (standing (a .t)) (l .k) no-column .column .text ≡ c .before .before .before .before .is-text .result =
+    ap (λ (x : Column). x .text) (standing-column (a .t) (l .k)) ∙ sym (c .before .before .before .before .is-text .ensures) in
     let q : format-ok (getD (standing (a .t)) (l .k) no-column .column .text) (trim f) ≡ c .before .is-format .result =
-    ap (λ (x : Column). format-ok (x .text) (trim f)) o
-    ∙ ap (format-ok (c .before .before .before .before .find-column .result .text)) (sym (c .before .before .trimmed .ensures)) ∙ sym (c .before .is-format .ensures) in
+    ap (λ (x : Bool). format-ok x (trim f)) o
+    ∙ ap (format-ok (c .before .before .before .before .is-text .result)) (sym (c .before .before .trimmed .ensures)) ∙ sym (c .before .is-format .ensures) in
     let m = from-more w (l .at) (e .result) h (e .ensures) in (
       omega arith,
       omega (arith, end-in w (l .at) (e .result) h (e .ensures)),
@@ -129,7 +130,7 @@ formats-match-spec =
     loop-holds
     returns
     field-end-requires
-    find-column-requires
+    is-text-requires
     sub-trimmed
     part-trimmed-start
     part-trimmed-end

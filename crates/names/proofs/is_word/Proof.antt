@@ -2,8 +2,10 @@ use mathlib.Core.Path.{ap, _∙_}
 use borrow.Author.Needs.{needs}
 use Rattle.page.specs.Bytes.{bytes, same}
 use Rattle.page.specs.Lines.{joined}
-use Rattle.names.specs.Words.{words, row}
-use Rattle.names.proofs.WordLaws.{row-length}
+use Rattle.page.specs.Tables.{all-tables}
+use Rattle.page.specs.File.{any}
+use Rattle.tables.specs.Words.{column-names, once, words, row}
+use Rattle.tables.proofs.WordLaws.{row-length}
 use Rattle.names.proofs.is_word.Statement.{statement}
 use Rattle.names.proofs.is_word.Tie as tie
 
@@ -23,7 +25,7 @@ equal-requires : tie.Need-equal-requires
 equal-requires c κs = search needs
 
 returns : tie.Need-returns
-unfolding row joined words bytes
+unfolding row joined words column-names once any all-tables bytes same
 returns c = c .equal .ensures ∙ ap (same (c .before .before .before .before .before .args .f .now)) (c .before .before .before .find-word .ensures .is)
 
 pub is-word-spec : {M : Type 1} → statement M

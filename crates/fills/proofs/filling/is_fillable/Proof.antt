@@ -4,7 +4,6 @@ use Prim.Native.Nat.{ℕ, _-_}
 use native.Mathlib.Omega.{arith}
 use borrow.Author.Needs.{needs}
 use Rattle.page.specs.Tables.{column-at}
-use Rattle.page.specs.declared.Column.{Column}
 use Rattle.page.specs.declared.Refusal.{Refusal}
 use Rattle.fills.proofs.FillingLaws.{from-some, table-begun}
 use Rattle.fills.proofs.filling.is_fillable.Statement.{statement}
@@ -34,11 +33,11 @@ read-table-requires c κs =
     let b = rw (c .before .before .at .given .1) at (c .before .before .before .before .locate .ensures .1) in
     from-some (c .before .before .before .before .before .before .args .s .now) _ (b .inside)
 
-sub-find-column : tie.Need-sub-find-column
-sub-find-column c = search needs
+sub-is-fillable : tie.Need-sub-is-fillable
+sub-is-fillable c = search needs
 
-find-column-requires : tie.Need-find-column-requires
-find-column-requires c κs = search needs
+is-fillable-requires : tie.Need-is-fillable-requires
+is-fillable-requires c κs = search needs
 
 enum-told : tie.Need-enum-told
 enum-told c = search needs
@@ -48,7 +47,7 @@ returns c =
     let a = c .before .before .before .before .before .before .before .before .args in
     let b = rw (c .before .before .before .before .at .given .1) at (c .before .before .before .before .before .before .locate .ensures .1) in
     let t = c .before .read-table .ensures ∙ table-begun (a .s .now) _ _ b in
-    ap (λ (x : Column). x .fillable) (c .find-column .ensures ∙ ap (λ (n : ℕ). column-at n (a .f - 1)) t)
+    c .is-fillable .ensures ∙ ap (λ (n : ℕ). column-at n (a .f - 1) .fillable) t
 
 returns-2 : tie.Need-returns-2
 returns-2 c =
@@ -65,8 +64,8 @@ is-fillable-spec =
     part-read-table-start
     part-read-table-end
     read-table-requires
-    sub-find-column
-    find-column-requires
+    sub-is-fillable
+    is-fillable-requires
     enum-told
     returns
     returns-2)

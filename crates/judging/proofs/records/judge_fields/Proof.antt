@@ -1,7 +1,7 @@
 -- `judging::records::judge_fields` meets its contract. Assumes nothing.
 use lib.ListN.{length-drop, length-set, length, drop}
 use Rattle.page.specs.Fields.{fields}
-use Rattle.page.specs.Tables.{standing, width, column-at}
+use Rattle.page.specs.Tables.{WIDEST, standing, width, column-at}
 use Rattle.page.specs.Section.{fieldOf, field-number, first-wrong}
 use Rattle.page.proofs.FieldLaws.{from, from-all, end-in, next-left, head-left}
 use Rattle.page.proofs.TableLaws.{width-le}
@@ -19,7 +19,7 @@ use Rattle.judging.proofs.records.judge_fields.Tie as tie
 abbrev Inv-loop : tie.InvT-loop
 Inv-loop w t n kinds lows highs ns₀ k₀ at₀ ns k at =
     (k ≤ n) × (at ≤ length w + 1) × (first-wrong (drop k (standing t)) (from w at) ≡ first-wrong (standing t) (fields w))
-    × (drop k (fields w) ≡ from w at) × (k ≤ length (fields w)) × (length ns ≡ 8) × Numbers t (fields w) k ns
+    × (drop k (fields w) ≡ from w at) × (k ≤ length (fields w)) × (length ns ≡ WIDEST) × Numbers t (fields w) k ns
 
 abbrev μ-loop : tie.MeasureT-loop
 μ-loop w t n kinds lows highs ns₀ k₀ at₀ ns k at = n - k
@@ -75,7 +75,7 @@ returns-2 c = let l = c .before .before .before .before .before .loop in
     let h : l .at ≤ length w = search needs in
     let k : l .k < width (a .t) = omega (arith, c .before .before .before .before .before .before .before .before .before .find-width .ensures) in
     let m = from-next w (l .at) (r .result .end) h (r .ensures .0) in
-    let e : l .k < 8 = omega (arith, k, width-le (a .t)) in
+    let e : l .k < WIDEST = omega (arith, k, width-le (a .t)) in
     let f : r .result .field ≡ fieldOf (column-at (a .t) (l .k)) (field-from w (l .at)) = r .ensures .1 ∙ column-read (column-at (a .t) (l .k)) _ (field-from w (l .at)) (c .before .before .before .before .before .before .before .before .find-kinds .ensures (l .k) e) (c .before .before .before .before .before .before .before .find-lows .ensures (l .k) e) (c .before .before .before .before .before .before .find-highs .ensures (l .k) e) in
     let v = c .before .refusal-of .ensures ∙ ap field-number f in
     judged-wrong (a .t) (fields w) _ (l .ns) (c .if2 .taken) (sym (sym (l .inv .2) ∙ wrong-hit (a .t) (l .k) k _ _ (from w (l .at)) m _ v (c .if2 .taken)))
@@ -110,7 +110,7 @@ loop-again c = let l = c .before .before .before .before .before .before .loop i
     let h : l .at ≤ length w = search needs in
     let k : l .k < width (a .t) = omega (arith, c .before .before .before .before .before .before .before .before .before .before .find-width .ensures) in
     let m = from-next w (l .at) (r .result .end) h (r .ensures .0) in
-    let e : l .k < 8 = omega (arith, k, width-le (a .t)) in
+    let e : l .k < WIDEST = omega (arith, k, width-le (a .t)) in
     let f : r .result .field ≡ fieldOf (column-at (a .t) (l .k)) (field-from w (l .at)) = r .ensures .1 ∙ column-read (column-at (a .t) (l .k)) _ (field-from w (l .at)) (c .before .before .before .before .before .before .before .before .before .find-kinds .ensures (l .k) e) (c .before .before .before .before .before .before .before .before .find-lows .ensures (l .k) e) (c .before .before .before .before .before .before .before .find-highs .ensures (l .k) e) in
     let v = c .before .before .refusal-of .ensures ∙ ap field-number f in
     let x = end-in w (l .at) (r .result .end) h (r .ensures .0) in

@@ -4,7 +4,7 @@ use lib.Dec.{eqb}
 use Rattle.page.specs.Fields.{fields}
 use Rattle.page.specs.Tables.{width}
 use Rattle.page.specs.Section.{rec-verdict}
-use Rattle.judging.proofs.RecordLaws.{points-known}
+use Rattle.judging.proofs.RecordLaws.{rules-known}
 use mathlib.Core.Path.{_≡_, sym, _∙_}
 use mathlib.Core.Bool.{true}
 use lib.ListN.{length}
@@ -29,17 +29,17 @@ returns-2 c = let a = c .before .before .before .before .before .before .args in
     let n : eqb (length (fields (a .w .now))) (width (a .t)) ≡ true = sym (c .before .before .has-width .ensures) ∙ not-false _ (c .before .if1 .left) in
     rw (n, sym (j .ensures .first), ne-eqb (j .result .wrong) 0 (c .if2 .taken))
 
-same-points-requires : tie.Need-same-points-requires
-same-points-requires c κs = search needs
+judge-rules-requires : tie.Need-judge-rules-requires
+judge-rules-requires c κs = search needs
 
 returns-3 : tie.Need-returns-3
 unfolding rec-verdict
 returns-3 c = let a = c .before .before .before .before .before .before .before .before .args in
     let j = c .before .before .before .before .before .before .judge-fields in
     let n : eqb (length (fields (a .w .now))) (width (a .t)) ≡ true = sym (c .before .before .before .before .has-width .ensures) ∙ not-false _ (c .before .before .before .if1 .left) in
-    let p = points-known (a .t) (fields (a .w .now)) (j .result .numbers) (j .ensures .numbers (c .before .before .if2 .left) (eqb-true _ _ n)) in
-    let s = sym p ∙ sym (c .before .same-points .ensures) in
-    rw (n, sym (j .ensures .first), eq-eqb (j .result .wrong) 0 (c .before .before .if2 .left), s ∙ c .if3 .taken)
+    let p = rules-known (a .t) (fields (a .w .now)) (j .result .numbers) (j .ensures .numbers (c .before .before .if2 .left) (eqb-true _ _ n)) in
+    let s = sym p ∙ sym (c .before .judge-rules .ensures) in
+    rw (n, sym (j .ensures .first), eq-eqb (j .result .wrong) 0 (c .before .before .if2 .left), s, ne-eqb (c .before .judge-rules .result) 0 (c .if3 .taken))
 
 marks-empty-requires : tie.Need-marks-empty-requires
 marks-empty-requires c κs = search needs
@@ -49,18 +49,18 @@ unfolding rec-verdict
 returns-4 c = let a = c .before .before .before .before .before .before .before .before .before .before .args in
     let j = c .before .before .before .before .before .before .before .before .judge-fields in
     let n : eqb (length (fields (a .w .now))) (width (a .t)) ≡ true = sym (c .before .before .before .before .before .before .has-width .ensures) ∙ not-false _ (c .before .before .before .before .before .if1 .left) in
-    let p = points-known (a .t) (fields (a .w .now)) (j .result .numbers) (j .ensures .numbers (c .before .before .before .before .if2 .left) (eqb-true _ _ n)) in
-    let s = sym p ∙ sym (c .before .before .before .same-points .ensures) in
-    rw (n, sym (j .ensures .first), eq-eqb (j .result .wrong) 0 (c .before .before .before .before .if2 .left), s ∙ c .before .before .if3 .left, sym (c .before .marks-empty .ensures) ∙ c .if4 .taken)
+    let p = rules-known (a .t) (fields (a .w .now)) (j .result .numbers) (j .ensures .numbers (c .before .before .before .before .if2 .left) (eqb-true _ _ n)) in
+    let s = sym p ∙ sym (c .before .before .before .judge-rules .ensures) in
+    rw (n, sym (j .ensures .first), eq-eqb (j .result .wrong) 0 (c .before .before .before .before .if2 .left), s, eq-eqb (c .before .before .before .judge-rules .result) 0 (c .before .before .if3 .left), sym (c .before .marks-empty .ensures) ∙ c .if4 .taken)
 
 returns-5 : tie.Need-returns-5
 unfolding rec-verdict
 returns-5 c = let a = c .before .before .before .before .before .before .before .before .before .before .args in
     let j = c .before .before .before .before .before .before .before .before .judge-fields in
     let n : eqb (length (fields (a .w .now))) (width (a .t)) ≡ true = sym (c .before .before .before .before .before .before .has-width .ensures) ∙ not-false _ (c .before .before .before .before .before .if1 .left) in
-    let p = points-known (a .t) (fields (a .w .now)) (j .result .numbers) (j .ensures .numbers (c .before .before .before .before .if2 .left) (eqb-true _ _ n)) in
-    let s = sym p ∙ sym (c .before .before .before .same-points .ensures) in
-    rw (n, sym (j .ensures .first), eq-eqb (j .result .wrong) 0 (c .before .before .before .before .if2 .left), s ∙ c .before .before .if3 .left, sym (c .before .marks-empty .ensures) ∙ c .if4 .left)
+    let p = rules-known (a .t) (fields (a .w .now)) (j .result .numbers) (j .ensures .numbers (c .before .before .before .before .if2 .left) (eqb-true _ _ n)) in
+    let s = sym p ∙ sym (c .before .before .before .judge-rules .ensures) in
+    rw (n, sym (j .ensures .first), eq-eqb (j .result .wrong) 0 (c .before .before .before .before .if2 .left), s, eq-eqb (c .before .before .before .judge-rules .result) 0 (c .before .before .if3 .left), sym (c .before .marks-empty .ensures) ∙ c .if4 .left)
 
 pub judge-record-spec : {M : Type 1} → statement M
 judge-record-spec =
@@ -70,7 +70,7 @@ judge-record-spec =
     has-width-requires
     returns
     returns-2
-    same-points-requires
+    judge-rules-requires
     returns-3
     marks-empty-requires
     returns-4

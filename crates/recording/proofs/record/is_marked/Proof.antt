@@ -1,7 +1,6 @@
-use Rattle.page.specs.declared.Column.{Column}
 use Rattle.copies.proofs.FieldLaws.{marked-filled, marked-stripped, marked-other, marked-waiting}
 use Prim.Native.Nat.{_-_}
-use mathlib.Core.Path.{ap, _∙_}
+use mathlib.Core.Path.{_∙_}
 use borrow.Author.Needs.{needs}
 use Rattle.recording.proofs.record.is_marked.Statement.{statement}
 use Rattle.recording.proofs.record.is_marked.Tie as tie
@@ -24,13 +23,13 @@ returns-3 : tie.Need-returns-3
 returns-3 c =
     marked-other _ _ _ _ _ (c .before .before .if1 .left) (c .before .if2 .left) (c .if3 .taken)
 
-find-column-requires : tie.Need-find-column-requires
-find-column-requires c κs = search needs
+is-text-requires : tie.Need-is-text-requires
+is-text-requires c κs = search needs
 
 returns-4 : tie.Need-returns-4
 returns-4 c =
-    ap (λ (x : Column). x .text) (c .find-column .ensures) ∙ marked-waiting _ _ _ _ _ (c .before .before .before .if1 .left) (c .before .before .if2 .left) (c .before .if3 .left)
+    c .is-text .ensures ∙ marked-waiting _ _ _ _ _ (c .before .before .before .if1 .left) (c .before .before .if2 .left) (c .before .if3 .left)
 
 pub is-marked-spec : {M : Type 1} → statement M
 is-marked-spec =
-    tie.close (tie.spec add-if1 returns returns-2 add-if3 returns-3 find-column-requires returns-4)
+    tie.close (tie.spec add-if1 returns returns-2 add-if3 returns-3 is-text-requires returns-4)

@@ -2,7 +2,6 @@ use borrow.Author.Needs.{needs}
 use mathlib.Core.Path.{ap, sym, _∙_}
 use native.Mathlib.Omega.{arith}
 use lib.ListN.{length}
-use Rattle.page.specs.declared.Column.{Column}
 use Rattle.output.proofs.PutLaws.{put-as}
 use Rattle.copies.proofs.FieldLaws.{field-filled, field-stripped}
 use Rattle.copies.proofs.StandLaws.{field-kept, number-kept, bare-length}
@@ -25,8 +24,8 @@ returns c =
 is-stripped-requires : tie.Need-is-stripped-requires
 is-stripped-requires c κs = search needs
 
-find-column-requires : tie.Need-find-column-requires
-find-column-requires c κs = search needs
+is-text-requires : tie.Need-is-text-requires
+is-text-requires c κs = search needs
 
 slice-aggregate-put-bytes : tie.Need-slice-aggregate-put-bytes
 slice-aggregate-put-bytes c = search needs
@@ -39,7 +38,7 @@ same-length-2 c = search needs
 
 returns-2 : tie.Need-returns-2
 returns-2 c =
-    let x = sym (ap (λ (y : Column). y .text) (c .before .before .before .before .before .before .find-column .ensures)) ∙ c .before .before .before .before .before .if3 .taken in
+    let x = sym (c .before .before .before .before .before .before .is-text .ensures) ∙ c .before .before .before .before .before .if3 .taken in
     put-as (field-stripped _ _ _ _ _ _ _ (c .before .before .before .before .before .before .before .before .before .if1 .left) x _ (c .before .before .before .before .before .before .before .before .is-stripped .ensures) (c .before .before .before .before .before .before .before .if2 .taken)) (c .before .before .put-bytes .ensures)
 
 skip-zeros-requires : tie.Need-skip-zeros-requires
@@ -57,7 +56,7 @@ same-length-3 c = search needs
 
 returns-3 : tie.Need-returns-3
 returns-3 c =
-    let x = sym (ap (λ (y : Column). y .text) (c .before .before .before .before .before .before .find-column .ensures)) ∙ c .before .before .before .before .before .if3 .left in
+    let x = sym (c .before .before .before .before .before .before .is-text .ensures) ∙ c .before .before .before .before .before .if3 .left in
     put-as (c .before .before .before .skip-zeros .ensures ∙ number-kept _ _ _ _ _ _ _ (c .before .before .before .before .before .before .before .before .before .if1 .left) (c .before .before .before .before .before .before .before .before .before .before .before .before .before .before .pre .3) x) (c .before .before .put-bytes2 .ensures)
 
 skip-zeros-requires-2 : tie.Need-skip-zeros-requires-2
@@ -86,7 +85,7 @@ put-field-spec =
     same-length
     returns
     is-stripped-requires
-    find-column-requires
+    is-text-requires
     slice-aggregate-put-bytes
     put-bytes-requires
     same-length-2

@@ -4,6 +4,7 @@ use Prim.Native.Nat.{_-_}
 use mathlib.Core.Path.{_≡_, sym}
 use native.Mathlib.Omega.{arith}
 use borrow.Author.Needs.{needs}
+use Rattle.page.specs.Tables.{TABLES}
 use Rattle.references.proofs.aims.find_place.Statement.{statement}
 use Rattle.references.proofs.aims.find_place.Tie as tie
 
@@ -19,7 +20,7 @@ returns c = search needs
 returns-2 : tie.Need-returns-2
 returns-2 c =
     let p = c .before .before .args .seats .place in
-    let n : length p ≡ 8 = search needs in
+    let n : length p ≡ TABLES = search needs in
     sym (List·getD-eq-default p 0 (omega arith))
 
 pub find-place-spec : {M : Type 1} → statement M

@@ -5,16 +5,17 @@ use mathlib.Core.Path.{_≡_, refl, _∙_}
 use native.Mathlib.Omega.{arith}
 use lib.ListN.{length}
 use borrow.Author.Needs.{needs}
+use Rattle.page.specs.Tables.{MOST}
 use Rattle.references.proofs.children.guess_from.Statement.{statement}
 use Rattle.references.proofs.children.guess_from.Tie as tie
 
 abbrev Inv-loop : tie.InvT-loop
 Inv-loop s w at aims known g₀ until next₀ g next =
-    (next ≤ 3) × (length g ≡ length g₀)
+    (next ≤ MOST) × (length g ≡ length g₀)
 
 abbrev μ-loop : tie.MeasureT-loop
 μ-loop s w at aims known g₀ until next₀ g next =
-    3 - next
+    MOST - next
 
 wipe-requires : tie.Need-wipe-requires Inv-loop μ-loop
 wipe-requires c κs = search needs

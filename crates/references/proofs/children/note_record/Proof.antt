@@ -3,16 +3,17 @@ use Prim.Native.Nat.{_-_, _≤_}
 use mathlib.Core.Path.{_≡_, _∙_}
 use lib.ListN.{length}
 use borrow.Author.Needs.{needs}
+use Rattle.page.specs.Tables.{MOST}
 use Rattle.references.proofs.children.note_record.Statement.{statement}
 use Rattle.references.proofs.children.note_record.Tie as tie
 
 abbrev Inv-loop : tie.InvT-loop
 Inv-loop w at aims known g₀ new₀ next₀ g new next =
-    (new ≤ next) × (next ≤ 3) × (length g ≡ length g₀)
+    (new ≤ next) × (next ≤ MOST) × (length g ≡ length g₀)
 
 abbrev μ-loop : tie.MeasureT-loop
 μ-loop w at aims known g₀ new₀ next₀ g new next =
-    3 - next
+    MOST - next
 
 loop-holds : tie.Need-loop-holds Inv-loop μ-loop
 loop-holds c = search needs

@@ -7,7 +7,7 @@ use Rattle.seats.specs.Faults.{repeat-line}
 use Rattle.seats.specs.Seating.{seat-at}
 use Rattle.scans.specs.Scan.{Topped}
 use Rattle.lines.proofs.CursorLaws.{handed}
-use Rattle.keys.specs.Numbers.{by-key, key-choice}
+use Rattle.tables.specs.Choices.{by-key, key-choice}
 use Rattle.page.proofs.ScanLaws.{part-length}
 use Rattle.page.specs.Answers.{sound}
 use Rattle.page.specs.Lines.{lines}

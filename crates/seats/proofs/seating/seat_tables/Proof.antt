@@ -1,6 +1,7 @@
 -- `seats::seating::seat_tables` meets its contract. Assumes nothing.
 use Rattle.seats.proofs.SeatLaws.{Going, going-few, none-taken, going-first, table-known, going-again, seat-room, going-more, going-end, going-stop}
 use borrow.Author.Needs.{needs}
+use Rattle.page.specs.Tables.{TABLES}
 use Prim.Native.Nat.{_-_}
 use mathlib.Core.Path.{refl}
 use native.Mathlib.Omega.{arith}
@@ -21,7 +22,7 @@ find-section-requires c κs = search needs
 
 loop-holds : tie.Need-loop-holds Inv-loop μ-loop
 loop-holds c =
-    going-first (c .before .before .args .s .now) _ (c .find-section .ensures) _ refl _ refl (none-taken 8)
+    going-first (c .before .before .args .s .now) _ (c .find-section .ensures) _ refl _ refl (none-taken TABLES)
 
 section-end-requires : tie.Need-section-end-requires Inv-loop μ-loop
 section-end-requires c κs = search needs

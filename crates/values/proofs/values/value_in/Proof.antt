@@ -9,8 +9,8 @@ use Rattle.values.proofs.values.value_in.Tie as tie
 sub-k : tie.Need-sub-k
 sub-k c = search needs
 
-find-column-requires : tie.Need-find-column-requires
-find-column-requires c κs = search needs
+is-text-requires : tie.Need-is-text-requires
+is-text-requires c κs = search needs
 
 find-words-requires : tie.Need-find-words-requires
 find-words-requires c κs = search needs
@@ -18,7 +18,7 @@ find-words-requires c κs = search needs
 returns : tie.Need-returns
 unfolding value-in
 returns c =
-    rw (sym (c .before .before .find-column .ensures), c .before .if1 .taken, c .find-words .ensures)
+    rw (sym (c .before .before .is-text .ensures), c .before .if1 .taken, c .find-words .ensures)
 
 amount-at-requires : tie.Need-amount-at-requires
 amount-at-requires c κs = search needs
@@ -26,9 +26,9 @@ amount-at-requires c κs = search needs
 returns-2 : tie.Need-returns-2
 unfolding value-in
 returns-2 c =
-    rw (sym (c .before .before .find-column .ensures), c .before .if1 .left, c .amount-at .ensures)
+    rw (sym (c .before .before .is-text .ensures), c .before .if1 .left, c .amount-at .ensures)
 
 pub value-in-spec : {M : Type 1} → statement M
 value-in-spec =
     tie.close
-    (tie.spec sub-k find-column-requires find-words-requires returns amount-at-requires returns-2)
+    (tie.spec sub-k is-text-requires find-words-requires returns amount-at-requires returns-2)

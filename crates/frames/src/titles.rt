@@ -1,0 +1,101 @@
+// The lines that begin a section, from the fixed tables.
+ghost use Prim.Native.Nat.{_+_, _<_, _^_};
+ghost use Rattle.page.specs.Bytes.{bytes};
+ghost use Rattle.page.specs.Tables.{table-at, column-at};
+ghost use Rattle.page.specs.Form.{line, format-text, table-head};
+ghost use Rattle.tables.specs.Words.{word};
+ghost use Rattle.output.specs.Put.{Put};
+ghost use Rattle.frames.specs.Titles.{tbl-line, names, formats};
+use decimals::put_format;
+use output::put_bytes;
+use output::put_line_end;
+use output::put_separator;
+use page::Column;
+use tables::NAMES;
+use tables::find_size;
+use tables::find_width;
+use tables::find_word;
+use tables::is_text;
+use tables::look_name;
+use tables::look_title;
+
+fn put_word(out: &mut [u8], at: usize, n: usize) -> usize
+    requires { ⌜ at + 328 < 2 ^ 62 ⌝ }
+    ensures { λ r. ⌜ Put (now (out .entry)) at (bytes (word n)) (now (out .exit)) r ⌝ }
+{
+    let place = find_word(n);
+    let from = place.from;
+    let to = place.to;
+    let names = NAMES;
+    put_bytes(out, at, &names[from..to])
+}
+
+fn put_tbl_line(out: &mut [u8], at: usize, t: usize) -> usize
+    requires { ⌜ at + 512 < 2 ^ 62 ⌝ }
+    ensures { λ r. ⌜ Put (now (out .entry)) at (tbl-line t) (now (out .exit)) r ⌝ }
+{
+    let a = put_bytes(out, at, b"tbl; ");
+    let b = put_word(out, a, look_title(t));
+    put_line_end(out, b)
+}
+
+fn put_atr_line(out: &mut [u8], at: usize, t: usize) -> usize
+    requires { ⌜ at + 1024 < 2 ^ 62 ⌝ }
+    ensures { λ r. ⌜ Put (now (out .entry)) at (line "atr" (names t)) (now (out .exit)) r ⌝ }
+{
+    let n = find_width(t);
+    let mut o = put_bytes(out, at, b"atr");
+    let mut k = 0;
+    while k < n {
+        o = put_separator(out, o);
+        o = put_word(out, o, look_name(t, k));
+        k += 1;
+    }
+    put_line_end(out, o)
+}
+
+// "formats with the sizes above": of a column this asks for kind and size alone.
+fn put_format_of(out: &mut [u8], at: usize, t: usize, k: usize) -> usize
+    requires { ⌜ at + 32 < 2 ^ 62 ⌝ }
+    ensures { λ r. ⌜ Put (now (out .entry)) at (format-text (column-at t k)) (now (out .exit)) r ⌝ }
+{
+    let text = is_text(t, k);
+    let size = find_size(t, k);
+    put_format(
+        out,
+        at,
+        Column {
+            text: text,
+            lo: 0,
+            hi: 0,
+            size: size,
+            primary: false,
+            second: false,
+            fillable: false,
+        },
+    )
+}
+
+fn put_frm_line(out: &mut [u8], at: usize, t: usize) -> usize
+    requires { ⌜ at + 1024 < 2 ^ 62 ⌝ }
+    ensures { λ r. ⌜ Put (now (out .entry)) at (line "frm" (formats t)) (now (out .exit)) r ⌝ }
+{
+    let n = find_width(t);
+    let mut o = put_bytes(out, at, b"frm");
+    let mut k = 0;
+    while k < n {
+        o = put_separator(out, o);
+        o = put_format_of(out, o, t, k);
+        k += 1;
+    }
+    put_line_end(out, o)
+}
+
+pub fn put_table_head(out: &mut [u8], at: usize, t: usize) -> usize
+    requires { ⌜ at + 2048 < 2 ^ 62 ⌝ }
+    ensures { λ r. ⌜ Put (now (out .entry)) at (table-head (table-at t)) (now (out .exit)) r ⌝ }
+{
+    let a = put_tbl_line(out, at, t);
+    let b = put_atr_line(out, a, t);
+    put_frm_line(out, b, t)
+}

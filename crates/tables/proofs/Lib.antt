@@ -1,0 +1,4 @@
+pub mod ArrayLaws
+pub mod WordLaws
+pub mod ReferenceLaws
+pub mod ChoiceLaws

@@ -1,0 +1,24 @@
+use mathlib.Core.Path.{sym, ap}
+use borrow.Author.Needs.{needs}
+use lib.ListN.{length, List·getD-map}
+use Rattle.page.specs.Tables.{Table, all-tables, no-table, table-at, width, columns}
+use Rattle.page.proofs.TableLaws.{past-tables}
+use Rattle.tables.proofs.columns.find_width.Statement.{statement}
+use Rattle.tables.proofs.columns.find_width.Tie as tie
+
+mul-result : tie.Need-mul-result
+mul-result c = search needs
+
+array-read-result : tie.Need-array-read-result
+array-read-result c = search needs
+
+returns : tie.Need-returns
+unfolding width columns table-at all-tables
+returns c = List·getD-map (λ (x : Table). length (x .columns)) all-tables (c .before .args .t) no-table
+
+returns-2 : tie.Need-returns-2
+unfolding width columns
+returns-2 c = sym (ap (λ (x : Table). length (x .columns)) (past-tables _ (c .if1 .left)))
+
+pub find-width-spec : {M : Type 1} → statement M
+find-width-spec = tie.close (tie.spec mul-result array-read-result returns returns-2)

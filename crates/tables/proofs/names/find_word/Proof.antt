@@ -1,0 +1,34 @@
+use borrow.Author.Needs.{needs}
+use Rattle.page.specs.Bytes.{bytes, same}
+use Rattle.page.specs.Tables.{all-tables}
+use Rattle.page.specs.File.{any}
+use Rattle.tables.specs.Words.{column-names, once, words}
+use Rattle.tables.proofs.WordLaws.{starts, starts-from, reads-word, no-word}
+use Rattle.tables.proofs.names.find_word.Statement.{statement}
+use Rattle.tables.proofs.names.find_word.Tie as tie
+
+mul-t4 : tie.Need-mul-t4
+mul-t4 c = search needs
+
+array-read-t7 : tie.Need-array-read-t7
+array-read-t7 c = search needs
+
+add-t9 : tie.Need-add-t9
+add-t9 c = search needs
+
+mul-t10 : tie.Need-mul-t10
+mul-t10 c = search needs
+
+array-read-t13 : tie.Need-array-read-t13
+array-read-t13 c = search needs
+
+returns : tie.Need-returns
+unfolding starts starts-from words column-names once any all-tables bytes same
+returns c = reads-word (c .before .args .n) (c .if1 .taken)
+
+returns-2 : tie.Need-returns-2
+returns-2 c = no-word (c .before .args .n) (c .if1 .left)
+
+pub find-word-spec : {M : Type 1} → statement M
+find-word-spec =
+    tie.close (tie.spec mul-t4 array-read-t7 add-t9 mul-t10 array-read-t13 returns returns-2)

@@ -1,0 +1,21 @@
+use mathlib.Core.Path.{sym, ap}
+use borrow.Author.Needs.{needs}
+use Rattle.page.specs.Tables.{Table}
+use Rattle.page.proofs.TableLaws.{past-tables}
+use Rattle.tables.specs.Words.{words, word}
+use Rattle.tables.proofs.WordLaws.{title-word}
+use Rattle.tables.proofs.names.look_title.Statement.{statement}
+use Rattle.tables.proofs.names.look_title.Tie as tie
+
+add-result : tie.Need-add-result
+add-result c = search needs
+
+returns : tie.Need-returns
+returns c = title-word (c .before .args .t) (c .if1 .taken)
+
+returns-2 : tie.Need-returns-2
+unfolding word words
+returns-2 c = sym (ap (λ (x : Table). x .name) (past-tables (c .before .args .t) (c .if1 .left)))
+
+pub look-title-spec : {M : Type 1} → statement M
+look-title-spec = tie.close (tie.spec add-result returns returns-2)
