@@ -246,7 +246,7 @@ fn lost_line(s: &[u8], seats: Seats, i: usize) -> usize
     let seat = find_seat(seats, i);
     let from = seat.from;
     let to = seat.to;
-    if keys::count_references(seat.table) == 0 {
+    if tables::count_references(seat.table) == 0 {
         return 0;
     }
     let size = to - from;
