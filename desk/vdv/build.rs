@@ -2,21 +2,29 @@
 
 use std::env;
 use std::fs;
-use std::io::{self, ErrorKind};
 use std::path::{Path, PathBuf};
-use std::process::{exit, Command};
-use std::time::SystemTime;
+use std::process::{exit, Command, Stdio};
 
 /// A prebuilt archive, for a machine on which nothing can be proved.
 const GIVEN: &str = "VDV_ARCHIVE";
+
+/// What the archive is proved and built from.
+const SOURCES: [&str; 5] = [
+    "crates.txt",
+    "crates",
+    "desk/vdv/prove",
+    "desk/vdv/native",
+    "desk/vdv/include",
+];
 
 fn main() {
     println!("cargo:rerun-if-env-changed={GIVEN}");
     println!("cargo:rerun-if-changed=build.rs");
     let archive = match env::var(GIVEN) {
         Ok(path) => given(&path),
-        Err(_) => built(&Path::new(&wanted("CARGO_MANIFEST_DIR")).join("../..")),
+        Err(_) => proved(&Path::new(&wanted("CARGO_MANIFEST_DIR")).join("../..")),
     };
+    println!("cargo:rerun-if-changed={}", archive.display());
     // `rt ci` removes target/, so what is linked is a copy.
     let out = PathBuf::from(wanted("OUT_DIR"));
     if let Err(error) = fs::copy(&archive, out.join("libvdv.a")) {
@@ -36,7 +44,6 @@ fn refuse(why: &str) -> ! {
 }
 
 fn given(path: &str) -> PathBuf {
-    println!("cargo:rerun-if-changed={path}");
     let archive = PathBuf::from(path);
     if !archive.is_file() {
         refuse(&format!("{GIVEN} names {path}, and there is no such file"));
@@ -44,104 +51,36 @@ fn given(path: &str) -> PathBuf {
     archive
 }
 
-/// How the archive for a machine comes about, and where it lies.
-struct Way {
-    archive: &'static str,
-    sources: &'static [&'static str],
-    command: &'static str,
-    words: &'static [&'static str],
+/// The archive under target/, proved and built from the sources as they are.
+fn proved(root: &Path) -> PathBuf {
+    for source in SOURCES {
+        println!("cargo:rerun-if-changed={}", root.join(source).display());
+    }
+    let prove = root.join("desk/vdv/prove");
+    let run = Command::new(&prove)
+        .arg(machine())
+        .stderr(Stdio::inherit())
+        .output();
+    match run {
+        Ok(output) if output.status.success() => {
+            PathBuf::from(String::from_utf8_lossy(&output.stdout).trim_end())
+        }
+        Ok(_) => refuse("there is no proved archive to link"),
+        Err(error) => refuse(&format!("{}: {error}", prove.display())),
+    }
 }
-
-const X86_64: Way = Way {
-    archive: "target/staticlib/libvdv.a",
-    sources: &["crates.txt", "crates"],
-    command: "rt",
-    words: &["staticlib", "vdv"],
-};
 
 /// The kit builds archives for x86-64 alone.
-const AARCH64: Way = Way {
-    archive: "target/staticlib-aarch64/libvdv.a",
-    sources: &[
-        "crates.txt",
-        "crates",
-        "desk/vdv/native",
-        "desk/vdv/include",
-    ],
-    command: "desk/vdv/native/archive",
-    words: &[".", "target/staticlib-aarch64/libvdv.a"],
-};
-
-impl Way {
-    fn to_target() -> Way {
-        let names = ["CARGO_CFG_TARGET_ARCH", "CARGO_CFG_TARGET_OS"];
-        let [machine, system] = names.map(wanted);
-        let is_native = wanted("HOST") == wanted("TARGET");
-        match (machine.as_str(), system.as_str()) {
-            ("x86_64", "linux") => X86_64,
-            ("aarch64", "linux") if is_native => AARCH64,
-            _ => refuse(&format!(
-                "the library is proved and built for Linux on x86-64, and on an Arm machine for \
-                 itself, not for {system} on {machine}; name an archive for it in {GIVEN}"
-            )),
-        }
+fn machine() -> String {
+    let names = ["CARGO_CFG_TARGET_ARCH", "CARGO_CFG_TARGET_OS"];
+    let [machine, system] = names.map(wanted);
+    let is_native = wanted("HOST") == wanted("TARGET");
+    match (machine.as_str(), system.as_str()) {
+        ("x86_64", "linux") => machine,
+        ("aarch64", "linux") if is_native => machine,
+        _ => refuse(&format!(
+            "the library is proved and built for Linux on x86-64, and on an Arm machine for \
+             itself, not for {system} on {machine}; name an archive for it in {GIVEN}"
+        )),
     }
-
-    fn run(&self, root: &Path) {
-        let shown = [&[self.command], self.words].concat().join(" ");
-        let run = Command::new(self.command)
-            .args(self.words)
-            .current_dir(root)
-            .output();
-        match run {
-            Ok(output) if output.status.success() => {}
-            Ok(output) if output.status.code() == Some(NO_COMMAND) => lack_rt(),
-            Ok(output) => refuse(&format!(
-                "`{shown}` proved no archive:\n{}{}",
-                String::from_utf8_lossy(&output.stdout),
-                String::from_utf8_lossy(&output.stderr)
-            )),
-            Err(error) if error.kind() == ErrorKind::NotFound => lack_rt(),
-            Err(error) => refuse(&format!("`{shown}`: {error}")),
-        }
-    }
-}
-
-/// What a shell ends with that finds no such command.
-const NO_COMMAND: i32 = 127;
-
-fn lack_rt() -> ! {
-    refuse(&format!(
-        "`rt`, which proves and builds the library, is not on this machine; \
-         install Rattle, or name a built libvdv.a in {GIVEN}"
-    ))
-}
-
-/// The archive under target/, no older than what it is proved from.
-fn built(root: &Path) -> PathBuf {
-    let way = Way::to_target();
-    let archive = root.join(way.archive);
-    let mut latest = None;
-    for source in way.sources.iter().map(|source| root.join(source)) {
-        println!("cargo:rerun-if-changed={}", source.display());
-        latest = latest.max(newest(&source));
-    }
-    let written = changed(&archive).ok();
-    if written.is_none() || written < latest {
-        way.run(root);
-    }
-    archive
-}
-
-fn changed(path: &Path) -> io::Result<SystemTime> {
-    fs::metadata(path)?.modified()
-}
-
-fn newest(path: &Path) -> Option<SystemTime> {
-    let own = changed(path).ok();
-    let Ok(entries) = fs::read_dir(path) else {
-        return own;
-    };
-    let below = entries.flatten().filter_map(|entry| newest(&entry.path()));
-    below.chain(own).max()
 }

@@ -1,7 +1,8 @@
 //! The calls that are measured, each with room enough.
 
-use face::{all_rows, cells_of, Library, Refusal, Row, LIMIT};
+use compare::{all_rows, Library};
 use samples::large::EMPTY;
+use vdv::{cells_of, number, Refusal, Row, LIMIT};
 
 #[derive(Clone, Copy, Debug, PartialEq, Eq)]
 pub enum Call {
@@ -102,7 +103,7 @@ impl Prepared<'_> {
     /// table is handed out whatever the file's answer is.
     pub fn meant(&self, answer: u32) -> u32 {
         match self.call {
-            Call::Table => face::number::SOUND,
+            Call::Table => number::SOUND,
             _ => answer,
         }
     }

@@ -13,18 +13,18 @@ use std::process::ExitCode;
 use std::thread::available_parallelism;
 
 use calls::Call;
-use face::Library;
+use compare::{command_line, Library};
 use measure::{Measured, Measuring};
 use options::Options;
 use report::Report;
 use samples::large::{file, Shape};
 
 fn main() -> ExitCode {
-    ::options::run(bench)
+    command_line::run(bench)
 }
 
 fn bench(options: &Options) -> ExitCode {
-    let (subject, baseline) = (libraries::chosen().name(), libraries::baseline().name());
+    let (subject, baseline) = (compare::chosen().name(), compare::baseline().name());
     let cores = available_parallelism().map_or(1, |count| count.get());
     println!(
         "{subject} beside {baseline} on {ARCH}, {cores} cores: the best of {} runs over all sizes, of both\n\
@@ -41,7 +41,7 @@ fn bench(options: &Options) -> ExitCode {
 }
 
 fn bench_shape(options: &Options, shape: Shape) -> Result<(), String> {
-    let libraries = [libraries::chosen(), libraries::baseline()];
+    let libraries = [compare::chosen(), compare::baseline()];
     let sizes = options.sizes().into_iter();
     let files: Vec<_> = sizes
         .map(|size| (size, file(shape, (size as usize) << 20, 1)))

@@ -4,7 +4,7 @@
 use std::hint::black_box;
 use std::time::Duration;
 
-use face::Library;
+use compare::Library;
 
 use crate::calls::{Call, Prepared};
 use crate::{clock, stack};

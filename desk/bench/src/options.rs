@@ -1,7 +1,8 @@
 //! What is to be measured.
 
-use options::Value;
+use compare::command_line::{self, Value};
 use samples::large::{Order, Shape};
+use vdv::number;
 
 use crate::calls::{Call, ALL};
 
@@ -56,7 +57,7 @@ impl Default for Options {
     }
 }
 
-impl options::Options for Options {
+impl command_line::Options for Options {
     const PROGRAM: &'static str = "bench";
     const HELP: &'static str = HELP;
 
@@ -82,7 +83,7 @@ impl Options {
     /// A file that is refused is only read.
     pub fn calls(&self, shape: Shape) -> Vec<Call> {
         let calls = self.call.map_or(ALL.to_vec(), |call| vec![call]);
-        let is_sound = shape.answer() == face::number::SOUND;
+        let is_sound = shape.answer() == number::SOUND;
         let can_run = |call: &Call| is_sound || !call.puts_out();
         calls.into_iter().filter(can_run).collect()
     }
@@ -107,10 +108,10 @@ fn shape(name: &str) -> Result<Shape, String> {
 #[cfg(test)]
 mod tests {
     use super::*;
-    use options::Wish;
+    use compare::command_line::Wish;
 
     fn read(line: &str) -> Result<Options, String> {
-        match options::read(line.split_whitespace().map(str::to_owned))? {
+        match command_line::read(line.split_whitespace().map(str::to_owned))? {
             Wish::Run(options) => Ok(options),
             Wish::Help => Err("help".to_owned()),
         }

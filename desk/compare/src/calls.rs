@@ -2,15 +2,13 @@
 
 use std::fmt::{self, Debug, Display, Formatter};
 
-use face::{
-    all_rows, cells_of, own_bytes, value_in, width_of, At, Library, Listing, Refusal, Row, Value,
-    CELLS,
-};
 use samples::Random;
+use vdv::{cells_of, own_bytes, value_in, width_of, At, Listing, Refusal, Row, Value, CELLS};
 
 use crate::difference::{law, same, Difference};
 use crate::forms;
 use crate::lent::{lend, lend_all_ways, room};
+use crate::library::{all_rows, Library};
 use crate::tally::Tally;
 use crate::Pair;
 

@@ -2,16 +2,16 @@
 //! implementation's to the byte, and the one that is printed from what the
 //! file says by the subject's own calls.
 
-use face::{At, Library, Refusal};
 use samples::form::form;
 use samples::{texts, Model, Random};
+use vdv::{At, Refusal};
 
 use crate::calls::Call;
 use crate::difference::{law, Difference};
 use crate::lent::{lend, lend_all_ways};
 use crate::meaning::model_of;
 use crate::tally::Tally;
-use crate::Pair;
+use crate::{Library, Pair};
 
 /// Beside every place that can be filled: texts that are not empty, and fields
 /// that may not be filled or do not stand.

@@ -3,11 +3,11 @@
 
 use std::fmt::{Debug, Display};
 
-use face::{number, Library, Refusal, Row};
+use vdv::{number, Refusal, Row};
 
 use crate::difference::{law, same, Difference};
 use crate::tally::Tally;
-use crate::Pair;
+use crate::{Library, Pair};
 
 /// What lent room holds before the call, different at every place.
 pub trait Before: Copy + PartialEq + Debug {

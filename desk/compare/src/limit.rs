@@ -1,11 +1,12 @@
 //! What only large files reach: every call on a file of just the limit, 1 one
 //! byte beyond it, and 21 for a form longer than any file may be.
 
-use face::{all_rows, cells_of, number, At, Library, Refusal, LIMIT};
 use samples::large::{file, with_longer_source, without_spaces, Order, Shape, EMPTY};
+use vdv::{cells_of, number, At, Refusal, LIMIT};
 
 use crate::difference::{law, same, Difference};
 use crate::lent::{lend, room, Call};
+use crate::library::{all_rows, Library};
 use crate::tally::Tally;
 use crate::Pair;
 

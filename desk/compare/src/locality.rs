@@ -4,10 +4,11 @@
 
 use std::ops::Range;
 
-use face::{all_rows, own_bytes, table_cells, value_in, Library, Row, Span, Value, CELLS};
 use samples::{texts, Random};
+use vdv::{own_bytes, value_in, Row, Span, Value, CELLS};
 
 use crate::difference::{law, Difference};
+use crate::library::{all_rows, table_cells, Library};
 
 /// A file with a run of its lines replaced.
 pub struct Replaced {

@@ -3,16 +3,16 @@
 use std::io::{self, IsTerminal, Write};
 use std::process::ExitCode;
 
-use compare::{run, Options, Pair};
+use compare::{command_line, run, Options, Pair};
 
 fn main() -> ExitCode {
-    options::run(compare)
+    command_line::run(compare)
 }
 
 fn compare(options: &Options) -> ExitCode {
     let pair = Pair {
-        subject: libraries::chosen(),
-        baseline: libraries::baseline(),
+        subject: compare::chosen(),
+        baseline: compare::baseline(),
     };
     let (subject, baseline) = (pair.subject.name(), pair.baseline.name());
     println!("{subject} against {baseline}, seed {}", options.seed);

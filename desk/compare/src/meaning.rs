@@ -1,8 +1,10 @@
 //! What a sound file says by an implementation's own calls, put together as
 //! the model that the drawn files come with.
 
-use face::{all_rows, own_bytes, table_cells, tables, value_in, Library, Span, Value, CELLS};
 use samples::{Content, Datum, Heading, Model};
+use vdv::{own_bytes, tables, value_in, Span, Value, CELLS};
+
+use crate::library::{all_rows, table_cells, Library};
 
 /// None if a call refuses what the file's answer promised.
 pub fn model_of(library: &dyn Library, file: &[u8]) -> Option<Model> {

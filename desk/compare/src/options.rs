@@ -2,7 +2,7 @@
 
 use std::path::PathBuf;
 
-use options::Value;
+use crate::command_line::{self, Value};
 
 const HELP: &str = "\
 Compares two implementations call by call over drawn and damaged files.
@@ -44,7 +44,7 @@ impl Default for Options {
     }
 }
 
-impl options::Options for Options {
+impl command_line::Options for Options {
     const PROGRAM: &'static str = "compare";
     const HELP: &'static str = HELP;
 

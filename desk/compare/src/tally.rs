@@ -3,7 +3,7 @@
 
 use std::fmt::{self, Display, Formatter};
 
-use face::{number, Refusal};
+use vdv::{number, Refusal};
 
 const NUMBERS: usize = number::LAST as usize + 1;
 

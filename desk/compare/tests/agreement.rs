@@ -5,13 +5,13 @@ use std::fs;
 use std::path::{Path, PathBuf};
 
 use compare::{compare_file, run, Options, Pair, Tally};
-use face::number;
 use samples::Random;
+use vdv::number;
 
 fn pair() -> Pair<'static> {
     Pair {
-        subject: libraries::chosen(),
-        baseline: libraries::baseline(),
+        subject: compare::chosen(),
+        baseline: compare::baseline(),
     }
 }
 

@@ -3,9 +3,8 @@
 
 use std::path::Path;
 
-use compare::{run, Options, Pair};
-use face::{number, At, Header, Library, Owner, Refusal, Row, Value};
-use libraries::Plain;
+use compare::{all_rows, run, Library, Options, Pair, Plain};
+use vdv::{number, At, Header, Owner, Refusal, Row, Value};
 
 /// A right implementation but for one fault.
 struct Bent(Fault);
@@ -255,7 +254,7 @@ trait Sections {
 
 impl Sections for Plain {
     fn sections(&self, file: &[u8]) -> usize {
-        face::all_rows(self, file).map_or(0, |listing| listing.rows.len())
+        all_rows(self, file).map_or(0, |listing| listing.rows.len())
     }
 }
 

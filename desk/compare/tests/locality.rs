@@ -2,9 +2,9 @@
 //! replaced, and the tables outside it read the same.
 
 use compare::locality::{hold, replace_lines, Replaced};
-use face::{At, Header, Library, Refusal, Row, Value};
-use libraries::Plain;
+use compare::{Library, Plain};
 use samples::Random;
+use vdv::{At, Header, Refusal, Row, Value};
 
 /// Drawn files, sound and damaged, each with a run replaced.
 fn replaced(library: &dyn Library, count: u64) -> Vec<(Vec<u8>, Replaced)> {
@@ -22,7 +22,7 @@ fn replaced(library: &dyn Library, count: u64) -> Vec<(Vec<u8>, Replaced)> {
 
 #[test]
 fn tables_outside_the_run_read_the_same() {
-    let library = libraries::chosen();
+    let library = compare::chosen();
     let mut kept = 0;
     let files = replaced(library, 1_500);
     assert!(files.len() > 1_000);

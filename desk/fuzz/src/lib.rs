@@ -27,8 +27,8 @@ pub unsafe extern "C" fn LLVMFuzzerTestOneInput(file: *const u8, length: usize) 
 
 fn compare(file: &[u8]) -> Result<(), Difference> {
     let pair = Pair {
-        subject: libraries::chosen(),
-        baseline: libraries::baseline(),
+        subject: compare::chosen(),
+        baseline: compare::baseline(),
     };
     let mut random = Random::new(drawn_from(file));
     compare_file(pair, &mut Tally::default(), &mut random, file)?;

@@ -2,8 +2,8 @@
 
 use std::ffi::{OsStr, OsString};
 
-use face::tables::{self, Table};
-use face::At;
+use vdv::tables::{self, Table};
+use vdv::At;
 
 use crate::help::Topic;
 use crate::input::Source;

@@ -85,8 +85,8 @@ pub fn of(topic: Topic) -> String {
     format!("usage: {}\n\n{}", topic.usage(), topic.body())
 }
 
-pub fn version(library: &str) -> String {
-    format!("nhachudep {}, on {library}\n", env!("CARGO_PKG_VERSION"))
+pub fn version() -> String {
+    format!("nhachudep {}\n", env!("CARGO_PKG_VERSION"))
 }
 
 const TOOL: &str = "\

@@ -6,7 +6,7 @@ use std::fs::File;
 use std::io::{self, Read};
 use std::path::PathBuf;
 
-use face::LIMIT;
+use vdv::LIMIT;
 
 use crate::trouble::Trouble;
 

@@ -45,11 +45,10 @@ fn main() -> ExitCode {
 }
 
 fn run(outlets: &mut Outlets<'_>) -> Result<Outcome, Trouble> {
-    let library = libraries::chosen();
     match Wish::read(std::env::args_os().skip(1))? {
         Wish::Help(topic) => outlets.print(&help::of(topic))?,
-        Wish::Version => outlets.print(&help::version(library.name()))?,
-        Wish::Run(order) => return commands::run(library, &order, outlets),
+        Wish::Version => outlets.print(&help::version())?,
+        Wish::Run(order) => return commands::run(&order, outlets),
     }
     Ok(Outcome::Fine)
 }

@@ -3,7 +3,7 @@
 
 use std::ops::Range;
 
-use face::{all_rows, number, tables, Library, Refusal};
+use vdv::{all_rows, number, tables, Refusal};
 
 use crate::latin::{shown, width};
 use crate::lines::{command, first_with, header_lines, line_from, lines_of, Shown};
@@ -22,12 +22,12 @@ pub struct Picture {
 }
 
 impl Picture {
-    pub fn of(library: &dyn Library, file: &[u8], refusal: Refusal) -> Picture {
+    pub fn of(file: &[u8], refusal: Refusal) -> Picture {
         let mut notes = Vec::new();
-        let found = line_of(library, file, refusal);
-        let lost = Lost::of(library, file, refusal);
+        let found = line_of(file, refusal);
+        let lost = Lost::of(file, refusal);
         let line = found.map(|found| {
-            let mut line = read_line(library, file, refusal, found.content);
+            let mut line = read_line(file, refusal, found.content);
             line.lost = lost.as_ref().map_or(&[], |lost| lost.reference.fields);
             if line.has_odd_quotes() {
                 notes.push("its quotes do not pair: one is missing or too many".to_owned());
@@ -37,8 +37,8 @@ impl Picture {
         });
         notes.extend(match Part::of(refusal) {
             Part::Header => missing_in_header(file, refusal.line),
-            Part::Trailer => count_in_trailer(library, file, refusal.line),
-            Part::Section => missing_end(library, file, refusal),
+            Part::Trailer => count_in_trailer(file, refusal.line),
+            Part::Section => missing_end(file, refusal),
             Part::Nothing => None,
         });
         notes.extend(lost.map(|lost| lost.sentence()));
@@ -63,28 +63,23 @@ impl Picture {
     }
 }
 
-fn line_of<'f>(library: &dyn Library, file: &'f [u8], refusal: Refusal) -> Option<Shown<'f>> {
+fn line_of<'f>(file: &'f [u8], refusal: Refusal) -> Option<Shown<'f>> {
     let place = match Part::of(refusal) {
         Part::Header => 0,
         Part::Trailer => first_with(file, &[b"eof"])?,
-        Part::Section => library.section(file, refusal.section).ok()?.place,
+        Part::Section => vdv::section(file, refusal.section).ok()?.place,
         Part::Nothing => return None,
     };
     line_from(file, place, refusal.line)
 }
 
-fn read_line<'f>(
-    library: &dyn Library,
-    file: &[u8],
-    refusal: Refusal,
-    content: &'f [u8],
-) -> Line<'f> {
-    let row = library.section(file, refusal.section);
+fn read_line<'f>(file: &[u8], refusal: Refusal, content: &'f [u8]) -> Line<'f> {
+    let row = vdv::section(file, refusal.section);
     Line {
         content,
         number: refusal.number,
         table: row.ok().and_then(|row| tables::numbered(row.table)),
-        latin: library.header(file).is_ok_and(|header| header.latin),
+        latin: vdv::header(file).is_ok_and(|header| header.latin),
         lost: &[],
     }
 }
@@ -127,11 +122,11 @@ fn missing_in_header(file: &[u8], line: usize) -> Option<String> {
     (!missing.is_empty()).then(|| format!("missing in the header: {}", missing.join(", ")))
 }
 
-fn count_in_trailer(library: &dyn Library, file: &[u8], line: usize) -> Option<String> {
+fn count_in_trailer(file: &[u8], line: usize) -> Option<String> {
     match line {
         0 => Some("no `eof` line stands".to_owned()),
         1 => {
-            let count = all_rows(library, file).ok()?.rows.len();
+            let count = all_rows(file).ok()?.rows.len();
             Some(format!("`tbl` lines in the file: {count}"))
         }
         _ => Some("only blank lines may follow `eof`".to_owned()),
@@ -139,11 +134,11 @@ fn count_in_trailer(library: &dyn Library, file: &[u8], line: usize) -> Option<S
 }
 
 /// "section ends without `end` (place: its last line ..)".
-fn missing_end(library: &dyn Library, file: &[u8], refusal: Refusal) -> Option<String> {
+fn missing_end(file: &[u8], refusal: Refusal) -> Option<String> {
     if refusal.number != number::ORDER {
         return None;
     }
-    let row = library.section(file, refusal.section).ok()?;
+    let row = vdv::section(file, refusal.section).ok()?;
     let lines = lines_of(row.span().of(file));
     let has_end = lines.iter().any(|line| command(line) == Some(b"end"));
     let is_last = lines.len() == refusal.line;

@@ -3,8 +3,8 @@
 
 use std::ops::Range;
 
-use face::number;
-use face::tables::{Column, Kind, Table};
+use vdv::number;
+use vdv::tables::{Column, Kind, Table};
 
 use crate::lines::{command, fields};
 
@@ -169,7 +169,7 @@ fn takes_format(column: &Column, format: &[u8]) -> bool {
 #[cfg(test)]
 mod tests {
     use super::*;
-    use face::tables;
+    use vdv::tables;
 
     fn pointed(content: &[u8], number: u32, table: u32) -> Vec<&[u8]> {
         let line = Line {

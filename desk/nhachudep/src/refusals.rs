@@ -1,6 +1,6 @@
 //! Refusals as people and machines read them.
 
-use face::{number, Library, Refusal};
+use vdv::{number, Refusal};
 
 use crate::input::Source;
 use crate::json::Json;
@@ -64,16 +64,10 @@ pub fn members(source: &Source, refusal: Refusal) -> Vec<(&'static str, Json)> {
 }
 
 /// A refusal on standard error, with the line it speaks of.
-pub fn tell(
-    outlets: &mut Outlets<'_>,
-    library: &dyn Library,
-    source: &Source,
-    file: &[u8],
-    refusal: Refusal,
-) {
+pub fn tell(outlets: &mut Outlets<'_>, source: &Source, file: &[u8], refusal: Refusal) {
     let paint = outlets.paint_err;
     let words = paint.tone(Tone::Refused, sentence(refusal));
-    let picture = Picture::of(library, file, refusal);
+    let picture = Picture::of(file, refusal);
     outlets.note(&format_args!(
         "{source}: {words}\n{}",
         picture.painted(paint)

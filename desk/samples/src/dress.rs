@@ -1,7 +1,7 @@
 //! A model put into lines, in one of the many dresses document 01 allows:
 //! spaces, blank lines, comments, line ends, zeros, forms of the date.
 
-use face::Owner;
+use vdv::Owner;
 
 use crate::form::{clock, dotted, quoted, slashed};
 use crate::model::{Content, Datum, Heading, Model, Record};

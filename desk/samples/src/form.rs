@@ -1,7 +1,7 @@
 //! The written form of what a file says, printed line by line from document
 //! 01's section "The written file".
 
-use face::{Date, Owner, Time};
+use vdv::{Date, Owner, Time};
 
 use crate::model::{Content, Datum, Heading, Model, Record};
 

@@ -1,7 +1,7 @@
 //! Large files of a given number of bytes, to measure with and for the limit.
 
-use face::tables::{Table, CALENDAR, DAY_TYPES, LINKS, POINT_TYPES, TIMES, VALIDITY, VERSIONS};
-use face::{number, At};
+use vdv::tables::{Table, CALENDAR, DAY_TYPES, LINKS, POINT_TYPES, TIMES, VALIDITY, VERSIONS};
+use vdv::{number, At};
 
 use crate::form::form;
 use crate::meaning::{self, PARENTS_FIRST};

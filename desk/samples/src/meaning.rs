@@ -2,11 +2,11 @@
 
 use std::collections::BTreeSet;
 
-use face::tables::{
+use vdv::tables::{
     Column, Kind, Table, ALL, CALENDAR, DAY_TYPES, LINKS, POINT_TYPES, TIMES, TRIP_TYPES, VALIDITY,
     VERSIONS,
 };
-use face::{Date, Owner, Time};
+use vdv::{Date, Owner, Time};
 
 use crate::model::{Content, Datum, Heading, Model, Record};
 use crate::random::Random;

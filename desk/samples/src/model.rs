@@ -1,7 +1,7 @@
 //! What a file says: header values, and tables with their records.
 
-use face::tables::Table;
-use face::{At, Date, Owner, Time};
+use vdv::tables::Table;
+use vdv::{At, Date, Owner, Time};
 
 #[derive(Clone, Debug, PartialEq, Eq)]
 pub struct Model {

@@ -1,8 +1,8 @@
 //! Large files: sound up to the limit, refused one byte beyond.
 
-use face::LIMIT;
 use reader::{check, list, write, Answer};
 use samples::large::{file, Order, Shape, EMPTY, SOUND};
+use vdv::LIMIT;
 
 #[test]
 fn large_files_are_sound() {

@@ -1,9 +1,9 @@
 //! Every drawn file is sound, and the reader finds in it what was meant.
 
-use face::{At, Owner};
 use reader::{Charset, Value};
 use samples::form::form;
 use samples::{Content, Datum, Heading, Model, Random, Record, Sample};
+use vdv::{At, Owner};
 
 const FILES: u64 = 2_500;
 
@@ -45,12 +45,12 @@ fn header_values_are_the_meant_ones() {
         let text = |text: reader::Text<'_>| text.undone().into_owned();
         let found = Heading {
             source: text(header.source),
-            date: face::Date {
+            date: vdv::Date {
                 year: header.date.year.into(),
                 month: header.date.month.into(),
                 day: header.date.day.into(),
             },
-            time: face::Time {
+            time: vdv::Time {
                 hour: header.time.hour.into(),
                 minute: header.time.minute.into(),
                 second: header.time.second.into(),
@@ -81,7 +81,7 @@ fn datum(value: Value<'_>) -> Datum {
 fn contents(file: &[u8]) -> Vec<Content> {
     let read = |section| {
         let view = reader::table(file, section).unwrap();
-        let table = face::tables::named(view.name.as_bytes()).unwrap();
+        let table = vdv::tables::named(view.name.as_bytes()).unwrap();
         assert_eq!(table.number, u32::from(view.number));
         let records = view.records.iter();
         let records = records.map(|r| r.values().map(datum).collect::<Record>());

@@ -3,9 +3,9 @@
 
 use std::collections::BTreeMap;
 
-use face::number;
 use samples::damage::{self, ALL};
 use samples::Random;
+use vdv::number;
 
 /// How many of the drawn sound files show something.
 fn share(shows: impl Fn(&samples::Sample, &[u8]) -> bool) -> usize {
@@ -54,7 +54,7 @@ fn lone_feed(pair: &[u8]) -> bool {
 
 #[test]
 fn every_table_has_records_and_suggestions() {
-    for table in face::tables::ALL {
+    for table in vdv::tables::ALL {
         let of_table = |sample: &samples::Sample| {
             let tables = sample.model.tables.iter();
             let mut found = tables.filter(|content| content.table == table);

@@ -2,7 +2,7 @@
 //! as `include/vdv.h` and as the exported functions of `crates/vdv`, for no
 //! tool compares them.
 
-use face::{Refusal, Row};
+use crate::{Refusal, Row};
 
 #[repr(C)]
 #[derive(Clone, Copy)]

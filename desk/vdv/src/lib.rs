@@ -22,9 +22,16 @@
 //! assert_eq!(owner, vdv::Owner::Suggestion);
 //! ```
 
+mod ample;
+mod answers;
 mod boundary;
+pub mod number;
+pub mod tables;
 
-pub use face::{number, value_in, At, Date, Header, Owner, Refusal, Row, Span, Time, Value, CELLS};
+pub use ample::{all_rows, cells_of, form_of, listing_of, table_cells, width_of, Listing};
+pub use answers::{
+    own_bytes, value_in, At, Date, Header, Owner, Refusal, Row, Span, Time, Value, CELLS, LIMIT,
+};
 
 use boundary::{HeaderAnswer, ValueAnswer};
 

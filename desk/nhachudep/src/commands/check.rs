@@ -1,6 +1,6 @@
 //! `check`: is each file sound?
 
-use face::number;
+use vdv::{number, Refusal};
 
 use super::Work;
 use crate::input::Source;
@@ -39,7 +39,7 @@ fn check_one(work: &mut Work<'_, '_>, source: &Source) -> Result<Outcome, Troubl
             return Ok(Outcome::Unread);
         }
     };
-    let answer = work.library.check(&file);
+    let answer = vdv::check(&file).err().unwrap_or(Refusal::SOUND);
     clear_progress(work);
     if work.json {
         let object = Json::Object(refusals::members(source, answer));
@@ -49,7 +49,7 @@ fn check_one(work: &mut Work<'_, '_>, source: &Source) -> Result<Outcome, Troubl
         work.outlets.print(&format_args!("{source}: {words}\n"))?;
     } else {
         work.outlets.flush()?;
-        refusals::tell(work.outlets, work.library, source, &file, answer);
+        refusals::tell(work.outlets, source, &file, answer);
     }
     Ok(Outcome::of(answer.is_sound()))
 }

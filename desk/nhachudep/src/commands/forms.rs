@@ -1,6 +1,6 @@
 //! `write`, `fill`, `strip`: forms put out.
 
-use face::{form_of, number, Refusal};
+use vdv::{form_of, number, Refusal};
 
 use super::Work;
 use crate::arguments::Change;
@@ -19,7 +19,7 @@ pub fn put_out(
 ) -> Result<Outcome, Trouble> {
     let target = target(source, destination)?;
     let file = source.read()?;
-    let form = match form(work, &file, change) {
+    let form = match form(&file, change) {
         Ok(form) => form,
         Err(refusal) => {
             refuse(work, source, &file, change, refusal)?;
@@ -41,13 +41,12 @@ pub fn put_out(
     Ok(Outcome::Fine)
 }
 
-fn form(work: &Work<'_, '_>, file: &[u8], change: &Change) -> Result<Vec<u8>, Refusal> {
-    let library = work.library;
+fn form(file: &[u8], change: &Change) -> Result<Vec<u8>, Refusal> {
     form_of(|out| match change {
-        Change::None => library.write(file, out),
-        Change::Strip => library.strip(file, out),
+        Change::None => vdv::write(file, out),
+        Change::Strip => vdv::strip(file, out),
         Change::Fill(at, text) => {
-            let filled = library.fill(file, *at, &text.bytes, out);
+            let filled = vdv::fill(file, *at, &text.bytes, out);
             // The byte in a foreign character's stead is allowed nowhere.
             match text.foreign {
                 Some(_) => filled.and(Err(Refusal::placeless(number::BYTE))),
@@ -68,10 +67,10 @@ fn refuse(
         let object = Json::Object(refusals::members(source, refusal));
         return work.outlets.print(&format_args!("{object}\n"));
     }
-    refusals::tell(work.outlets, work.library, source, file, refusal);
+    refusals::tell(work.outlets, source, file, refusal);
     if let Change::Fill(_, text) = change {
         if refusal == Refusal::placeless(number::BYTE) {
-            let latin = work.library.header(file).is_ok_and(|header| header.latin);
+            let latin = vdv::header(file).is_ok_and(|header| header.latin);
             let note = what_is_not_allowed(text, latin);
             work.outlets.note(&format_args!("       = {note}\n"));
         }

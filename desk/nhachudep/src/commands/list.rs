@@ -1,6 +1,6 @@
 //! `list`: a file's header and sections.
 
-use face::{all_rows, number, own_bytes, tables, Header, Refusal, Row, Span};
+use vdv::{all_rows, number, own_bytes, tables, Header, Refusal, Row, Span};
 
 use super::Work;
 use crate::columns::{Cell, Sheet, Side};
@@ -13,8 +13,8 @@ use crate::trouble::{Outcome, Trouble};
 
 pub fn list(work: &mut Work<'_, '_>, source: &Source) -> Result<Outcome, Trouble> {
     let file = source.read()?;
-    let header = work.library.header(&file).ok();
-    let (rows, answer) = match all_rows(work.library, &file) {
+    let header = vdv::header(&file).ok();
+    let (rows, answer) = match all_rows(&file) {
         Ok(listing) => (listing.rows, listing.answer),
         Err(refusal) => (Vec::new(), refusal),
     };
@@ -40,7 +40,7 @@ pub fn tell_refusal(
 ) -> Result<(), Trouble> {
     work.outlets.flush()?;
     if !answer.is_sound() {
-        refusals::tell(work.outlets, work.library, source, file, answer);
+        refusals::tell(work.outlets, source, file, answer);
     }
     Ok(())
 }

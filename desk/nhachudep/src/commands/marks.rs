@@ -1,7 +1,7 @@
 //! `marks`: "Show me which of these sentences are ours."
 
-use face::tables::Table;
-use face::{all_rows, own_bytes, Span, Value};
+use vdv::tables::Table;
+use vdv::{all_rows, own_bytes, Span, Value};
 
 use super::list::{tell_refusal, verdict};
 use super::show::{is_ours, read_sections, Section};
@@ -31,11 +31,11 @@ struct Sentence {
 
 pub fn marks(work: &mut Work<'_, '_>, source: &Source) -> Result<Outcome, Trouble> {
     let file = source.read()?;
-    let (rows, answer) = match all_rows(work.library, &file) {
+    let (rows, answer) = match all_rows(&file) {
         Ok(listing) => (listing.rows, listing.answer),
         Err(refusal) => (Vec::new(), refusal),
     };
-    let sections = read_sections(work, &file, &rows, None)?;
+    let sections = read_sections(&file, &rows, None)?;
     let mut lines = LineCount::new(&file);
     let ours: Vec<Sentence> = sections
         .iter()

@@ -6,26 +6,18 @@ mod list;
 mod marks;
 mod show;
 
-use face::Library;
-
 use crate::arguments::{Command, Order};
 use crate::outlets::Outlets;
 use crate::trouble::{Outcome, Trouble};
 
-/// A command at work: its library, its outlets, and how it answers.
+/// A command at work: its outlets, and how it answers.
 pub struct Work<'a, 'o> {
-    pub library: &'a dyn Library,
     pub outlets: &'a mut Outlets<'o>,
     pub json: bool,
 }
 
-pub fn run(
-    library: &dyn Library,
-    order: &Order,
-    outlets: &mut Outlets<'_>,
-) -> Result<Outcome, Trouble> {
+pub fn run(order: &Order, outlets: &mut Outlets<'_>) -> Result<Outcome, Trouble> {
     let mut work = Work {
-        library,
         outlets,
         json: order.json,
     };

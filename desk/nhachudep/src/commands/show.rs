@@ -1,7 +1,7 @@
 //! `show`: the records of a file's tables.
 
-use face::tables::{self, Table};
-use face::{all_rows, own_bytes, table_cells, value_in, Owner, Row, Span, Value, CELLS};
+use vdv::tables::{self, Table};
+use vdv::{all_rows, own_bytes, table_cells, value_in, Owner, Row, Span, Value, CELLS};
 
 use super::list::{tell_refusal, verdict};
 use super::Work;
@@ -37,7 +37,6 @@ impl Section {
 
 /// Sections of a file with their values, those of one table if it is named.
 pub fn read_sections(
-    work: &Work<'_, '_>,
     file: &[u8],
     rows: &[Row],
     table: Option<&Table>,
@@ -47,7 +46,7 @@ pub fn read_sections(
     for (index, row) in rows.iter().enumerate().filter(|(_, row)| wanted(row)) {
         let number = index + 1;
         let cells = match row.is_sound() {
-            true => table_cells(work.library, file, number, *row),
+            true => table_cells(file, number, *row),
             false => Ok(Vec::new()),
         };
         let cells = cells.map_err(|refusal| Trouble::System(refusals::sentence(refusal)))?;
@@ -66,11 +65,11 @@ pub fn show(
     table: Option<&'static Table>,
 ) -> Result<Outcome, Trouble> {
     let file = source.read()?;
-    let (rows, answer) = match all_rows(work.library, &file) {
+    let (rows, answer) = match all_rows(&file) {
         Ok(listing) => (listing.rows, listing.answer),
         Err(refusal) => (Vec::new(), refusal),
     };
-    let sections = read_sections(work, &file, &rows, table)?;
+    let sections = read_sections(&file, &rows, table)?;
     let is_missing = table.is_some() && sections.is_empty();
     if work.json {
         let mut members = refusals::members(source, answer);

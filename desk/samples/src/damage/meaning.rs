@@ -1,8 +1,8 @@
 //! Damage to what a file says: keys, references, points, ranges. Counts stay
 //! right, so that the file breaks this rule and no other.
 
-use face::tables::{Kind, Table, DAY_TYPES, LINKS, POINT_TYPES, VERSIONS};
-use face::Owner;
+use vdv::tables::{Kind, Table, DAY_TYPES, LINKS, POINT_TYPES, VERSIONS};
+use vdv::Owner;
 
 use crate::model::{Datum, Model, Record};
 use crate::random::Random;

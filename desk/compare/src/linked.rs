@@ -1,6 +1,8 @@
-//! The proved library behind the face.
+//! The proved library behind the trait.
 
-use face::{At, Header, Library, Refusal, Row, Value};
+use vdv::{At, Header, Refusal, Row, Value};
+
+use crate::Library;
 
 pub struct Linked;
 

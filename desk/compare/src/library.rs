@@ -1,16 +1,7 @@
-//! The public functions for VDV 451 planning files, as one trait. Everything
-//! at the desk that is not itself a reader is written over it, so that the
-//! proved library and the independent reader stand behind the same calls.
+//! The compared calls as one trait, so that the proved library and the
+//! independent reader stand behind the same ones.
 
-mod answers;
-mod calls;
-pub mod number;
-pub mod tables;
-
-pub use answers::{
-    own_bytes, value_in, At, Date, Header, Owner, Refusal, Row, Span, Time, Value, CELLS, LIMIT,
-};
-pub use calls::{all_rows, cells_of, form_of, table_cells, width_of, Listing};
+use vdv::{cells_of, listing_of, number, At, Header, Listing, Refusal, Row, Value};
 
 /// One implementation. No call keeps anything of the file; what is lent keeps
 /// its values wherever nothing is promised to be written.
@@ -51,4 +42,28 @@ pub trait Library: Sync {
 
     /// The written form without suggestions.
     fn strip(&self, file: &[u8], out: &mut [u8]) -> Result<usize, Refusal>;
+}
+
+/// Every row of a file, unless 1 or 2 refuses.
+pub fn all_rows(library: &dyn Library, file: &[u8]) -> Result<Listing, Refusal> {
+    listing_of(file, |file, rows| {
+        let answer = library.list(file, rows);
+        match answer.number {
+            number::FILE_TOO_LONG | number::HEADER | number::NO_ROOM => Err(answer),
+            _ => Ok(answer),
+        }
+    })
+}
+
+/// Every cell of a section whose row is known.
+pub fn table_cells(
+    library: &dyn Library,
+    file: &[u8],
+    section: usize,
+    row: Row,
+) -> Result<Vec<u64>, Refusal> {
+    let mut cells = vec![0; cells_of(row)];
+    let length = library.table(file, section, &mut cells)?;
+    cells.truncate(length);
+    Ok(cells)
 }

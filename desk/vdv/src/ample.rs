@@ -1,6 +1,6 @@
 //! Calls made with as much room as they need.
 
-use crate::{number, tables, Library, Refusal, Row, CELLS, LIMIT};
+use crate::{list, number, table, tables, Refusal, Row, CELLS, LIMIT};
 
 /// Rows lent at first; a sound file has eight at most.
 const FIRST_ROWS: usize = 16;
@@ -12,23 +12,40 @@ pub struct Listing {
     pub answer: Refusal,
 }
 
-/// Every row of a file, unless 1 or 2 refuses. A section has at least the four
-/// bytes of `tbl;`, so that the rows written are those with a length.
-pub fn all_rows(library: &dyn Library, file: &[u8]) -> Result<Listing, Refusal> {
+/// Every row of a file, unless 1 or 2 refuses.
+///
+/// ```
+/// let file = b"mod; DD.MM.YYYY; HH:MM:SS; free\n\
+///     src; \"\"; \"01.02.2024\"; \"06:00:00\"\n\
+///     chs; \"ASCII\"\nver; \"1\"\nifv; \"1.0\"\n\
+///     tbl; NOWHERE\ntbl; NOWHERE\n";
+/// let listing = vdv::all_rows(file).unwrap();
+/// assert_eq!(listing.rows.len(), 2);
+/// assert_eq!(listing.answer.number, vdv::number::TRAILER);
+/// ```
+pub fn all_rows(file: &[u8]) -> Result<Listing, Refusal> {
+    listing_of(file, list)
+}
+
+/// What a listing call says of a file, lent as many rows as it asks for. A
+/// section has at least the four bytes of `tbl;`, so that the rows written are
+/// those with a length.
+pub fn listing_of(
+    file: &[u8],
+    list: impl Fn(&[u8], &mut [Row]) -> Result<Refusal, Refusal>,
+) -> Result<Listing, Refusal> {
     let mut rows = vec![Row::default(); FIRST_ROWS];
     loop {
-        let answer = library.list(file, &mut rows);
-        match answer.number {
-            number::FILE_TOO_LONG | number::HEADER => return Err(answer),
-            number::NO_ROOM if rows.len() <= file.len() => {
-                rows.resize(rows.len() * 8, Row::default());
-            }
-            number::NO_ROOM => return Err(answer),
-            _ => {
+        match list(file, &mut rows) {
+            Ok(answer) => {
                 let count = rows.iter().take_while(|row| row.length > 0).count();
                 rows.truncate(count);
                 return Ok(Listing { rows, answer });
             }
+            Err(refusal) if refusal.number == number::NO_ROOM && rows.len() <= file.len() => {
+                rows.resize(rows.len() * 8, Row::default());
+            }
+            Err(refusal) => return Err(refusal),
         }
     }
 }
@@ -44,14 +61,9 @@ pub fn cells_of(row: Row) -> usize {
 }
 
 /// Every cell of a section whose row is known.
-pub fn table_cells(
-    library: &dyn Library,
-    file: &[u8],
-    section: usize,
-    row: Row,
-) -> Result<Vec<u64>, Refusal> {
+pub fn table_cells(file: &[u8], section: usize, row: Row) -> Result<Vec<u64>, Refusal> {
     let mut cells = vec![0; cells_of(row)];
-    let length = library.table(file, section, &mut cells)?;
+    let length = table(file, section, &mut cells)?;
     cells.truncate(length);
     Ok(cells)
 }

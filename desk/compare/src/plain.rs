@@ -1,6 +1,8 @@
-//! The independent reader behind the face.
+//! The independent reader behind the trait.
 
-use face::{number, At, Date, Header, Library, Owner, Refusal, Row, Span, Time, Value, CELLS};
+use vdv::{number, At, Date, Header, Owner, Refusal, Row, Span, Time, Value, CELLS};
+
+use crate::Library;
 
 pub struct Plain;
 
