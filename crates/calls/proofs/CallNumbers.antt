@@ -34,11 +34,11 @@ use Rattle.laws.proofs.Decides.{Decides, holds, fails, one-of, below}
 use Rattle.laws.proofs.Tests.{is-d}
 use Rattle.verdicts.proofs.Headers.{header-refused-exactly, header-settled}
 use Rattle.grammar.proofs.Refuses.{refuses-exactly, refused-ranged, section-settled}
-use Rattle.round.proofs.RoundKeys.{earlier-none}
 use Rattle.verdicts.proofs.Numbers.{exactly-section}
 use Rattle.calls.proofs.PromisesListing.{header-told, file-ranged}
 use Rattle.calls.proofs.CallAnswers.{some-number, written-exactly, handed-exactly, got-exactly, listed-exactly, checked-exactly}
 use Rattle.calls.proofs.Turns.{earlier-exactly, turned, via, second, outside-d, within-not, not-within}
+use Rattle.laws.proofs.Earlier.{earlier-none}
 
 -- what the header and the file never answer
 

@@ -52,10 +52,10 @@ use Rattle.grammar.proofs.Readings.{handed-denoted}
 use Rattle.grammar.proofs.Counts.{count-handed}
 use Rattle.laws.proofs.Sections.{sections-begin}
 use Rattle.grammar.proofs.Marks.{pass-marks, quiet-marks, mark-marks, record-marks, pass-at, quiet-at, mark-at, rec-at, owner-handed}
-use Rattle.round.proofs.RoundKeys.{earlier-none}
 use Rattle.calls.proofs.CallAnswers.{as-written, handed-is}
 use Rattle.calls.proofs.CallNumbers.{Given, IsText, value-given}
 use Rattle.calls.proofs.PromisesHanding.{text-put}
+use Rattle.laws.proofs.Earlier.{earlier-none}
 
 -- where a record's fields stand among the bytes
 

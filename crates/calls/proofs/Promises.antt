@@ -26,7 +26,7 @@ use Rattle.page.specs.declared.Written.{Written}
 use Rattle.page.specs.declared.Written.the-variants as W
 use Rattle.page.specs.declared.Row.{Row}
 use Rattle.calls.specs.Promises.{Kept, Checks, ReadsHeader, ReadsSection, ReadsValue, Lists, Writes, Strips, Fills}
-use Rattle.laws.proofs.WrittenScans.{or-false}
+use Rattle.page.proofs.TestLaws.{neither}
 
 one-answer : {A : Type 0} {x r q : A} → r ≡ x → q ≡ x → r ≡ q
 one-answer p q = p ∙ sym q
@@ -103,7 +103,7 @@ done-put r form out n e = by (eqb (r .number) 0) (ltb (length out) (length form)
         written (pick a (refuse-if b 21) r) (length form) ≡ W.Length n → Done r form out n
     by true true h k e = absurd (false≢true (cc))
     by true false h k e =
-        let z = or-false (ltb (length out) (length form)) (ltb limit (length form)) k in
+        let z = neither (ltb (length out) (length form)) (ltb limit (length form)) k in
         let f : length form ≤ length out = ltb-false (length out) (length form) (z .0) in
         let w : put-after r form out ≡ form ++ drop (length form) out = rw (h, k) in
         record {

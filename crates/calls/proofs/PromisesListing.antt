@@ -24,7 +24,8 @@ use Rattle.page.specs.declared.Finding.{Finding}
 use Rattle.round.specs.RoundKeys.{again, breaks}
 use Rattle.verdicts.proofs.Headers.{header-settled}
 use Rattle.grammar.proofs.Refuses.{verdict-ranged}
-use Rattle.round.proofs.RoundKeys.{breaks-number, again-number, earlier-none}
+use Rattle.round.proofs.RoundKeys.{breaks-number, again-number}
+use Rattle.laws.proofs.Earlier.{earlier-none}
 
 -- a number that the sections, the keys and the trailer give
 abbrev Ranged : ℕ → Type 0

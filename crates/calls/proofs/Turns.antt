@@ -14,8 +14,8 @@ use Rattle.page.specs.Reading.{outside}
 use Rattle.page.specs.Rules.{Every, none-left, one-more}
 use Rattle.page.specs.declared.Refusal.{Refusal}
 use Rattle.calls.specs.Turns.{Question, ask, first-refusal, Turn, now, next, Outside, Within}
-use Rattle.laws.proofs.WrittenScans.{or-false}
 use Rattle.laws.proofs.Decides.{Decides, holds, fails, one-of, equal, below}
+use Rattle.page.proofs.TestLaws.{neither}
 
 -- no question gives 0
 abbrev pub Numbered : List Question → Type 0
@@ -63,8 +63,8 @@ after-exactly a v z other {qs} n = (λ e. into (earlier-exactly a (first-refusal
 -- none of these questions gives v
 pub absent : {v : ℕ} {qs : List Question} → any (λ (q : Question). eqb (q .number) v) qs ≡ false → ¬ Turn v qs
 unfolding any
-absent {v} e (now {qs}) = eqb-false v v (or-false (eqb v v) (any (λ (q : Question). eqb (q .number) v) qs) e .0) refl
-absent {v} e (next {n} {qs} t) = absent (or-false (eqb n v) (any (λ (q : Question). eqb (q .number) v) qs) e .1) t
+absent {v} e (now {qs}) = eqb-false v v (neither (eqb v v) (any (λ (q : Question). eqb (q .number) v) qs) e .0) refl
+absent {v} e (next {n} {qs} t) = absent (neither (eqb n v) (any (λ (q : Question). eqb (q .number) v) qs) e .1) t
 
 -- the turn of the first question; of a later one, for which the first must not refuse. Of a question asked the other way round too
 

@@ -66,7 +66,7 @@ fn read_value(w: &[u8], p: usize, e: usize, at: usize, m: u64, t: usize, k: usiz
     if kinds[k] {
         return Value::Words(Text {
             from: at + (a + 1),
-            to: at + values::one_less(b),
+            to: at + lines::one_less(b),
             owner: values::owner_of(m, k + 1),
         });
     }

@@ -32,7 +32,7 @@ fn put_records(cells: &mut [u64], s: &[u8], from: usize, t: usize) -> usize
         let l = c.line(s);
         let e = l.span.to;
         c = l.next;
-        if values::is_record(&s[at..e]) {
+        if commands::is_record(&s[at..e]) {
             let p = values::place_fields(s, at, e, m);
             let a = p.from;
             let b = p.to;
@@ -61,7 +61,7 @@ fn hand_table(file: &[u8], section: usize, at: usize, cells: &mut [u64]) -> Writ
             line: row.line,
         });
     }
-    let t = sections::table_at(file, at);
+    let t = names::table_at(file, at);
     let n = find_width(t) * 3;
     if cells.len() < row.records * n {
         return Written::Refused(sections::refuse_with(21));

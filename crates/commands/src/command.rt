@@ -2,7 +2,8 @@
 ghost use mathlib.Core.Path.{_≡_};
 ghost use mathlib.Core.Bool.{true};
 ghost use Prim.Native.Nat.{_<_};
-ghost use Rattle.page.specs.Lines.{find, known, Mod, command, clean};
+ghost use lib.Dec.{eqb};
+ghost use Rattle.page.specs.Lines.{content, find, known, Mod, Rec, command, clean};
 ghost use Rattle.page.specs.Cut.{begins-table, begins-end};
 ghost use Rattle.commands.specs.Commands.{key-of, find-key, Set};
 use lines::all_allowed;
@@ -159,4 +160,10 @@ pub fn begins_end(l: &[u8]) -> bool
         return set_command(c) == EOF;
     }
     seek_command(c) == EOF
+}
+
+pub fn is_record(l: &[u8]) -> bool
+    ensures { λ r. ⌜ r ≡ eqb (command (content (now (l .entry)))) Rec ⌝ }
+{
+    command_of(content_of(l)) == REC
 }

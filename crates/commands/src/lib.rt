@@ -22,6 +22,7 @@ pub use command::begins_end;
 pub use command::begins_table;
 pub use command::command_of;
 pub use command::is_clean;
+pub use command::is_record;
 pub use fields::count_fields;
 pub use fields::field_at;
 pub use fields::field_end;

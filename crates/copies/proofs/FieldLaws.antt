@@ -14,7 +14,7 @@ use Rattle.page.specs.Bytes.{Bytes, bytes, pick}
 use Rattle.page.specs.Fields.{numberOf}
 use Rattle.page.specs.Tables.{Named, all-tables, no-column, standing, column-at, width}
 use Rattle.page.specs.Marks.{owner-of}
-use Rattle.page.specs.Section.{record-text, text-field, fieldOf, field-number, first-wrong, rec-verdict, amount}
+use Rattle.page.specs.Section.{record-text, text-field, fieldOf, field-number, first-wrong, amount}
 use Rattle.page.specs.Records.{number, words, own-bytes, datumOf}
 use Rattle.page.specs.Model.{strip-datum}
 use Rattle.page.specs.Form.{doubled, quoted, decimal, datum-text, mark-line}
@@ -172,12 +172,3 @@ none-wrong t k h w r ws e z = by (eqb (field-number (fieldOf (column-at t k) w))
     by : (b : Bool) → eqb v 0 ≡ b → (v ≡ 0) × (first-wrong (drop (k + 1) (standing t)) r ≡ 0)
     by true q = let n = eqb-true v 0 q in (n, sym (wrong-more t k h w r ws e v refl n) ∙ z)
     by false q = let n = eqb-false v 0 q in absurd (n (sym (wrong-hit t k h w r ws e v refl n) ∙ z))
-
-pub passed-wrong : (t m : ℕ) (fs : List Bytes) → rec-verdict t m fs ≡ 0 → first-wrong (standing t) fs ≡ 0
-unfolding rec-verdict
-passed-wrong t m fs e = by (eqb (length fs) (width t)) (eqb (first-wrong (standing t) fs) 0) refl refl
-  where
-    by : (a b : Bool) → eqb (length fs) (width t) ≡ a → eqb (first-wrong (standing t) fs) 0 ≡ b → first-wrong (standing t) fs ≡ 0
-    by a true x y = eqb-true (first-wrong (standing t) fs) 0 y
-    by true false x y = rw (x, y) at e
-    by false false x y = absurd (let z : _≡_ {A = ℕ} 10 0 = rw x at e in omega arith)

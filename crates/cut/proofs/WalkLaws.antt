@@ -8,11 +8,11 @@ use lib.ListN.{length, take, drop, length-append, length-drop}
 use lib.Seq.{drop-drop}
 use Rattle.page.specs.Bytes.{Bytes, pick}
 use Rattle.page.specs.Lines.{lines, joined}
-use Rattle.page.specs.Cut.{begins-table, begins-end, a-table, Cut, put, cut, header-lines}
+use Rattle.page.specs.Cut.{begins-table, begins-end, Cut, cut, header-lines}
 use Rattle.page.proofs.ScanLaws.{part-length}
 use Rattle.page.proofs.PartLaws.{part-rest}
 use Rattle.page.proofs.LineLaws.{line-size, line-in, cut-at, lines-end, run-within, run-lines}
-use Rattle.page.proofs.CutLaws.{flat, cut-whole, cut-step, front-size, sections-from, sections-table, sections-trailer, sections-more, sections-skip, cut-skip}
+use Rattle.page.proofs.CutLaws.{flat, cut-whole, front-size, sections-from, sections-table, sections-trailer, sections-more, sections-skip}
 use Rattle.cut.specs.Walk.{section-size, section-from, next-table, Settled}
 
 -- at a place, whose line ends at e
@@ -53,11 +53,6 @@ module _ (s : Bytes) (at e : ℕ) (h : at < length s) (q : e ≡ at + line-size 
   section-lines = rw (sym run-long) (run-lines (drop at s) [] (l ∷ after .front) (flat (after .pieces)) whole)
 
   module _ (b : begins-table l ≡ true) where
-    pub pieces-table : cut (lines (drop at s)) .pieces
-        ≡ a-table (lines (take (section-size (drop at s)) (drop at s))) ∷ cut (lines (drop (at + section-size (drop at s)) s)) .pieces
-    unfolding put
-    pieces-table = rw (cut-step s at e h q, section-lines, ends-at, cut-skip s e, b)
-
     section-met : sections-from s at ≡ section-from s at ∷ sections-from s (at + section-size (drop at s))
     unfolding section-from
     section-met = sections-table s at e h q b ∙ rw (section-lines, ends-at, sections-skip s e)

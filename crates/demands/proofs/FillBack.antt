@@ -24,14 +24,14 @@ use Rattle.page.specs.declared.Owner.the-variants as O
 use Rattle.round.specs.Round.{a-suggestion, FitAll, no-value, a-value, SoundRecord, SoundContent, SoundModel}
 use Rattle.round.specs.RoundKeys.{KeysHold}
 use Rattle.demands.specs.RoundAlike.{Pairs, no-pair, a-pair, Alike, alike-none, alike-same, alike-text, AlikeContent}
-use Rattle.laws.proofs.WrittenScans.{and-l, and-r, or-false}
 use Rattle.grammar.proofs.Counts.{count-handed}
 use Rattle.round.proofs.RoundRecords.{width-back}
-use Rattle.round.proofs.RoundKeys.{earlier-none}
 use Rattle.round.proofs.RoundForm.{form-model, form-sound}
 use Rattle.demands.proofs.RoundAlike.{only-texts, settled, keys-alike, sound-alike, alike-self}
 use Rattle.round.proofs.Round.{accepted-model, accepted-keys}
 use Rattle.demands.proofs.Fill.{no-content, fill-here, fill-other-section, fill-other-record, fill-other-field}
+use Rattle.page.proofs.TestLaws.{and-left, and-right, neither}
+use Rattle.laws.proofs.Earlier.{earlier-none}
 
 -- what a refusal that does not refuse says
 open-if : (b : Bool) (v : ℕ) → ¬ (v ≡ 0) → refuse-if b v .number ≡ 0 → b ≡ false
@@ -42,7 +42,7 @@ open-if false v n h = refl
 inside : (i n : ℕ) → outside i n ≡ false → (0 < i) × (i ≤ n)
 unfolding outside
 inside i n h =
-    let z = or-false (eqb i 0) (ltb n i) h in
+    let z = neither (eqb i 0) (ltb n i) h in
     let p : 0 < i = some i (eqb-false i 0 (z .0)) in
     (p, ltb-false n i (z .1))
   where
@@ -99,11 +99,11 @@ module _ (latin : Bool) (t : Bytes) (some : 0 < length t) (small : length t ≤ 
   fill-fit no-value h k e = no-value
   fill-fit (a-value {c} {cs} f fs) h zero e =
       let x : (c .column .text && leb 40 (c .column .hi)) ≡ true =
-      filled (c .column .fillable) (c .column .text && leb 40 (c .column .hi)) e (and-l (not (c .column .fillable) || (c .column .text && leb 40 (c .column .hi))) (only-texts cs) h) in
-      let z : length t ≤ c .column .hi = omega (arith, leb-true 40 (c .column .hi) (and-r (c .column .text) (leb 40 (c .column .hi)) x)) in
-      a-value (a-suggestion (and-l (c .column .text) (leb 40 (c .column .hi)) x) e some z ok) fs
+      filled (c .column .fillable) (c .column .text && leb 40 (c .column .hi)) e (and-left (not (c .column .fillable) || (c .column .text && leb 40 (c .column .hi))) (only-texts cs) h) in
+      let z : length t ≤ c .column .hi = omega (arith, leb-true 40 (c .column .hi) (and-right (c .column .text) (leb 40 (c .column .hi)) x)) in
+      a-value (a-suggestion (and-left (c .column .text) (leb 40 (c .column .hi)) x) e some z ok) fs
   fill-fit (a-value {c} {cs} f fs) h (suc k) e =
-      a-value f (fill-fit fs (and-r (not (c .column .fillable) || (c .column .text && leb 40 (c .column .hi))) (only-texts cs) h) k e)
+      a-value f (fill-fit fs (and-right (not (c .column .fillable) || (c .column .text && leb 40 (c .column .hi))) (only-texts cs) h) k e)
 
   fill-alike : {cs : List Named} {vs : Record} → FitAll latin cs vs → (k : ℕ) → getD cs k no-column .column .fillable ≡ true → Alike cs vs (change given k vs)
   unfolding change
@@ -176,8 +176,8 @@ module _ (s : Bytes) (i r f : ℕ) (t : Bytes) (h : fill-refusal s i r f t .numb
   places : (0 < i) × (i ≤ length (sections s)) × (0 < r) × (r ≤ row-at s i .records) × (0 < f) × (f ≤ width the-table)
   unfolding fill-place
   places =
-      let a = or-false (outside i (length (sections s)) || outside r (row-at s i .records)) (outside f (width the-table)) (all-open .place) in
-      let b = or-false (outside i (length (sections s))) (outside r (row-at s i .records)) (a .0) in
+      let a = neither (outside i (length (sections s)) || outside r (row-at s i .records)) (outside f (width the-table)) (all-open .place) in
+      let b = neither (outside i (length (sections s))) (outside r (row-at s i .records)) (a .0) in
       let x = inside i (length (sections s)) (b .0) in
       let y = inside r (row-at s i .records) (b .1) in
       let z = inside f (width the-table) (a .1) in

@@ -23,10 +23,11 @@ use Rattle.demands.specs.Lexical as Lexical
 use Rattle.demands.specs.Lexical.{Digits, one-digit, Decimal, Numeral, plain, minus-zero, below-zero, Shortest, Format, MarkText}
 use Rattle.laws.proofs.Decides.{fact, tested}
 use Rattle.laws.proofs.Tests.{same-d}
-use Rattle.laws.proofs.WrittenScans.{and-l, and-r, all-append}
+use Rattle.laws.proofs.WrittenScans.{all-append}
 use Rattle.round.proofs.WrittenNumbers.{digit-of, value-last}
 use Rattle.round.proofs.WrittenTexts.{text-exactly}
 use Rattle.round.proofs.WrittenLines.{all-at}
+use Rattle.page.proofs.TestLaws.{and-left, and-right}
 
 -- digits and what they are worth
 
@@ -34,11 +35,11 @@ digits-more : {a : Bytes} {n : ℕ} → Digits a n → (b : Bytes) → all digit
 unfolding all value
 digits-more {a} d [] h = rw (append-nil a) d
 digits-more {a} {n} d (b ∷ bs) h =
-    let r = digit-range b (and-l (digit b) (all digit bs) h) in
+    let r = digit-range b (and-left (digit b) (all digit bs) h) in
     let z : 48 + (b - 48) ≡ b = omega (arith, r) in
     let w : 10 * n + (b - 48) ≡ n * 10 + (b - 48) = omega arith in
     let e : Digits (a ++ (b ∷ [])) (n * 10 + (b - 48)) = rw (z, w) at (one-digit (b - 48) d (omega (arith, r))) in
-    rw (append-assoc a (b ∷ []) bs) at (digits-more e bs (and-r (digit b) (all digit bs) h))
+    rw (append-assoc a (b ∷ []) bs) at (digits-more e bs (and-right (digit b) (all digit bs) h))
 
 digits-back : {ds : Bytes} {n : ℕ} → Digits ds n → (all digit ds ≡ true) × (value 0 ds ≡ n)
 unfolding all value
@@ -154,8 +155,8 @@ shortest-exactly ds n = (into, back)
     into : ((digits ds && not (eqb (getD ds 0 0) 48)) ≡ true) × (value 0 ds ≡ n) → Shortest ds n
     into h =
         record {
-          decimal = decimal-exactly ds n .0 (and-l (digits ds) (not (eqb (getD ds 0 0) 48)) (h .0), h .1);
-          leads = eqb-false (getD ds 0 0) 48 (not-true (eqb (getD ds 0 0) 48) (and-r (digits ds) (not (eqb (getD ds 0 0) 48)) (h .0)));
+          decimal = decimal-exactly ds n .0 (and-left (digits ds) (not (eqb (getD ds 0 0) 48)) (h .0), h .1);
+          leads = eqb-false (getD ds 0 0) 48 (not-true (eqb (getD ds 0 0) 48) (and-right (digits ds) (not (eqb (getD ds 0 0) 48)) (h .0)));
         }
 
     back : Shortest ds n → ((digits ds && not (eqb (getD ds 0 0) 48)) ≡ true) × (value 0 ds ≡ n)
@@ -166,7 +167,7 @@ until-past : (ds tail : Bytes) → all digit ds ≡ true → digit (getD tail 0 
 unfolding until all
 until-past [] [] a t s = absurd (omega arith)
 until-past [] (c ∷ tail) a t s = rw t
-until-past (b ∷ ds) tail a t s = rw (and-l (digit b) (all digit ds) a, until-past ds tail (and-r (digit b) (all digit ds) a) t s)
+until-past (b ∷ ds) tail a t s = rw (and-left (digit b) (all digit ds) a, until-past ds tail (and-right (digit b) (all digit ds) a) t s)
 
 module _ (name tail : Bytes) (stops : digit (getD tail 0 0) ≡ false) (some : 0 < length tail) where
   formed-into : (w : Bytes) → formed name tail w ≡ true → Format name tail w
@@ -175,11 +176,11 @@ module _ (name tail : Bytes) (stops : digit (getD tail 0 0) ≡ false) (some : 0
       let v = drop (length name) w in
       let k = until no-digit v in
       let ds = take k v in
-      let a : (same (take (length name) w) name && size-ok ds) ≡ true = and-l (same (take (length name) w) name && size-ok ds) (same (drop (length name + k) w) tail) h in
-      let e : take (length name) w ≡ name = fact (same-d (take (length name) w) name) (and-l (same (take (length name) w) name) (size-ok ds) a) in
-      let t : drop (length name + k) w ≡ tail = fact (same-d (drop (length name + k) w) tail) (and-r (same (take (length name) w) name && size-ok ds) (same (drop (length name + k) w) tail) h) in
-      let o : size-ok ds ≡ true = and-r (same (take (length name) w) name) (size-ok ds) a in
-      let s : Shortest ds (value 0 ds) = shortest-exactly ds (value 0 ds) .0 (and-l (digits ds && not (eqb (getD ds 0 0) 48)) (leb (value 0 ds) 255) o, refl) in
+      let a : (same (take (length name) w) name && size-ok ds) ≡ true = and-left (same (take (length name) w) name && size-ok ds) (same (drop (length name + k) w) tail) h in
+      let e : take (length name) w ≡ name = fact (same-d (take (length name) w) name) (and-left (same (take (length name) w) name) (size-ok ds) a) in
+      let t : drop (length name + k) w ≡ tail = fact (same-d (drop (length name + k) w) tail) (and-right (same (take (length name) w) name && size-ok ds) (same (drop (length name + k) w) tail) h) in
+      let o : size-ok ds ≡ true = and-right (same (take (length name) w) name) (size-ok ds) a in
+      let s : Shortest ds (value 0 ds) = shortest-exactly ds (value 0 ds) .0 (and-left (digits ds && not (eqb (getD ds 0 0) 48)) (leb (value 0 ds) 255) o, refl) in
       let d : drop k v ≡ tail = drop-drop k (length name) w ∙ t in
       record {
         digits = ds;
@@ -187,7 +188,7 @@ module _ (name tail : Bytes) (stops : digit (getD tail 0 0) ≡ false) (some : 0
         whole = sym (take-append-drop (length name) w) ∙ (ap (λ (z : Bytes). z ++ v) e ∙ ap (λ (z : Bytes). name ++ z) (sym (take-append-drop k v) ∙ ap (λ (z : Bytes). ds ++ z) d));
         reads = s;
         from-one = shortest-some ds (value 0 ds) s;
-        small = leb-true (value 0 ds) 255 (and-r (digits ds && not (eqb (getD ds 0 0) 48)) (leb (value 0 ds) 255) o);
+        small = leb-true (value 0 ds) 255 (and-right (digits ds && not (eqb (getD ds 0 0) 48)) (leb (value 0 ds) 255) o);
       }
 
   formed-back : (w : Bytes) → Format name tail w → formed name tail w ≡ true

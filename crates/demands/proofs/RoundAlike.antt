@@ -14,7 +14,7 @@ use Rattle.page.specs.declared.Column.{Column}
 use Rattle.round.specs.Round.{Fits, a-number, FitAll, no-value, a-value, amount-of, amount-in, points-alike, SoundRecord}
 use Rattle.round.specs.RoundKeys.{breaks, placeless, filed-content, KeysHold}
 use Rattle.demands.specs.RoundAlike.{Pairs, no-pair, a-pair, Alike, alike-none, alike-same, alike-text, AlikeContent}
-use Rattle.laws.proofs.WrittenScans.{and-l, and-r}
+use Rattle.page.proofs.TestLaws.{and-left, and-right}
 
 -- of the columns that may be marked: none is of a key or a reference, and each is a text of at least 40 bytes
 
@@ -61,11 +61,11 @@ unless false b e h = absurd (false≢true e)
 key-alike : (p : Column → Bool) {cs : List Named} {vs us : Record} → free-of p cs ≡ true → Alike cs vs us → key-in p cs vs ≡ key-in p cs us
 unfolding key-in free-of
 key-alike p h alike-none = refl
-key-alike p h (alike-same {c} {cs} {v} {vs} {us} a) = rw (key-alike p (and-r (not (c .column .fillable && p (c .column))) (free-of p cs) h) a)
+key-alike p h (alike-same {c} {cs} {v} {vs} {us} a) = rw (key-alike p (and-right (not (c .column .fillable && p (c .column))) (free-of p cs) h) a)
 key-alike p h (alike-text {c} {cs} {v} {u} {vs} {us} f a) =
     let q : p (c .column) ≡ false =
-    unless (c .column .fillable) (p (c .column)) f (not-true (c .column .fillable && p (c .column)) (and-l (not (c .column .fillable && p (c .column))) (free-of p cs) h)) in
-    rw q (key-alike p (and-r (not (c .column .fillable && p (c .column))) (free-of p cs) h) a)
+    unless (c .column .fillable) (p (c .column)) f (not-true (c .column .fillable && p (c .column)) (and-left (not (c .column .fillable && p (c .column))) (free-of p cs) h)) in
+    rw q (key-alike p (and-right (not (c .column .fillable && p (c .column))) (free-of p cs) h) a)
 
 value-alike : {cs : List Named} {vs us : Record} (k : ℕ) → getD cs k no-column .column .fillable ≡ false → Alike cs vs us → getD vs k (number 0) ≡ getD us k (number 0)
 value-alike k h alike-none = refl
@@ -79,8 +79,8 @@ unfolding referred no-text-at
 referred-alike [] h a = refl
 referred-alike {cs} (k ∷ ks) h a =
     rw (
-      value-alike k (not-true (getD cs k no-column .column .fillable) (and-l (not (getD cs k no-column .column .fillable)) (no-text-at cs ks) h)) a,
-      referred-alike ks (and-r (not (getD cs k no-column .column .fillable)) (no-text-at cs ks) h) a,
+      value-alike k (not-true (getD cs k no-column .column .fillable) (and-left (not (getD cs k no-column .column .fillable)) (no-text-at cs ks) h)) a,
+      referred-alike ks (and-right (not (getD cs k no-column .column .fillable)) (no-text-at cs ks) h) a,
     )
 
 -- records with their tables
@@ -120,8 +120,8 @@ module _ {ds es : List Filed} (ps : Pairs AlikeFiled ds es) (d e : Filed) (a : A
   references-alike [] h = refl
   references-alike (r ∷ rs) h =
       rw (
-        meets-alike r (and-l (no-text-at (columns (d .table)) (r .columns)) (refers-past (columns (d .table)) rs) h),
-        references-alike rs (and-r (no-text-at (columns (d .table)) (r .columns)) (refers-past (columns (d .table)) rs) h),
+        meets-alike r (and-left (no-text-at (columns (d .table)) (r .columns)) (refers-past (columns (d .table)) rs) h),
+        references-alike rs (and-right (no-text-at (columns (d .table)) (r .columns)) (refers-past (columns (d .table)) rs) h),
       )
 
 lost-alike : {ds es : List Filed} → Pairs AlikeFiled ds es → (d e : Filed) → AlikeFiled d e → lost ds d ≡ lost es e
@@ -172,7 +172,7 @@ text-amount latin c (number n) e (a-number k l h) = absurd (false≢true (sym k 
 text-amount latin c (words o t) e f = refl
 
 fillable-text : (c : Column) (a b : Bool) → c .fillable ≡ true → ((not (c .fillable) || (a && b)) ≡ true) → a ≡ true
-fillable-text c a b f h = and-l a b (rw f at h)
+fillable-text c a b f h = and-left a b (rw f at h)
 
 amount-alike : (latin : Bool) {cs : List Named} {vs us : Record} → only-texts cs ≡ true → FitAll latin cs vs → FitAll latin cs us → Alike cs vs us → (k : ℕ) → amount-in vs k ≡ amount-in us k
 unfolding amount-in only-texts
@@ -181,12 +181,12 @@ amount-alike latin h (a-value f fs) (a-value g gs) (alike-same a) zero = refl
 amount-alike latin h (a-value {c} {cs} {v} f fs) (a-value {v = u} g gs) (alike-text e a) zero =
     let t : c .column .text ≡ true =
     fillable-text (c .column) (c .column .text) (leb 40 (c .column .hi)) e
-    (and-l (not (c .column .fillable) || (c .column .text && leb 40 (c .column .hi))) (only-texts cs) h) in
+    (and-left (not (c .column .fillable) || (c .column .text && leb 40 (c .column .hi))) (only-texts cs) h) in
     text-amount latin (c .column) v t f ∙ sym (text-amount latin (c .column) u t g)
 amount-alike latin h (a-value {c} {cs} f fs) (a-value g gs) (alike-same a) (suc k) =
-    amount-alike latin (and-r (not (c .column .fillable) || (c .column .text && leb 40 (c .column .hi))) (only-texts cs) h) fs gs a k
+    amount-alike latin (and-right (not (c .column .fillable) || (c .column .text && leb 40 (c .column .hi))) (only-texts cs) h) fs gs a k
 amount-alike latin h (a-value {c} {cs} f fs) (a-value g gs) (alike-text e a) (suc k) =
-    amount-alike latin (and-r (not (c .column .fillable) || (c .column .text && leb 40 (c .column .hi))) (only-texts cs) h) fs gs a k
+    amount-alike latin (and-right (not (c .column .fillable) || (c .column .text && leb 40 (c .column .hi))) (only-texts cs) h) fs gs a k
 
 -- a record that fits and is like one that may be said may be said
 pub sound-alike : (latin : Bool) (t : ℕ) {vs us : Record} → SoundRecord latin t vs → FitAll latin (columns t) us → Alike (columns t) vs us → SoundRecord latin t us

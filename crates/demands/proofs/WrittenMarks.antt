@@ -25,7 +25,6 @@ use Rattle.page.specs.declared.Owner.the-variants as O
 use Rattle.round.specs.Round.{PrintedIf, SoundHead, SoundRecord, SoundContent, SoundModel}
 use Rattle.demands.specs.WrittenMarks.{rec-line, record-at, Directly, Suggests, MarkAndRecord, Behind}
 use Rattle.round.proofs.WrittenNumbers.{decimal-all}
-use Rattle.round.proofs.WrittenTexts.{text-quoted}
 use Rattle.round.proofs.WrittenLines.{commands, Seen}
 use Rattle.round.proofs.RoundRecords.{tame, Owned, no-owner, of-number, of-words, width-back}
 use Rattle.round.proofs.RoundSteps.{mark-lines, Marked, unmarked, marked, marks-back, end-seen, rec-seen}
@@ -38,6 +37,7 @@ use Rattle.verdicts.proofs.Splits.{map-mem}
 use Rattle.demands.proofs.Strip.{strip-none, strip-number}
 use Rattle.demands.proofs.StripBack.{strip-sound}
 use Rattle.demands.proofs.FillBack.{filled-sound, fill-field, fill-put}
+use Rattle.page.proofs.TextLaws.{quoted-text}
 
 -- whose a text is, by the mark that waits
 
@@ -65,7 +65,7 @@ unfolding quoted all digit
 quoted-no-number n t e = false≢true (ap (all digit) (sym e) ∙ decimal-all n)
 
 quoted-once : (t u : Bytes) → quoted t ≡ quoted u → t ≡ u
-quoted-once t u e = let z : some t ≡ some u = sym (text-quoted t) ∙ (ap textOf e ∙ text-quoted u) in cc
+quoted-once t u e = let z : some t ≡ some u = sym (quoted-text t) ∙ (ap textOf e ∙ quoted-text u) in cc
 
 -- the value that the mark speaks of
 owned-at : {m i : ℕ} {vs : Record} → Owned m i vs → (j : ℕ) (t : Bytes) → getD (map datum-text vs) j [] ≡ quoted t → m ≡ i + j → getD vs j (number 0) ≡ words O.Suggestion t

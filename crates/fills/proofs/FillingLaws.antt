@@ -27,19 +27,19 @@ use Rattle.page.specs.declared.Value.{Value}
 use Rattle.page.proofs.LineLaws.{line-size}
 use Rattle.page.proofs.ScanLaws.{part-length}
 use Rattle.calls.specs.Handed.{StandsFor, a-number, a-text}
-use Rattle.round.proofs.RoundKeys.{earlier-none}
 use Rattle.round.proofs.Round.{accepted-sections}
 use Rattle.calls.proofs.CallNumbers.{value-given}
 use Rattle.calls.proofs.Handed.{value-says}
 use Rattle.cut.specs.Walk.{section-from}
 use Rattle.sections.specs.Located.{Begins}
 use Rattle.values.proofs.ValueLaws.{inside}
-use Rattle.sections.proofs.AnswerLaws.{table-from}
+use Rattle.names.proofs.TitleLaws.{table-from}
 use Rattle.handing.specs.Own.{Spans}
 use Rattle.handing.proofs.PassLaws.{every-at}
 use Rattle.handing.proofs.TextLaws.{value-spans}
 use Rattle.fills.specs.Filling.{empty-value, text-number, fill-number}
 use Rattle.recording.proofs.SectionLaws.{table-first}
+use Rattle.laws.proofs.Earlier.{earlier-none}
 
 -- the table that the section's first line names
 table-here : (s : Bytes) (at : ℕ) → at < length s → table-of (lines (drop at s)) ≡ table-of (section-from s at .lines)

@@ -1,6 +1,6 @@
 -- A fill that nothing refuses names a field of an accepted file, and a text of at most 40 bytes. Assumes nothing.
 use mathlib.Core.Path.{_≡_, refl, ap, sym, _∙_}
-use mathlib.Core.Bool.{Bool, true, false, not, _||_, false≢true}
+use mathlib.Core.Bool.{Bool, true, false, not, _||_}
 use Prim.Native.Nat.{ℕ, suc, _-_, _<_, _≤_}
 use native.Mathlib.Omega.{arith}
 use borrow.Author.Tests.{eqb-false, ltb-false}
@@ -20,19 +20,12 @@ use Rattle.page.specs.Form.{formOf}
 use Rattle.page.specs.Writing.{empty-datum, fill-place, fill-refusal, fill-form, fillOf, fill-after}
 use Rattle.page.specs.declared.Refusal.{Refusal}
 use Rattle.page.specs.declared.Written.{Written}
-use Rattle.round.proofs.RoundKeys.{earlier-none}
 use Rattle.output.specs.Put.{Wrote}
 use Rattle.copies.specs.Changed.{changed-model}
 use Rattle.forms.proofs.ModelLaws.{one-filled}
 use Rattle.forms.proofs.FormLaws.{wrote-as}
-
-or-left : (a b : Bool) → (a || b) ≡ false → a ≡ false
-or-left true b e = absurd (false≢true (sym e))
-or-left false b e = refl
-
-or-right : (a b : Bool) → (a || b) ≡ false → b ≡ false
-or-right true b e = absurd (false≢true (sym e))
-or-right false b e = e
+use Rattle.page.proofs.TestLaws.{neither}
+use Rattle.laws.proofs.Earlier.{earlier-none}
 
 unrefused : (b : Bool) (v : ℕ) → refuse-if b (suc v) .number ≡ 0 → b ≡ false
 unfolding refuse-if
@@ -41,7 +34,7 @@ unrefused false v e = refl
 
 named : (i n : ℕ) → outside i n ≡ false → 0 < i
 unfolding outside
-named i n e = let z = eqb-false i 0 (or-left (eqb i 0) (ltb n i) e) in omega arith
+named i n e = let z = eqb-false i 0 (neither (eqb i 0) (ltb n i) e .0) in omega arith
 
 module _ (s : Bytes) (i r f : ℕ) (t : Bytes) where
   abbrev last : Refusal
@@ -84,9 +77,9 @@ module _ (s : Bytes) (i r f : ℕ) (t : Bytes) where
       let p = unrefused (fill-place s i r f) 23 (b .0) in
       record {
         file = a .0;
-        section = named i (length (sections s)) (or-left x y (or-left (x || y) z p));
-        entry = named r (row-at s i .records) (or-right x y (or-left (x || y) z p));
-        field = named f (width (table-of (section-at s i .lines))) (or-right (x || y) z p);
+        section = named i (length (sections s)) (neither x y (neither (x || y) z p .0) .0);
+        entry = named r (row-at s i .records) (neither x y (neither (x || y) z p .0) .1);
+        field = named f (width (table-of (section-at s i .lines))) (neither (x || y) z p .1);
         size = ltb-false 40 (length t) (unrefused (ltb 40 (length t)) 12 (g .1));
       }
 

@@ -29,12 +29,12 @@ use Rattle.output.proofs.FormLaws.{decimal-length, quoted-length}
 use Rattle.frames.proofs.LineLaws.{line-end-length, one-field-length, line-with-is, mark-length}
 use Rattle.frames.proofs.TitleLaws.{table-head-length}
 use Rattle.round.specs.Round.{Fits, a-number, a-text, a-suggestion, FitAll, no-value, a-value, SoundRecord, SoundContent}
-use Rattle.round.proofs.RoundKeys.{earlier-none}
 use Rattle.round.proofs.Round.{accepted-model}
 use Rattle.recording.specs.Said.{rows-of, said, said-in}
 use Rattle.copies.specs.Changed.{changed-datum, changed-values, changed-records, changed-content, changed-tables}
 use Rattle.copies.proofs.FieldLaws.{text-narrow}
 use Rattle.forms.proofs.SoundLaws.{accepted-said}
+use Rattle.laws.proofs.Earlier.{earlier-none}
 
 -- a value
 

@@ -145,9 +145,6 @@ pub raw-quoted : (t : Bytes) → raw-text (doubled t) ≡ quoted t
 unfolding raw-text quoted
 raw-quoted t = refl
 
-pub raw-is : (f t : Bytes) → textOf f ≡ some t → raw-text (take (length f - 2) (drop 1 f)) ≡ quoted t
-raw-is f t e = ap raw-text (text-between f t e) ∙ raw-quoted t
-
 pub own-is : (f t : Bytes) → textOf f ≡ some t → undoubled false (take (length f - 2) (drop 1 f)) ≡ t
 own-is f t e = ap (undoubled false) (text-between f t e) ∙ undoubled-doubled t
 

@@ -19,16 +19,7 @@ use Rattle.page.specs.Rules.{Every, one-more}
 use Rattle.page.specs.declared.Column.{Column}
 use Rattle.page.proofs.TableLaws.{standing-width, standing-column}
 use Rattle.laws.specs.Begins.{begins}
-use Rattle.machine.proofs.SoundLaws.{sound-passed, passed-width}
-
-pub passed-wrong : (t m : ℕ) (fs : List Bytes) → rec-verdict t m fs ≡ 0 → first-wrong (standing t) fs ≡ 0
-unfolding rec-verdict
-passed-wrong t m fs e = by (eqb (length fs) (width t)) (eqb (first-wrong (standing t) fs) 0) refl refl
-  where
-    by : (a b : Bool) → eqb (length fs) (width t) ≡ a → eqb (first-wrong (standing t) fs) 0 ≡ b → first-wrong (standing t) fs ≡ 0
-    by a true x y = eqb-true (first-wrong (standing t) fs) 0 y
-    by true false x y = rw (x, y) at e
-    by false false x y = absurd (let z : _≡_ {A = ℕ} 10 0 = rw x at e in omega arith)
+use Rattle.machine.proofs.SoundLaws.{sound-passed, passed-width, passed-wrong}
 
 -- no field of a record that passed is wrong
 right-at : (cs : List Named) (fs : List Bytes) (k : ℕ) → first-wrong cs fs ≡ 0 → k < length cs → k < length fs

@@ -1,6 +1,6 @@
 -- A text's own bytes are what stands between its quotes, and what a call that hands them out answers. Assumes nothing.
 use mathlib.Core.Path.{_≡_, refl, ap, sym, _∙_}
-use mathlib.Core.Bool.{Bool, true, false, not, _||_, false≢true}
+use mathlib.Core.Bool.{Bool, true, false, not, _||_}
 use mathlib.Core.List.{[]}
 use mathlib.Core.Option.{some}
 use Prim.Native.Nat.{ℕ, _+_, _-_, _<_, _≤_}
@@ -46,6 +46,8 @@ use Rattle.output.proofs.WriteLaws.{refused}
 use Rattle.handing.specs.Own.{Lies, Spans, owned, own-of, Gave}
 use Rattle.handing.proofs.PassLaws.{Closed, closed, passed-closed, section-passed, every-at}
 use Rattle.handing.proofs.StandLaws.{Lain, record-lain}
+use Rattle.page.proofs.TestLaws.{neither}
+use Rattle.laws.proofs.Earlier.{earlier-none}
 
 -- what an answer tells of its refusal
 
@@ -65,22 +67,10 @@ got-refused r x v e = by (eqb (r .number) 0) refl e
     by true q e = absurd (let z : _≡_ {A = ℕ} 0 1 = cc in omega arith)
     by false q e = let y : x ≡ r = cc in (rw y (eqb-false (r .number) 0 q), y)
 
-pub earlier-none : (a b : Refusal) → earlier a b .number ≡ 0 → (a .number ≡ 0) × (b .number ≡ 0)
-unfolding earlier
-earlier-none a b e = by (eqb (a .number) 0) refl
-  where
-    by : (x : Bool) → eqb (a .number) 0 ≡ x → (a .number ≡ 0) × (b .number ≡ 0)
-    by true q = (eqb-true (a .number) 0 q, rw q at e)
-    by false q = absurd (eqb-false (a .number) 0 q (rw q at e))
-
 refuse-none : (a : Bool) (v : ℕ) → (v ≡ 0 → ⊥) → refuse-if a v .number ≡ 0 → a ≡ false
 unfolding refuse-if
 refuse-none true v n e = absurd (n e)
 refuse-none false v n e = refl
-
-either-none : (a b : Bool) → (a || b) ≡ false → (a ≡ false) × (b ≡ false)
-either-none true b e = absurd (false≢true (sym e))
-either-none false b e = (refl, e)
 
 verdict-none : (i : ℕ) (x : Row) → verdict-of i x .number ≡ 0 → x .verdict ≡ 0
 unfolding verdict-of
@@ -193,7 +183,7 @@ there-of s i r f e =
     let n = row-at s i .records in
     let a = earlier-none (find-refusal s i) (earlier (verdict-of i (row-at s i)) (refuse-if (outside r n || outside f (width t)) 24)) e in
     let b = earlier-none (verdict-of i (row-at s i)) (refuse-if (outside r n || outside f (width t)) 24) (a .1) in
-    let o = either-none (outside r n) (outside f (width t)) (refuse-none (outside r n || outside f (width t)) 24 (λ (z : _≡_ {A = ℕ} 24 0). omega arith) (b .1)) in
+    let o = neither (outside r n) (outside f (width t)) (refuse-none (outside r n || outside f (width t)) 24 (λ (z : _≡_ {A = ℕ} 24 0). omega arith) (b .1)) in
     let j = inside r n (o .0) in
     let k = inside f (width t) (o .1) in
     let y = sound-of s i (a .0) (verdict-none i (row-at s i) (b .0)) in

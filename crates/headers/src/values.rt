@@ -55,15 +55,6 @@ fn time_in(h: &[u8]) -> Time
     dates::read_time(field_in(h, 2, 2))
 }
 
-fn one_less(n: usize) -> usize
-    ensures { λ r. ⌜ r ≡ n - 1 ⌝ }
-{
-    if n == 0 {
-        return 0;
-    }
-    n - 1
-}
-
 // Where the text of the line of command k stands, between its quotes.
 fn text_in(h: &[u8], k: u32) -> Span
     requires { ⌜ (k < 16) × (length (now h) ≤ limit) ⌝ }
@@ -75,7 +66,7 @@ fn text_in(h: &[u8], k: u32) -> Span
     let f = commands::find_field(&h[a..e], 0);
     Span {
         from: a + (f.from + 1),
-        to: a + one_less(f.to),
+        to: a + lines::one_less(f.to),
     }
 }
 

@@ -5,7 +5,3 @@ pub mod SameLaws
 pub mod SoundLaws
 pub mod StoreLaws
 pub mod OrderLaws
-pub mod AgainLaws
-pub mod WalkLaws
-pub mod FileKeyLaws
-pub mod SettledLaws

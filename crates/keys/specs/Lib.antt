@@ -1,3 +1,2 @@
 pub mod Numbers
 pub mod Orders
-pub mod Scans

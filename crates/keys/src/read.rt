@@ -21,17 +21,11 @@ struct Taken {
     end: usize,
 }
 
-fn widen(b: u8) -> u64
-    ensures { λ r. ⌜ r ≡ b ⌝ }
-{
-    b as u64
-}
-
 fn put_byte(n: u64, b: u8) -> u64
     ensures { λ r. ⌜ r ≡ push n b ⌝ }
 {
     if n < 72057594037927936 {
-        return n * 256 + widen(b);
+        return n * 256 + digits::widen(b);
     }
     n
 }

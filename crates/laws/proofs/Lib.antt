@@ -4,3 +4,4 @@ pub mod Tests
 pub mod Lists
 pub mod Sections
 pub mod Stages
+pub mod Earlier

@@ -14,6 +14,7 @@ pub use cursor::Cursor;
 pub use cursor::Line;
 pub use scan::equal;
 pub use scan::kept;
+pub use scan::one_less;
 pub use scan::spaces;
 pub use scan::trim;
 pub use scan::trim_in;

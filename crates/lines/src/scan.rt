@@ -80,3 +80,12 @@ pub fn trim_in(s: &[u8], from: usize, to: usize) -> Span
         to: from + e,
     }
 }
+
+pub fn one_less(n: usize) -> usize
+    ensures { λ r. ⌜ r ≡ n - 1 ⌝ }
+{
+    if n == 0 {
+        return 0;
+    }
+    n - 1
+}

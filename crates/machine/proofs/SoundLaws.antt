@@ -6,14 +6,14 @@ use Prim.Native.Nat.{ℕ, zero, suc, _+_, _<_}
 use native.Mathlib.Omega.{arith}
 use lib.Dec.{eqb}
 use lib.ListN.{length, getD}
-use borrow.Author.Tests.{eqb-true, eqb-false, eq-eqb, le-ltb}
-use Rattle.page.specs.Bytes.{Bytes, until, no-space}
-use Rattle.page.specs.Lines.{content, blank, semicolon, command, rest, Tbl, Atr, Frm, Rec, End, Com, Missing}
+use borrow.Author.Tests.{eqb-true, eqb-false, eq-eqb}
+use Rattle.page.specs.Bytes.{Bytes}
+use Rattle.page.specs.Lines.{content, blank, command, rest, Tbl, Atr, Frm, Rec, End, Com, Missing}
 use Rattle.page.specs.Fields.{fields, numberOf}
-use Rattle.page.specs.Tables.{table-named, width}
+use Rattle.page.specs.Tables.{table-named, width, standing}
 use Rattle.page.specs.Marks.{remarkOf}
 use Rattle.page.specs.Cut.{begins-table}
-use Rattle.page.specs.Section.{choose, tbl-step, atr-step, frm-step, rec-verdict, rec-step, count-step, end-step, mark-step, com-step, line-step, content-step, step, table-in, finish, continue, run, outcome}
+use Rattle.page.specs.Section.{choose, tbl-step, atr-step, frm-step, rec-verdict, rec-step, count-step, end-step, mark-step, com-step, line-step, content-step, step, table-in, finish, continue, run, outcome, first-wrong}
 use Rattle.page.specs.Records.{waits, table-of}
 use Rattle.page.specs.Places.{stands, record-at}
 use Rattle.page.specs.declared.Number.{Number}
@@ -25,27 +25,9 @@ use Rattle.page.specs.declared.Phase.the-variants as P
 use Rattle.page.specs.declared.Step.{Step}
 use Rattle.page.specs.declared.Step.the-variants as S
 use Rattle.machine.specs.Counts.{records-in}
+use Rattle.laws.proofs.Tests.{blank-missing}
 
 -- a blank line has no command
-until-both : (c : Bytes) → until no-space c ≡ length c → until semicolon c ≡ length c
-unfolding until
-until-both [] e = refl
-until-both (b ∷ c) e = go (eqb b 32) refl (until-both c)
-  where
-    go : (x : Bool) → eqb b 32 ≡ x → (until no-space c ≡ length c → until semicolon c ≡ length c) → until semicolon (b ∷ c) ≡ length (b ∷ c)
-    go true q f =
-        let n : b ≡ 32 = eqb-true b 32 q in
-        let m : suc (until no-space c) ≡ suc (length c) = rw q at e in
-        let z : until semicolon c ≡ length c = f (omega arith) in
-        rw (n, z)
-    go false q f = absurd (let m : _≡_ {A = ℕ} 0 (suc (length c)) = rw q at e in omega arith)
-
-blank-missing : (c : Bytes) → blank c ≡ true → command c ≡ Missing
-unfolding blank command
-blank-missing c e =
-    let h : until semicolon c ≡ length c = until-both c (eqb-true (until no-space c) (length c) e) in
-    rw (le-ltb (until semicolon c) (length c) (omega arith))
-
 -- the field of the mark that waits
 abbrev mark-in : Phase → ℕ
 mark-in P.Tbl = 0
@@ -215,3 +197,12 @@ passed-width t m fs e = by (eqb (length fs) (width t)) refl
     by : (b : Bool) → eqb (length fs) (width t) ≡ b → length fs ≡ width t
     by true q = eqb-true (length fs) (width t) q
     by false q = absurd (let z : _≡_ {A = ℕ} 10 0 = rw q at e in omega arith)
+
+pub passed-wrong : (t m : ℕ) (fs : List Bytes) → rec-verdict t m fs ≡ 0 → first-wrong (standing t) fs ≡ 0
+unfolding rec-verdict
+passed-wrong t m fs e = by (eqb (length fs) (width t)) (eqb (first-wrong (standing t) fs) 0) refl refl
+  where
+    by : (a b : Bool) → eqb (length fs) (width t) ≡ a → eqb (first-wrong (standing t) fs) 0 ≡ b → first-wrong (standing t) fs ≡ 0
+    by a true x y = eqb-true (first-wrong (standing t) fs) 0 y
+    by true false x y = rw (x, y) at e
+    by false false x y = absurd (let z : _≡_ {A = ℕ} 10 0 = rw x at e in omega arith)

@@ -1,2 +1,3 @@
 pub mod FormatLaws
 pub mod WordLaws
+pub mod TitleLaws

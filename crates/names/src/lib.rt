@@ -7,12 +7,12 @@ ghost use Rattle.page.specs.Section.{names-same, formats-ok};
 ghost use Rattle.names.specs.Words.{word, Reads};
 
 mod formats;
+mod titles;
 
-pub use formats::is_format;
-pub use formats::is_formed;
 use page::Span;
 use page::tables::TABLES;
 use page::tables::WIDEST;
+pub use titles::table_at;
 
 // Each name once, one after the other: the columns', then the tables'.
 pub const NAMES: [u8; 328] = *b"BASIS_VERSION\

@@ -126,15 +126,6 @@ pub format-num : (c : Column) → c .text ≡ false → bytes "num[" ++ (decimal
 unfolding format-text
 format-num c e = rw e
 
-pub format-length : (c : Column) → length (format-text c) ≤ 27
-unfolding bytes format-text
-format-length c = by (c .text)
-  where
-    by : (q : Bool)
-        → length (pick q (bytes "char[" ++ (decimal (c .size) ++ bytes "]")) (bytes "num[" ++ (decimal (c .size) ++ bytes ".0]"))) ≤ 27
-    by true = simp length-append (omega (arith, decimal-length (c .size)))
-    by false = simp length-append (omega (arith, decimal-length (c .size)))
-
 -- bytes among which is no quote are their own doubling
 pub record Plain (t : Bytes) : Type 0 where
   pub is : doubled t ≡ t
@@ -166,25 +157,12 @@ plain-quoted t p = rw (p .is)
 
 -- a part of a file, its ends moved into the file
 
-pub least-left : (a b : ℕ) → least a b ≤ a
-least-left a b = by (ltb a b) refl
-  where
-    by : (q : Bool) → ltb a b ≡ q → pick q a b ≤ a
-    by true e = omega arith
-    by false e = omega (arith, ltb-false a b e)
-
 pub least-right : (a b : ℕ) → least a b ≤ b
 least-right a b = by (ltb a b) refl
   where
     by : (q : Bool) → ltb a b ≡ q → pick q a b ≤ b
     by true e = omega (arith, ltb-true a b e)
     by false e = omega arith
-
-least-is : (a b : ℕ) → b ≤ a → least a b ≡ b
-least-is a b h = rw (le-ltb a b h)
-
-least-first : (a b : ℕ) → a < b → least a b ≡ a
-least-first a b h = rw (lt-ltb a b h)
 
 nothing : (n k : ℕ) (s : Bytes) → length s ≤ k → take n (drop k s) ≡ []
 nothing n k s h = rw (drop-of-length-le s h) (take-nil n)

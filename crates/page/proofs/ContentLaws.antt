@@ -4,12 +4,11 @@ use mathlib.Core.Bool.{Bool, true, false}
 use mathlib.Core.List.{[], _∷_}
 use Prim.Native.Nat.{ℕ, _+_, _-_, _<_, _≤_}
 use native.Mathlib.Omega.{arith}
-use borrow.Author.Tests.{eq-eqb, ne-eqb, le-leb, lt-leb, lt-ltb, le-ltb}
+use borrow.Author.Tests.{eq-eqb, ne-eqb, lt-ltb, le-ltb}
 use lib.Dec.{eqb}
 use lib.ListN.{length, take, drop, getD, drop-of-length-le}
-use lib.Seq.{length-take-le}
 use Rattle.page.specs.Bytes.{Bytes, pick, until, trim}
-use Rattle.page.specs.Lines.{content-size, content, semicolon, command, rest, find, known, Mod, Missing, allowed}
+use Rattle.page.specs.Lines.{content-size, semicolon, command, rest, find, known, Mod, Missing}
 
 pub content-none : (l : Bytes) → length l ≡ 0 → content-size l ≡ 0
 unfolding content-size
@@ -45,10 +44,6 @@ content-le l = by (eqb (getD l (length l - 1) 0) 10) (eqb (getD l (length l - 2)
     by true false = omega arith
     by false y = omega arith
 
-pub content-length : (l : Bytes) → length (content l) ≡ content-size l
-unfolding content
-content-length l = length-take-le (content-size l) l (content-le l)
-
 -- where the first `;` stands, or the end
 module _ (c : Bytes) (i : ℕ) (e : i ≡ until semicolon c) where
   pub command-some : i < length c → command c ≡ find Mod known (trim (take i c))
@@ -67,20 +62,3 @@ module _ (c : Bytes) (i : ℕ) (e : i ≡ until semicolon c) where
   rest-none h =
       let k : length c ≤ i + 1 = omega arith in
       sym rest-at ∙ drop-of-length-le c k
-
-module _ (wide : Bool) (b : ℕ) where
-  pub allowed-low : b < 32 → allowed wide b ≡ false
-  unfolding allowed
-  allowed-low h = rw (lt-leb 32 b h, lt-leb 161 b (omega arith))
-
-  pub allowed-plain : 32 ≤ b → b ≤ 126 → allowed wide b ≡ true
-  unfolding allowed
-  allowed-plain h k = rw (le-leb 32 b h, le-leb b 126 k)
-
-  pub allowed-between : 126 < b → b < 161 → allowed wide b ≡ false
-  unfolding allowed
-  allowed-between k m = rw (le-leb 32 b (omega arith), lt-leb b 126 k, lt-leb 161 b m)
-
-  pub allowed-high : 161 ≤ b → b ≤ 255 → allowed wide b ≡ wide
-  unfolding allowed
-  allowed-high h k = rw (le-leb 32 b (omega arith), lt-leb b 126 (omega arith), le-leb 161 b h, le-leb b 255 k)

@@ -11,7 +11,7 @@ use lib.Seq.{length-take-le, drop-drop}
 use Rattle.page.specs.Bytes.{Bytes}
 use Rattle.page.specs.Lines.{lines, joined}
 use Rattle.page.specs.Cut.{begins-table, begins-end, Piece, a-table, a-trailer, Cut, put, cut, Section, placed, placed-piece, piece-lines, header-lines, sections, from-end}
-use Rattle.page.proofs.LineLaws.{line-size, line-in, cut-at, lines-end, joined-lines, joined-length, run-within, run-bytes, run-rest, run-lines}
+use Rattle.page.proofs.LineLaws.{line-size, line-in, cut-at, lines-end, joined-length, run-within, run-bytes, run-rest, run-lines}
 
 -- a piece with more lines
 abbrev pub longer : Piece → List Bytes → Piece
@@ -110,12 +110,6 @@ pub front-end : (s : Bytes) (at : ℕ) → length s ≤ at → front-size (drop 
 unfolding front-size joined
 front-end s at h = rw (cut-end s at h)
 
-pub front-le : (w : Bytes) → front-size w ≤ length w
-unfolding front-size
-front-le w =
-    let c = cut (lines w) in
-    omega (arith, ap length (joined-lines w), ap (λ (x : List Bytes). length (joined x)) (cut-whole (lines w)), joined-length (c .front) (flat (c .pieces)))
-
 -- the sections from a line's place on, in places of the whole: in a loop that moves line by line, or over a whole section at once
 
 unfoldable pub sections-from : Bytes → ℕ → List Section
@@ -210,10 +204,6 @@ module _ (s : Bytes) where
   unfolding header-lines
   in-front = sym (cut-whole (lines s))
 
-  pub header-bytes : take (length (joined (header-lines s))) s ≡ joined (header-lines s)
-  unfolding joined
-  header-bytes = run-bytes s [] (header-lines s) (flat (cut (lines s) .pieces)) in-front
-
   pub header-run : lines (take (length (joined (header-lines s))) s) ≡ header-lines s
   unfolding joined
   header-run = run-lines s [] (header-lines s) (flat (cut (lines s) .pieces)) in-front
@@ -256,6 +246,3 @@ module _ (s : Bytes) (x : Section) (t : Stands s x) where
 
   pub section-bytes : take (length (joined (x .lines))) (drop (x .place) s) ≡ joined (x .lines)
   section-bytes = rw (t .place) (run-bytes s (t .before) (x .lines) (t .after) (t .whole))
-
-  pub section-lines : lines (take (length (joined (x .lines))) (drop (x .place) s)) ≡ x .lines
-  section-lines = rw (t .place) (run-lines s (t .before) (x .lines) (t .after) (t .whole))

@@ -6,9 +6,9 @@ use mathlib.Core.List.{List, [], _∷_, _++_, map}
 use Prim.Native.Nat.{ℕ, zero, suc, _+_, _<_, _≤_}
 use native.Mathlib.Omega.{arith}
 use native.Mathlib.Nat.{add-zero}
-use borrow.Author.Tests.{eq-eqb, ne-eqb, eqb-true, eqb-false}
+use borrow.Author.Tests.{ne-eqb}
 use lib.Dec.{eqb}
-use lib.ListN.{length, getD, take, drop, length-map}
+use lib.ListN.{length, getD, take, drop}
 use lib.Seq.{drop-cons, drop-length}
 use Rattle.page.specs.declared.Column.{Column}
 use Rattle.page.specs.declared.Refusal.{Refusal}
@@ -19,9 +19,10 @@ use Rattle.page.specs.Cut.{Section}
 use Rattle.page.specs.Records.{Entry, entriesOf, table-of}
 use Rattle.page.specs.Answers.{refusal, sound, earlier}
 use Rattle.page.specs.Rules.{Apart}
-use Rattle.page.specs.File.{any, Filed, filed-in, filed, key-of, by-primary, same-record, repeats, referred, meets, first-record, first-unsound, first-again}
+use Rattle.page.specs.File.{any, Filed, filed-in, filed, key-of, by-primary, same-record, repeats, referred, meets, first-record}
 use Rattle.page.proofs.CutLaws.{no-section}
 use Rattle.page.proofs.KeyLaws.{any-no, any-onto, any-append, onto, no-filed, faulty}
+use Rattle.page.proofs.TestLaws.{or-false}
 
 pub earlier-sound : (r : Refusal) → earlier sound r ≡ r
 unfolding earlier
@@ -94,10 +95,6 @@ abbrev pub no-entry : Entry
 no-entry = record { line = 0; values = [] }
 
 module _ (latin : Bool) (i : ℕ) (x : Section) where
-  pub filed-length : length (filed-in latin i x) ≡ length (entriesOf latin (x .lines))
-  unfolding filed-in
-  filed-length = length-map (entriesOf latin (x .lines)) (filing i (table-of (x .lines)))
-
   pub filed-at : (m : ℕ) → m < length (filed-in latin i x)
       → getD (filed-in latin i x) m no-filed
       ≡ record { section = i; table = table-of (x .lines); line = getD (entriesOf latin (x .lines)) m no-entry .line; values = getD (entriesOf latin (x .lines)) m no-entry .values }
@@ -216,10 +213,6 @@ module _ (latin : Bool) (e : Filed) (r : Reference) where
   meets-in i (x ∷ xs) zero h a q =
       any-append (meets e r) (filed-in latin i x) (filed latin (suc i) xs)
       ∙ rw (meets-nowhere (suc i) xs (λ j l z. a 0 (suc j) (omega arith) (omega arith) (q ∙ sym z)), add-zero i) (or-false (any (meets e r) (filed-in latin i x)))
-    where
-      or-false : (b : Bool) → (b || false) ≡ b
-      or-false true = refl
-      or-false false = refl
   meets-in i (x ∷ xs) (suc k) h a q =
       let n : i + suc k ≡ suc i + k = omega arith in
       any-append (meets e r) (filed-in latin i x) (filed latin (suc i) xs)
@@ -229,52 +222,3 @@ module _ (latin : Bool) (e : Filed) (r : Reference) where
 
 abbrev pub no-row : Row
 no-row = record { table = 0; place = 0; length = 0; records = 0; verdict = 0; line = 0 }
-
-or-none : (a b : Bool) → (a || b) ≡ false → (a ≡ false) × (b ≡ false)
-or-none true b e = absurd (false≢true (sym e))
-or-none false b e = (refl, e)
-
-refused-sound : {A : Type 0} (i : ℕ) → refusal 17 i 1 ≡ sound → A
-refused-sound i e = absurd (let z : _≡_ {A = ℕ} 17 0 = ap (λ (r : Refusal). r .number) e in omega arith)
-
-unseen : (seen : List ℕ) (i : ℕ) (rs : List Row) → first-again seen i rs ≡ sound → (k : ℕ) → k < length rs → any (eqb (getD rs k no-row .table)) seen ≡ false
-unfolding first-again any
-unseen seen i [] e k h = absurd (omega arith)
-unseen seen i (r ∷ rs) e k h = by (any (eqb (r .table)) seen) refl e k h (unseen (r .table ∷ seen) (suc i) rs)
-  where
-    by : (q : Bool) → any (eqb (r .table)) seen ≡ q → pick q (refusal 17 i 1) (first-again (r .table ∷ seen) (suc i) rs) ≡ sound
-        → (k : ℕ) → k < suc (length rs)
-        → (first-again (r .table ∷ seen) (suc i) rs ≡ sound → (k : ℕ) → k < length rs → any (eqb (getD rs k no-row .table)) (r .table ∷ seen) ≡ false)
-        → any (eqb (getD (r ∷ rs) k no-row .table)) seen ≡ false
-    by true q e k h ih = refused-sound i e
-    by false q e zero h ih = q
-    by false q e (suc k) h ih = or-none (eqb (getD rs k no-row .table) (r .table)) (any (eqb (getD rs k no-row .table)) seen) (ih e k (omega arith)) .1
-
-pub again-apart : (seen : List ℕ) (i : ℕ) (rs : List Row) → first-again seen i rs ≡ sound → Apart no-row (λ (r : Row). r .table) rs
-unfolding first-again any
-again-apart seen i [] e = λ j k h l. absurd (omega arith)
-again-apart seen i (r ∷ rs) e = by (any (eqb (r .table)) seen) e (unseen (r .table ∷ seen) (suc i) rs) (again-apart (r .table ∷ seen) (suc i) rs)
-  where
-    by : (q : Bool) → pick q (refusal 17 i 1) (first-again (r .table ∷ seen) (suc i) rs) ≡ sound
-        → (first-again (r .table ∷ seen) (suc i) rs ≡ sound → (k : ℕ) → k < length rs → any (eqb (getD rs k no-row .table)) (r .table ∷ seen) ≡ false)
-        → (first-again (r .table ∷ seen) (suc i) rs ≡ sound → Apart no-row (λ (r : Row). r .table) rs)
-        → Apart no-row (λ (r : Row). r .table) (r ∷ rs)
-    by true e u ih j k h l = refused-sound i e
-    by false e u ih zero zero h l = absurd (omega arith)
-    by false e u ih zero (suc k) h l =
-        let n = or-none (eqb (getD rs k no-row .table) (r .table)) (any (eqb (getD rs k no-row .table)) seen) (u e k (omega arith)) in
-        λ q. false≢true (sym (n .0) ∙ eq-eqb (getD rs k no-row .table) (r .table) (sym q))
-    by false e u ih (suc j) zero h l = absurd (omega arith)
-    by false e u ih (suc j) (suc k) h l = ih e j k (omega arith) (omega arith)
-
--- where no section is refused, each verdict is 0
-pub unsound-none : (i : ℕ) (rs : List Row) → first-unsound i rs ≡ sound → (k : ℕ) → k < length rs → getD rs k no-row .verdict ≡ 0
-unfolding first-unsound
-unsound-none i [] e k h = absurd (omega arith)
-unsound-none i (r ∷ rs) e k h = by (eqb (r .verdict) 0) refl e k h (unsound-none (suc i) rs)
-  where
-    by : (q : Bool) → eqb (r .verdict) 0 ≡ q → pick q (first-unsound (suc i) rs) (refusal (r .verdict) i (r .line)) ≡ sound → (k : ℕ) → k < suc (length rs)
-        → (first-unsound (suc i) rs ≡ sound → (k : ℕ) → k < length rs → getD rs k no-row .verdict ≡ 0) → getD (r ∷ rs) k no-row .verdict ≡ 0
-    by true q e zero h ih = eqb-true (r .verdict) 0 q
-    by true q e (suc k) h ih = ih e k (omega arith)
-    by false q e k h ih = absurd (eqb-false (r .verdict) 0 q (ap (λ (x : Refusal). x .number) e))

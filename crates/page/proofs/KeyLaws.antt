@@ -1,15 +1,13 @@
 -- The first record that is at fault after those before it, place by place: what loops over records in any order ask for.
 -- Assumes nothing.
-use mathlib.Core.Path.{_≡_, refl, ap, sym, _∙_}
-use mathlib.Core.Bool.{Bool, true, false, false≢true, _||_}
+use mathlib.Core.Path.{_≡_, refl, ap, _∙_}
+use mathlib.Core.Bool.{Bool, true, false, _||_}
 use mathlib.Core.List.{List, [], _∷_, _++_}
 use Prim.Native.Nat.{ℕ, zero, suc, _<_, _≤_}
 use native.Mathlib.Omega.{arith}
 use lib.ListN.{length, getD, take, drop}
-use lib.Seq.{drop-cons, drop-length}
-use Rattle.page.specs.declared.Refusal.{Refusal}
-use Rattle.page.specs.Bytes.{pick}
-use Rattle.page.specs.Answers.{refusal, sound}
+use lib.Seq.{drop-length}
+use Rattle.page.specs.Answers.{sound}
 use Rattle.page.specs.File.{any, Filed, first-record}
 
 -- one of a list passes a test
@@ -29,14 +27,6 @@ module _ {A : Type 0} (p : A → Bool) (d : A) where
   unfolding any
   any-no [] h = refl
   any-no (x ∷ xs) h = rw (h 0 (omega arith)) (any-no xs (λ j l. h (suc j) (omega arith)))
-
-  -- where none passes, none does at any place
-  pub any-none : (xs : List A) → any p xs ≡ false → (j : ℕ) → j < length xs → p (getD xs j d) ≡ false
-  any-none xs e j h = by (p (getD xs j d)) refl
-    where
-      by : (b : Bool) → p (getD xs j d) ≡ b → p (getD xs j d) ≡ false
-      by true q = absurd (false≢true (sym e ∙ any-yes xs j h q))
-      by false q = q
 
 -- a list in front of another, its last first: the records passed, as `first-record` hands them on
 unfoldable pub onto : {A : Type 0} → List A → List A → List A
@@ -86,21 +76,3 @@ module _ (v : ℕ) (bad : List Filed → Filed → Bool) where
     record-none p =
         record-skip (length es) b es (omega arith) p
         ∙ ap (λ (l : List Filed). first-record v bad (onto (take (length es) es) b) l) (drop-length es)
-
-    pub record-at : (i : ℕ) → i < length es → ((m : ℕ) → m < i → faulty bad b es m ≡ false) → faulty bad b es i ≡ true
-        → first-record v bad b es ≡ refusal v (getD es i no-filed .section) (getD es i no-filed .line)
-    unfolding first-record faulty
-    record-at i h p e = record-skip i b es (omega arith) p ∙ rw (drop-cons es i no-filed h, e)
-
-  -- where no record is refused, none is at fault
-  pub record-sound : (b es : List Filed) → (v ≡ 0 → ⊥) → first-record v bad b es ≡ sound → (m : ℕ) → m < length es → faulty bad b es m ≡ false
-  unfolding first-record faulty onto
-  record-sound b [] n e m h = absurd (omega arith)
-  record-sound b (x ∷ es) n e m h = by (bad b x) refl e m h (record-sound (x ∷ b) es n)
-    where
-      by : (q : Bool) → bad b x ≡ q → pick q (refusal v (x .section) (x .line)) (first-record v bad (x ∷ b) es) ≡ sound → (m : ℕ) → m < suc (length es)
-          → (first-record v bad (x ∷ b) es ≡ sound → (m : ℕ) → m < length es → bad (onto (take m es) (x ∷ b)) (getD es m no-filed) ≡ false)
-          → bad (onto (take m (x ∷ es)) b) (getD (x ∷ es) m no-filed) ≡ false
-      by true q e m h ih = absurd (n (ap (λ (r : Refusal). r .number) e))
-      by false q e zero h ih = q
-      by false q e (suc m) h ih = ih e m (omega arith)

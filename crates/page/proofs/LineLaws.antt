@@ -2,13 +2,13 @@
 -- a line's place is the length of what stands before it. Assumes nothing.
 use mathlib.Core.Path.{_≡_, refl, ap, sym, _∙_}
 use mathlib.Core.Bool.{Bool, true, false}
-use mathlib.Core.List.{List, [], _∷_, _++_, append-assoc, append-nil}
-use Prim.Native.Nat.{ℕ, zero, suc, _+_, _-_, _<_, _≤_}
+use mathlib.Core.List.{List, [], _∷_, _++_, append-assoc}
+use Prim.Native.Nat.{ℕ, suc, _+_, _-_, _<_, _≤_}
 use native.Mathlib.Numerals.{add-one}
 use native.Mathlib.Omega.{arith}
 use borrow.Author.Tests.{ne-eqb}
 use lib.Dec.{eqb}
-use lib.ListN.{length, take, drop, getD, drop-of-length-le, length-append, length-drop, take-append-drop}
+use lib.ListN.{length, take, drop, getD, drop-of-length-le, length-append, length-drop}
 use lib.Seq.{drop-cons, drop-drop, take-append-seam, drop-append-seam}
 use Rattle.page.specs.Bytes.{Bytes}
 use Rattle.page.specs.Lines.{lines, in-front, joined}
@@ -106,15 +106,6 @@ ended-some (after q h) = omega arith
 pub laid-some : {l : Bytes} {ls : List Bytes} → Laid (l ∷ ls) → 0 < length l
 laid-some (last p) = plain-some p
 laid-some (next p h) = ended-some p
-
--- no line is without bytes
-laid-each : (ls : List Bytes) → Laid ls → (k : ℕ) → k < length ls → 0 < length (getD ls k [])
-laid-each [] h k q = absurd (omega arith)
-laid-each (l ∷ ls) h zero q = laid-some h
-laid-each (l ∷ ls) h (suc k) q = laid-each ls (laid-rest h) k (omega arith)
-
-pub lines-each : (s : Bytes) (k : ℕ) → k < length (lines s) → 0 < length (getD (lines s) k [])
-lines-each s = laid-each (lines s) (laid-lines s)
 
 -- the length of the first line, with its end
 
@@ -237,27 +228,3 @@ module _ (s : Bytes) (a b c : List Bytes) (e : lines s ≡ a ++ (b ++ c)) where
 
   pub run-lines : lines (take (length (joined b)) (drop (length (joined a)) s)) ≡ b
   run-lines = rw run-bytes (lines-joined (laid-left b c (laid-right a (b ++ c) (rw e at (laid-lines s)))))
-
--- line k: "a place is the length of what stands before"
-module _ (s : Bytes) (k : ℕ) (h : k < length (lines s)) where
-  abbrev before : List Bytes
-  before = take k (lines s)
-
-  abbrev line : Bytes
-  line = getD (lines s) k []
-
-  around : lines s ≡ before ++ ((line ∷ []) ++ drop (suc k) (lines s))
-  around = sym (take-append-drop k (lines s)) ∙ ap (λ (x : List Bytes). before ++ x) (drop-cons (lines s) k [] h)
-
-  one-line : joined (line ∷ []) ≡ line
-  unfolding joined
-  one-line = append-nil line
-
-  pub line-within : length (joined (take k (lines s))) + length (getD (lines s) k []) ≤ length s
-  line-within = rw one-line at (run-within s before (line ∷ []) (drop (suc k) (lines s)) around)
-
-  pub line-bytes : take (length (getD (lines s) k [])) (drop (length (joined (take k (lines s)))) s) ≡ getD (lines s) k []
-  line-bytes = rw one-line at (run-bytes s before (line ∷ []) (drop (suc k) (lines s)) around)
-
-  pub line-rest : lines (drop (length (joined (take k (lines s)))) s) ≡ drop k (lines s)
-  line-rest = run-rest s before (line ∷ []) (drop (suc k) (lines s)) around ∙ sym (drop-cons (lines s) k [] h)

@@ -1,11 +1,10 @@
 -- Digits and numbers: the laws of `digit`, `value` and `digits` at a place, and how large a value can be.
 -- Assumes nothing.
-use mathlib.Core.Path.{_≡_, sym, ap, _∙_}
+use mathlib.Core.Path.{_≡_}
 use mathlib.Core.Bool.{true, false, _&&_}
-use mathlib.Core.List.{[], _∷_}
 use Prim.Native.Nat.{ℕ, suc, _+_, _-_, _*_, _^_, _<_, _≤_}
 use native.Mathlib.Numerals.{add-one}
-use native.Mathlib.Nat.{pow-suc, pow-succ', pow-le-pow-right, mul-assoc, mul-le-mul-right, lt-of-lt-of-le}
+use native.Mathlib.Nat.{pow-suc, pow-le-pow-right}
 use native.Mathlib.Omega.{arith}
 use borrow.Author.Tests.{leb-true, le-leb, lt-leb}
 use lib.ListN.{length, getD, drop, drop-of-length-le}
@@ -65,22 +64,3 @@ ten-more i =
 
 pub ten-up : (i n : ℕ) → i ≤ n → 10 ^ i ≤ 10 ^ n
 ten-up i n h = pow-le-pow-right (lit< tt) h
-
--- digits that follow what is worth n are worth less than n + 1 times 10 to their number
-pub value-lt : (ds : Bytes) (n : ℕ) → all digit ds ≡ true → value n ds < (n + 1) * 10 ^ length ds
-unfolding value all
-value-lt [] n e = omega arith
-value-lt (b ∷ bs) n e =
-    let r = digit-range b (and-left (digit b) (all digit bs) e) in
-    let ih = value-lt bs (n * 10 + (b - 48)) (and-right (digit b) (all digit bs) e) in
-    let up : n * 10 + (b - 48) + 1 ≤ (n + 1) * 10 = omega arith in
-    let m : (n * 10 + (b - 48) + 1) * 10 ^ length bs ≤ (n + 1) * 10 * 10 ^ length bs = mul-le-mul-right (10 ^ length bs) up in
-    let p : (n + 1) * 10 ^ suc (length bs) ≡ (n + 1) * 10 * 10 ^ length bs =
-    ap (λ (k : ℕ). (n + 1) * k) (pow-succ' 10 (length bs)) ∙ sym (mul-assoc (n + 1) 10 (10 ^ length bs)) in
-    rw p (lt-of-lt-of-le ih m)
-
--- what 1 to 18 digits are worth
-pub digits-value : (ds : Bytes) → digits ds ≡ true → value 0 ds < 10 ^ 18
-digits-value ds e =
-    let b : 10 ^ length ds ≤ 10 ^ 18 = ten-up (length ds) 18 (digits-few ds e) in
-    omega (arith, value-lt ds 0 (digits-all ds e))

@@ -135,13 +135,6 @@ trim-in s r e = rw e (trim-within s)
 pub part-length : (a e : ℕ) (s : Bytes) → e ≤ length s → length (take (e - a) (drop a s)) ≡ e - a
 part-length a e s h = simp (length-take, length-drop) (omega arith)
 
-pub trim-length : (s : Bytes) → length (trim s) ≤ length s
-unfolding trim
-trim-length s =
-    let k = trim-within s in
-    let n : length (part (trimOf s) s) ≡ trimOf s .to - trimOf s .from = part-length (trimOf s .from) (trimOf s .to) s (k .1) in
-    omega arith
-
 take-drop-take : (k a n : ℕ) (s : Bytes) → a + k ≤ n → take k (drop a (take n s)) ≡ take k (drop a s)
 take-drop-take k zero n s h = take-take k n s (omega arith)
 take-drop-take k (suc a) zero s h = absurd (omega arith)

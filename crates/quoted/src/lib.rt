@@ -3,8 +3,7 @@ mod marks;
 mod texts;
 
 pub use marks::read_remark;
+pub use marks::wait_on;
 pub use texts::Size;
 pub use texts::is_empty_text;
-pub use texts::own_size;
 pub use texts::text_size;
-pub use texts::texts_equal;

@@ -3,6 +3,7 @@
 ghost use mathlib.Core.Path.{_≡_};
 ghost use Rattle.page.specs.Fields.{textOf};
 ghost use Rattle.page.specs.Marks.{mark-number, mark-text, mark-in, remarkOf};
+ghost use Rattle.page.specs.Records.{waits};
 use crate::texts::Size;
 use crate::texts::text_size;
 use digits::Magnitude;
@@ -54,4 +55,18 @@ pub fn read_remark(w: &[u8]) -> Remark
     ensures { λ r. ⌜ r ≡ remarkOf (now (w .entry)) ⌝ }
 {
     read_mark_field(lines::trimmed(w))
+}
+
+// The mark that waits after a line with the content c: "It speaks of the next `rec`."
+pub fn wait_on(c: &[u8], m: u64) -> u64
+    ensures { λ r. ⌜ r ≡ waits m (now (c .entry)) ⌝ }
+{
+    if commands::command_of(c) != commands::COM {
+        return m;
+    }
+    match read_remark(lines::rest_of(c)) {
+        Remark::Comment => m,
+        Remark::Unreadable => m,
+        Remark::Mark(i) => i,
+    }
 }

@@ -2,11 +2,8 @@
 // stands: nothing here copies it.
 ghost use mathlib.Core.Path.{_≡_};
 ghost use mathlib.Core.Bool.{false};
-ghost use lib.ListN.{length};
-ghost use Rattle.page.specs.Bytes.{same};
 ghost use Rattle.page.specs.Fields.{bodyOf, textOf};
 ghost use Rattle.page.specs.Section.{record-text, no-bytes};
-ghost use Rattle.page.specs.Records.{own-bytes};
 ghost use Rattle.quoted.specs.Sizes.{sizeOf};
 
 // How many bytes a text stands for.
@@ -52,29 +49,6 @@ pub fn text_size(f: &[u8]) -> Size
         return Size::Nothing;
     }
     body_size(&f[1..])
-}
-
-// How many bytes a record's text stands for, and 0 for a field that is no text.
-pub fn own_size(f: &[u8]) -> usize
-    ensures { λ r. ⌜ r ≡ length (own-bytes (record-text (now (f .entry)))) ⌝ }
-{
-    match text_size(f) {
-        Size::Is(n) => n,
-        Size::Nothing => 0,
-    }
-}
-
-// Two fields, with their quotes, as a record's texts: different bytes are different texts, so neither is undone.
-pub fn texts_equal(f: &[u8], g: &[u8]) -> bool
-    ensures { λ r. ⌜ r ≡ same (own-bytes (record-text (now (f .entry)))) (own-bytes (record-text (now (g .entry)))) ⌝ }
-{
-    if lines::equal(f, g) {
-        return true;
-    }
-    if own_size(f) != 0 {
-        return false;
-    }
-    own_size(g) == 0
 }
 
 pub fn is_empty_text(f: &[u8]) -> bool

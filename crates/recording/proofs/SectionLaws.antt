@@ -9,17 +9,15 @@ use borrow.Author.Tests.{eq-eqb, ne-eqb, eqb-true}
 use lib.Dec.{eqb}
 use lib.ListN.{length, take, drop, getD, length-append}
 use Rattle.page.specs.Bytes.{Bytes, bytes, pick}
-use Rattle.page.specs.Lines.{lines, content, command, rest, Rec, Com}
+use Rattle.page.specs.Lines.{lines, content, command, rest, Rec}
 use Rattle.page.specs.Fields.{fields}
 use Rattle.page.specs.Tables.{table-at, table-named, standing}
-use Rattle.page.specs.Marks.{remarkOf}
 use Rattle.page.specs.Section.{rec-verdict}
-use Rattle.page.specs.Records.{Record, valuesOf, waiting, waits, record-in, table-of}
+use Rattle.page.specs.Records.{Record, valuesOf, waits, record-in, table-of}
 use Rattle.page.specs.Cut.{Section}
 use Rattle.page.specs.Model.{Content}
 use Rattle.page.specs.Form.{decimal, record-form, records-form, table-head, content-form, tables-form}
 use Rattle.page.specs.Rules.{one-more}
-use Rattle.page.specs.declared.Remark.{Remark}
 use Rattle.page.proofs.LineLaws.{line-size, cut-at, lines-end}
 use Rattle.page.proofs.TestLaws.{and-left, and-right}
 use Rattle.cut.specs.Walk.{section-size, section-from}
@@ -28,17 +26,6 @@ use Rattle.frames.proofs.LineLaws.{line-with-is}
 use Rattle.output.proofs.PutLaws.{Todo}
 use Rattle.recording.specs.Said.{rows-of, passes, said, said-in, passes-in, PassingIn}
 use Rattle.copies.specs.Changed.{changed-values, changed-records, changed-content, changed-tables}
-
--- the mark that waits
-
-module _ (c : Bytes) (m : ℕ) where
-  pub waits-other : (command c ≡ Com → ⊥) → m ≡ waits m c
-  unfolding waits
-  waits-other n = rw (ne-eqb (command c) Com n)
-
-  pub waits-remark : (x : Remark) → command c ≡ Com → remarkOf (rest c) ≡ x → waiting m x ≡ waits m c
-  unfolding waits
-  waits-remark x e d = rw (eq-eqb (command c) Com e, d)
 
 -- the line at a place, that ends at e
 

@@ -4,7 +4,7 @@ ghost use mathlib.Core.Bool.{true};
 ghost use Prim.Native.Nat.{_+_, _<_, _≤_, _^_};
 ghost use lib.ListN.{length};
 ghost use Rattle.page.specs.Lines.{lines};
-ghost use Rattle.page.specs.Records.{waits, table-of};
+ghost use Rattle.page.specs.Records.{table-of};
 ghost use Rattle.page.specs.Form.{records-form, content-form};
 ghost use Rattle.output.specs.Put.{Put};
 ghost use Rattle.recording.specs.Said.{rows-of, passes, said};
@@ -15,26 +15,11 @@ use copies::change_record;
 use frames::put_count_line;
 use frames::put_table_head;
 use lines::Cursor;
-use page::Remark;
 
 // How far the writing has come, and how many records or sections were written.
 pub struct Progress {
     pub at: usize,
     pub count: usize,
-}
-
-// The mark that waits after a line with the content c: "It speaks of the next `rec`."
-fn wait_on(c: &[u8], m: u64) -> u64
-    ensures { λ r. ⌜ r ≡ waits m (now (c .entry)) ⌝ }
-{
-    if commands::command_of(c) != commands::COM {
-        return m;
-    }
-    match quoted::read_remark(lines::rest_of(c)) {
-        Remark::Comment => m,
-        Remark::Unreadable => m,
-        Remark::Mark(i) => i,
-    }
 }
 
 // "records keep their order": s is the bytes of a section of table t whose records all passed their rules.
@@ -79,7 +64,7 @@ fn put_records(
             m = 0;
             n += 1;
         } else {
-            m = wait_on(x, m);
+            m = quoted::wait_on(x, m);
         }
     }
     Progress { at: o, count: n }

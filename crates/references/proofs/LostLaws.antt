@@ -163,7 +163,3 @@ module _ (s : Bytes) (r : Seats) (z : Ready s r) where
         → reaches s r t fs k ≡ any (bears c key) (lines (take (a .to - a .from) (drop (a .from) s)))
     unfolding reaches
     reaches-some n a e c f key g = rw (sym x, sym q, ne-eqb p 0 n, e, f, g)
-
-  pub lost-here : (i : ℕ) (a : Seat) (n : ℕ) → a ≡ seat-at r i → first-line (loses-any s r (a .table)) [] 0 (lines (take (a .to - a .from) (drop (a .from) s))) ≡ n → lost-line s r (seat-at r i) ≡ n
-  unfolding lost-line
-  lost-here i a n e f = rw (sym e) f

@@ -32,10 +32,11 @@ use Rattle.grammar.proofs.Accepts.{denotes-accepted}
 use Rattle.grammar.proofs.Readings.{denoted-known, handed-denoted}
 use Rattle.laws.proofs.Sections.{sections-begin}
 use Rattle.verdicts.proofs.Headers.{header-exactly, header-settled}
-use Rattle.round.proofs.RoundKeys.{earlier-none, SoundSection, sound-keys}
+use Rattle.round.proofs.RoundKeys.{SoundSection, sound-keys}
 use Rattle.round.proofs.RoundForm.{form-model, form-sound}
 use Rattle.round.proofs.RoundReads.{denoted-sound}
 use Rattle.round.proofs.RoundHeaderReads.{header-said}
+use Rattle.laws.proofs.Earlier.{earlier-none}
 
 -- no row is unsound
 rows-sound : (i : ℕ) (rs : List Row) → first-unsound i rs .number ≡ 0 → Every (λ r. r .verdict ≡ 0) rs

@@ -21,11 +21,12 @@ use Rattle.page.proofs.LineLaws.{joined-append}
 use Rattle.round.specs.Round.{Printed, PrintedIf, SoundHead}
 use Rattle.laws.proofs.WrittenScans.{all-append, all-mono}
 use Rattle.round.proofs.WrittenNumbers.{padded-all}
-use Rattle.round.proofs.WrittenTexts.{text-quoted, quoted-all}
+use Rattle.round.proofs.WrittenTexts.{quoted-all}
 use Rattle.round.proofs.WrittenFields.{solid, no-field, a-field, solid-field, quoted-field}
 use Rattle.round.proofs.WrittenLines.{Named, commands, Seen, seen, separated-more, separated-none, quote-allowed}
 use Rattle.round.proofs.WrittenDates.{date-ok-again, time-ok-again}
 use Rattle.round.proofs.RoundRecords.{digit-allowed}
+use Rattle.page.proofs.TextLaws.{quoted-text}
 
 -- the written lines
 
@@ -122,7 +123,7 @@ next-step s m a b c d = rw (s .clean, s .shown, s .named, s .split, b, a, c, d)
 
 text-held : (k form : ℕ) (t : Bytes) → eqb k Src ≡ false → eqb k Chs ≡ false → holds k form (quoted t ∷ []) ≡ true
 unfolding holds text-ok
-text-held k form t a b = rw (a, b, text-quoted t)
+text-held k form t a b = rw (a, b, quoted-text t)
 
 charset-held : (latin : Bool) → chs-ok (quoted (charset-name latin) ∷ []) ≡ true
 unfolding chs-ok names-ascii names-latin charset-name quoted doubled bytes same
@@ -138,7 +139,7 @@ charset-back false = refl
 module _ (h : Head) (s : SoundHead h) where
   source-held : holds Src 1 (quoted (h .source) ∷ dated h) ≡ true
   unfolding holds src-ok
-  source-held = rw (text-quoted (h .source), date-ok-again (h .date) (s .year) (s .date), time-ok-again (h .time) (s .time))
+  source-held = rw (quoted-text (h .source), date-ok-again (h .date) (s .year) (s .date), time-ok-again (h .time) (s .time))
 
   -- after the first five lines
   abbrev opened : Met

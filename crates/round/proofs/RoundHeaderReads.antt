@@ -20,11 +20,11 @@ use Rattle.page.specs.Grammar.{fields-of}
 use Rattle.page.specs.Rules.{Every, none-left, one-more, spoken, times, HeadLine, SoundHeader}
 use Rattle.page.specs.declared.Date.{Date}
 use Rattle.round.specs.Round.{Printed, PrintedIf, SoundHead}
-use Rattle.laws.proofs.WrittenScans.{and-l, and-r}
 use Rattle.round.proofs.WrittenTexts.{text-exactly, all-quoted}
 use Rattle.round.proofs.RoundHeaderValues.{pass-line, pass-stands, hit-line}
 use Rattle.round.proofs.RoundReads.{Passing, all-drop, split-all, trim-each}
 use Rattle.laws.proofs.Tests.{blank-missing}
+use Rattle.page.proofs.TestLaws.{and-left, and-right}
 
 front : (k : ℕ) (l : Bytes) (xs ys : List Bytes) → stands-in k xs ≡ stands-in k ys → stands-in k (l ∷ xs) ≡ stands-in k (l ∷ ys)
 unfolding stands-in
@@ -53,7 +53,7 @@ module _ (k : ℕ) (nc : ¬ (k ≡ Com)) (nm : ¬ (k ≡ Missing)) where
       by true e h = rw (blank-missing (content l) e) (ne-eqb Missing k (λ (q : Missing ≡ k). nm (sym q)))
       by false e h = rw (eqb-true (command (content l)) Com h) (ne-eqb Com k (λ (q : Com ≡ k). nc (sym q)))
 
-  spoken-rest : (ls : List Bytes) → line-of k 0 ls .rest ≡ line-of k 0 (spoken ls) .rest
+  pub spoken-rest : (ls : List Bytes) → line-of k 0 ls .rest ≡ line-of k 0 (spoken ls) .rest
   unfolding spoken
   spoken-rest [] = refl
   spoken-rest (l ∷ ls) = by (spoken-rest ls) (blank (content l) || eqb (command (content l)) Com) refl (eqb (command (content l)) k) refl
@@ -64,7 +64,7 @@ module _ (k : ℕ) (nc : ¬ (k ≡ Com)) (nm : ¬ (k ≡ Missing)) where
       by ih false e true f = hit-line k l ls 0 (eqb-true (command (content l)) k f) ∙ sym (hit-line k l (spoken ls) 0 (eqb-true (command (content l)) k f))
       by ih false e false f = pass-line k l ls 0 f ∙ ih ∙ sym (pass-line k l (spoken ls) 0 f)
 
-  spoken-stands : (ls : List Bytes) → stands-in k ls ≡ stands-in k (spoken ls)
+  pub spoken-stands : (ls : List Bytes) → stands-in k ls ≡ stands-in k (spoken ls)
   unfolding spoken
   spoken-stands [] = refl
   spoken-stands (l ∷ ls) = by (spoken-stands ls) (blank (content l) || eqb (command (content l)) Com) refl
@@ -75,7 +75,7 @@ module _ (k : ℕ) (nc : ¬ (k ≡ Com)) (nm : ¬ (k ≡ Missing)) where
       by ih false e = front k l ls (spoken ls) ih
 
 -- a line that stands holds what it must, and its bytes are allowed
-held-line : (k form : ℕ) {xs : List Bytes} → Every (HeadLine form) xs → stands-in k xs ≡ true → holds k form (fields (line-of k 0 xs .rest)) ≡ true
+pub held-line : (k form : ℕ) {xs : List Bytes} → Every (HeadLine form) xs → stands-in k xs ≡ true → holds k form (fields (line-of k 0 xs .rest)) ≡ true
 unfolding stands-in
 held-line k form none-left h = absurd (false≢true h)
 held-line k form (one-more {x} {xs} l ls) h = by (held-line k form ls) (eqb (command (content x)) k) refl h
@@ -94,7 +94,7 @@ printed-line k (one-more {x} {xs} l ls) = by (printed-line k ls) (eqb (command (
     by ih true e = rw (hit-line k x xs 0 (eqb-true (command (content x)) k e)) (rest-printed x l)
     by ih false e = rw (pass-line k x xs 0 e) ih
 
-counted-stands : (k : ℕ) (xs : List Bytes) → times k xs ≡ 1 → stands-in k xs ≡ true
+pub counted-stands : (k : ℕ) (xs : List Bytes) → times k xs ≡ 1 → stands-in k xs ≡ true
 counted-stands k xs h = by (stands-in k xs) refl
   where
     by : (b : Bool) → stands-in k xs ≡ b → stands-in k xs ≡ true
@@ -122,29 +122,29 @@ rest-fields p w h = trim-each p (split-all p false w h)
 -- four digits make at most 9999
 digit-most : (b : ℕ) → digit b ≡ true → b ≤ 57
 unfolding digit
-digit-most b h = leb-true b 57 (and-r (leb 48 b) (leb b 57) h)
+digit-most b h = leb-true b 57 (and-right (leb 48 b) (leb b 57) h)
 
 four-digits : (w : Bytes) → all digit w ≡ true → length w ≤ 4 → value 0 w ≤ 9999
 unfolding value all
 four-digits [] h l = omega arith
-four-digits (a ∷ []) h l = omega (arith, digit-most a (and-l (digit a) true h))
+four-digits (a ∷ []) h l = omega (arith, digit-most a (and-left (digit a) true h))
 four-digits (a ∷ b ∷ []) h l =
-    let t : (digit b && true) ≡ true = and-r (digit a) (digit b && true) h in
-    omega (arith, digit-most a (and-l (digit a) (digit b && true) h), digit-most b (and-l (digit b) true t))
+    let t : (digit b && true) ≡ true = and-right (digit a) (digit b && true) h in
+    omega (arith, digit-most a (and-left (digit a) (digit b && true) h), digit-most b (and-left (digit b) true t))
 four-digits (a ∷ b ∷ c ∷ []) h l =
-    let t : (digit b && (digit c && true)) ≡ true = and-r (digit a) (digit b && (digit c && true)) h in
-    let u : (digit c && true) ≡ true = and-r (digit b) (digit c && true) t in
-    omega (arith, digit-most a (and-l (digit a) (digit b && (digit c && true)) h), digit-most b (and-l (digit b) (digit c && true) t), digit-most c (and-l (digit c) true u))
+    let t : (digit b && (digit c && true)) ≡ true = and-right (digit a) (digit b && (digit c && true)) h in
+    let u : (digit c && true) ≡ true = and-right (digit b) (digit c && true) t in
+    omega (arith, digit-most a (and-left (digit a) (digit b && (digit c && true)) h), digit-most b (and-left (digit b) (digit c && true) t), digit-most c (and-left (digit c) true u))
 four-digits (a ∷ b ∷ c ∷ d ∷ []) h l =
-    let t : (digit b && (digit c && (digit d && true))) ≡ true = and-r (digit a) (digit b && (digit c && (digit d && true))) h in
-    let u : (digit c && (digit d && true)) ≡ true = and-r (digit b) (digit c && (digit d && true)) t in
-    let v : (digit d && true) ≡ true = and-r (digit c) (digit d && true) u in
+    let t : (digit b && (digit c && (digit d && true))) ≡ true = and-right (digit a) (digit b && (digit c && (digit d && true))) h in
+    let u : (digit c && (digit d && true)) ≡ true = and-right (digit b) (digit c && (digit d && true)) t in
+    let v : (digit d && true) ≡ true = and-right (digit c) (digit d && true) u in
     omega (
       arith,
-      digit-most a (and-l (digit a) (digit b && (digit c && (digit d && true))) h),
-      digit-most b (and-l (digit b) (digit c && (digit d && true)) t),
-      digit-most c (and-l (digit c) (digit d && true) u),
-      digit-most d (and-l (digit d) true v),
+      digit-most a (and-left (digit a) (digit b && (digit c && (digit d && true))) h),
+      digit-most b (and-left (digit b) (digit c && (digit d && true)) t),
+      digit-most c (and-left (digit c) (digit d && true) u),
+      digit-most d (and-left (digit d) true v),
     )
 four-digits (a ∷ b ∷ c ∷ d ∷ e ∷ w) h l = absurd (let z : ⊥ = omega arith in z)
 
@@ -154,19 +154,19 @@ year-small at f h = four-digits (take 4 (drop at f)) h (omega (arith, length-tak
 
 date-year : (form : ℕ) (f : Bytes) → date-shape form f ≡ true → dateOf form f .year ≤ 9999
 unfolding date-shape dateOf
-date-year form f h = by (eqb form 1) (and-r (quoted-size 10 f) _ h)
+date-year form f h = by (eqb form 1) (and-right (quoted-size 10 f) _ h)
   where
     by : (b : Bool) → pick b (digits-in 1 2 f && byte-is 3 46 f && digits-in 4 2 f && byte-is 6 46 f && digits-in 7 4 f)
         (digits-in 1 4 f && byte-is 5 47 f && digits-in 6 2 f && byte-is 8 47 f && digits-in 9 2 f) ≡ true →
         pick {A = Date} b (record { year = number-in 7 4 f; month = number-in 4 2 f; day = number-in 1 2 f })
         (record { year = number-in 1 4 f; month = number-in 6 2 f; day = number-in 9 2 f }) .year ≤ 9999
-    by true h = year-small 7 f (and-r (digits-in 1 2 f && byte-is 3 46 f && digits-in 4 2 f && byte-is 6 46 f) (digits-in 7 4 f) h)
+    by true h = year-small 7 f (and-right (digits-in 1 2 f && byte-is 3 46 f && digits-in 4 2 f && byte-is 6 46 f) (digits-in 7 4 f) h)
     by false h =
         year-small 1 f
-        (and-l (digits-in 1 4 f) (byte-is 5 47 f)
-        (and-l (digits-in 1 4 f && byte-is 5 47 f) (digits-in 6 2 f)
-        (and-l (digits-in 1 4 f && byte-is 5 47 f && digits-in 6 2 f) (byte-is 8 47 f)
-        (and-l (digits-in 1 4 f && byte-is 5 47 f && digits-in 6 2 f && byte-is 8 47 f) (digits-in 9 2 f) h))))
+        (and-left (digits-in 1 4 f) (byte-is 5 47 f)
+        (and-left (digits-in 1 4 f && byte-is 5 47 f) (digits-in 6 2 f)
+        (and-left (digits-in 1 4 f && byte-is 5 47 f && digits-in 6 2 f) (byte-is 8 47 f)
+        (and-left (digits-in 1 4 f && byte-is 5 47 f && digits-in 6 2 f && byte-is 8 47 f) (digits-in 9 2 f) h))))
 
 module _ (ls : List Bytes) (s : SoundHeader ls) where
   abbrev form : ℕ
@@ -181,14 +181,14 @@ module _ (ls : List Bytes) (s : SoundHeader ls) where
     first-other : eqb (command (content (s .first))) k ≡ false
     first-other = rw (s .mode) no
 
-    stands-said : stands-in k ls ≡ stands-in k (s .others)
+    pub stands-said : stands-in k ls ≡ stands-in k (s .others)
     stands-said = spoken-stands k nc nm ls ∙ rw (s .order) (pass-stands k (s .first) (s .others) first-other)
 
-    held-said : stands-in k ls ≡ true → holds k form (fields (line-of k 0 ls .rest)) ≡ true
+    pub held-said : stands-in k ls ≡ true → holds k form (fields (line-of k 0 ls .rest)) ≡ true
     held-said h =
         rw (spoken-rest k nc nm ls, s .order, pass-line k (s .first) (s .others) 0 first-other) (held-line k form (s .each) (rw stands-said at h))
 
-    once-said : times k (s .others) ≡ 1 → stands-in k ls ≡ true
+    pub once-said : times k (s .others) ≡ 1 → stands-in k ls ≡ true
     once-said h = rw stands-said (counted-stands k (s .others) h)
 
     field-said : (i : ℕ) → all (allowed false) (field-in k i ls) ≡ true
@@ -200,7 +200,7 @@ module _ (ls : List Bytes) (s : SoundHeader ls) where
     unfolding text-in field-in holds text-ok
     text-held a b h =
         let x : text-ok (fields (line-of k 0 ls .rest)) ≡ true = rw (a, b) at (held-said h) in
-        text-said (getD (fields (line-of k 0 ls .rest)) 0 []) (and-r (eqb (length (fields (line-of k 0 ls .rest))) 1) (is-text (textOf (getD (fields (line-of k 0 ls .rest)) 0 []))) x) (field-said 0)
+        text-said (getD (fields (line-of k 0 ls .rest)) 0 []) (and-right (eqb (length (fields (line-of k 0 ls .rest))) 1) (is-text (textOf (getD (fields (line-of k 0 ls .rest)) 0 []))) x) (field-said 0)
 
     text-if-held : eqb k Src ≡ false → eqb k Chs ≡ false → PrintedIf (text-if k ls)
     unfolding text-if
@@ -210,7 +210,7 @@ module _ (ls : List Bytes) (s : SoundHeader ls) where
         by true e = text-held a b e
         by false e = tt
 
-  the-once : (times Src (s .others) ≡ 1) × (times Chs (s .others) ≡ 1) × (times Ver (s .others) ≡ 1) × (times Ifv (s .others) ≡ 1)
+  pub the-once : (times Src (s .others) ≡ 1) × (times Chs (s .others) ≡ 1) × (times Ver (s .others) ≡ 1) × (times Ifv (s .others) ≡ 1)
   the-once = by (s .once)
     where
       by : Every (λ (k : ℕ). times k (s .others) ≡ 1) (Src ∷ Chs ∷ Ver ∷ Ifv ∷ []) →
@@ -220,29 +220,29 @@ module _ (ls : List Bytes) (s : SoundHeader ls) where
   abbrev source-field : ℕ → Bytes
   source-field i = getD (fields (line-of Src 0 ls .rest)) i []
 
-  source-held : src-ok form (fields (line-of Src 0 ls .rest)) ≡ true
+  pub source-held : src-ok form (fields (line-of Src 0 ls .rest)) ≡ true
   unfolding holds
   source-held =
       held-said Src (λ (e : Src ≡ Com). omega arith) (λ (e : Src ≡ Missing). omega arith) refl
       (once-said Src (λ (e : Src ≡ Com). omega arith) (λ (e : Src ≡ Missing). omega arith) refl (the-once .0))
 
-  source-parts : (is-text (textOf (source-field 0)) ≡ true) × (date-ok form (source-field 1) ≡ true) × (time-ok (source-field 2) ≡ true)
+  pub source-parts : (is-text (textOf (source-field 0)) ≡ true) × (date-ok form (source-field 1) ≡ true) × (time-ok (source-field 2) ≡ true)
   unfolding src-ok
   source-parts =
       let n : Bool = eqb (length (fields (line-of Src 0 ls .rest))) 3 in
       let a : Bool = is-text (textOf (source-field 0)) in
       let b : Bool = date-ok form (source-field 1) in
       let c : Bool = time-ok (source-field 2) in
-      (and-r n a (and-l (n && a) b (and-l (n && a && b) c source-held)), and-r (n && a) b (and-l (n && a && b) c source-held), and-r (n && a && b) c source-held)
+      (and-right n a (and-left (n && a) b (and-left (n && a && b) c source-held)), and-right (n && a) b (and-left (n && a && b) c source-held), and-right (n && a && b) c source-held)
 
   pub header-said : SoundHead (head-values ls)
   unfolding head-values text-in field-in date-ok time-ok
   header-said =
       record {
         source = text-said (source-field 0) (source-parts .0) (field-said Src (λ (e : Src ≡ Com). omega arith) (λ (e : Src ≡ Missing). omega arith) refl 0);
-        date = rw form-said (and-r (date-shape form (source-field 1)) (real-date (dateOf form (source-field 1))) (source-parts .1));
-        year = rw form-said (date-year form (source-field 1) (and-l (date-shape form (source-field 1)) (real-date (dateOf form (source-field 1))) (source-parts .1)));
-        time = and-r (time-shape (source-field 2)) (real-time (timeOf (source-field 2))) (source-parts .2);
+        date = rw form-said (and-right (date-shape form (source-field 1)) (real-date (dateOf form (source-field 1))) (source-parts .1));
+        year = rw form-said (date-year form (source-field 1) (and-left (date-shape form (source-field 1)) (real-date (dateOf form (source-field 1))) (source-parts .1)));
+        time = and-right (time-shape (source-field 2)) (real-time (timeOf (source-field 2))) (source-parts .2);
         ver =
             text-held Ver (λ (e : Ver ≡ Com). omega arith) (λ (e : Ver ≡ Missing). omega arith) refl refl refl
             (once-said Ver (λ (e : Ver ≡ Com). omega arith) (λ (e : Ver ≡ Missing). omega arith) refl (the-once .2));

@@ -16,10 +16,10 @@ use Rattle.page.specs.Places.{stands, line-of}
 use Rattle.page.specs.Head.{Head, field-in, text-in, stands-in, form-in, latin-in, text-if, head-values}
 use Rattle.page.specs.Form.{quoted, date-text, time-text, charset-name}
 use Rattle.round.specs.Round.{PrintedIf, SoundHead}
-use Rattle.round.proofs.WrittenTexts.{text-quoted}
 use Rattle.round.proofs.WrittenLines.{commands}
 use Rattle.round.proofs.WrittenDates.{date-again, time-again}
 use Rattle.round.proofs.RoundHeader.{mod-line, src-line, chs-line, text-line, lines-if, head-lines, mod-seen, src-seen, chs-seen, text-seen, charset-back}
+use Rattle.page.proofs.TextLaws.{quoted-text}
 
 -- what follows the first `;` in the first line of command k does not depend on where the lines begin
 rest-anywhere : (k a b : ℕ) (ls : List Bytes) → line-of k a ls .rest ≡ line-of k b ls .rest
@@ -116,19 +116,19 @@ module _ (h : Head) (s : SoundHead h) where
   dve-stated : (d f : Option Bytes) → PrintedIf d → PrintedIf f → stated Dve (lines-if "dve" d ++ lines-if "fft" f) ≡ d
   unfolding stated lines-if stands-in line-of stands
   dve-stated none none p q = refl
-  dve-stated (some d) none p q = let x = text-seen (commands .5) d p in rw (x .named, x .split, text-quoted d)
+  dve-stated (some d) none p q = let x = text-seen (commands .5) d p in rw (x .named, x .split, quoted-text d)
   dve-stated none (some f) p q = let x = text-seen (commands .6) f q in rw (x .named)
-  dve-stated (some d) (some f) p q = let x = text-seen (commands .5) d p in rw (x .named, x .split, text-quoted d)
+  dve-stated (some d) (some f) p q = let x = text-seen (commands .5) d p in rw (x .named, x .split, quoted-text d)
 
   fft-stated : (d f : Option Bytes) → PrintedIf d → PrintedIf f → stated Fft (lines-if "dve" d ++ lines-if "fft" f) ≡ f
   unfolding stated lines-if stands-in line-of stands
   fft-stated none none p q = refl
   fft-stated (some d) none p q = let x = text-seen (commands .5) d p in rw (x .named)
-  fft-stated none (some f) p q = let x = text-seen (commands .6) f q in rw (x .named, x .split, text-quoted f)
+  fft-stated none (some f) p q = let x = text-seen (commands .6) f q in rw (x .named, x .split, quoted-text f)
   fft-stated (some d) (some f) p q =
       let x = text-seen (commands .5) d p in
       let y = text-seen (commands .6) f q in
-      rw (x .named, y .named, y .split, text-quoted f)
+      rw (x .named, y .named, y .split, quoted-text f)
 
   dve-back : text-if Dve (head-lines h) ≡ h .dve
   unfolding text-if text-in field-in stated
@@ -153,9 +153,9 @@ module _ (h : Head) (s : SoundHead h) where
         latin-back,
         dve-back,
         fft-back,
-        text-quoted (h .source),
-        text-quoted (h .ver),
-        text-quoted (h .ifv),
+        quoted-text (h .source),
+        quoted-text (h .ver),
+        quoted-text (h .ifv),
         date-again (h .date) (s .year) (s .date),
         time-again (h .time) (s .time),
       )

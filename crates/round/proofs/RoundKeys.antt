@@ -5,7 +5,7 @@ use mathlib.Core.List.{List, [], _∷_, map}
 use Prim.Native.Nat.{ℕ, suc}
 use native.Mathlib.Omega.{arith}
 use lib.Dec.{eqb}
-use borrow.Author.Tests.{eqb-true, eqb-false, ne-eqb}
+use borrow.Author.Tests.{ne-eqb}
 use Rattle.page.specs.Bytes.{Bytes, pick}
 use Rattle.page.specs.Tables.{Reference, number-at, table-at}
 use Rattle.page.specs.Cut.{Section, sections}
@@ -20,8 +20,9 @@ use Rattle.page.specs.declared.Column.{Column}
 use Rattle.page.specs.declared.Row.{Row}
 use Rattle.page.specs.declared.Refusal.{Refusal}
 use Rattle.round.specs.RoundKeys.{again, breaks, placeless, filed-content, KeysHold, keys-number}
-use Rattle.laws.proofs.WrittenScans.{or-false}
 use Rattle.round.proofs.Local.{map-append}
+use Rattle.page.proofs.TestLaws.{neither}
+use Rattle.laws.proofs.Earlier.{earlier-none}
 
 -- a record without its place
 abbrev forget : Filed → Filed
@@ -63,7 +64,7 @@ breaks-none : (v : ℕ) (bad : List Filed → Filed → Bool) (before es : List 
 unfolding breaks first-record
 breaks-none v bad before [] h = refl
 breaks-none v bad before (e ∷ es) h =
-    let z = or-false (bad before e) (breaks bad (e ∷ before) es) h in
+    let z = neither (bad before e) (breaks bad (e ∷ before) es) h in
     rw (z .0) (breaks-none v bad (e ∷ before) es (z .1))
 
 none-breaks : (v : ℕ) → ¬ (v ≡ 0) → (bad : List Filed → Filed → Bool) (before es : List Filed) → first-record v bad before es .number ≡ 0 → breaks bad before es ≡ false
@@ -81,7 +82,7 @@ again-none : (seen : List ℕ) (i : ℕ) (rs : List Row) → again seen (map (λ
 unfolding again first-again
 again-none seen i [] h = refl
 again-none seen i (r ∷ rs) h =
-    let z = or-false (any (eqb (r .table)) seen) (again (r .table ∷ seen) (map (λ (r : Row). r .table) rs)) h in
+    let z = neither (any (eqb (r .table)) seen) (again (r .table ∷ seen) (map (λ (r : Row). r .table) rs)) h in
     rw (z .0) (again-none (r .table ∷ seen) (suc i) rs (z .1))
 
 none-again : (seen : List ℕ) (i : ℕ) (rs : List Row) → first-again seen i rs .number ≡ 0 → again seen (map (λ (r : Row). r .table) rs) ≡ false
@@ -121,14 +122,6 @@ earlier-number a b true v w n e f = rw (e, ne-eqb v 0 n)
 earlier-number a b false v w n e f = rw e f
 
 -- the first of two that refuses: none does
-pub earlier-none : (a b : Refusal) → earlier a b .number ≡ 0 → (a .number ≡ 0) × (b .number ≡ 0)
-unfolding earlier
-earlier-none a b h = by (eqb (a .number) 0) refl h
-  where
-    by : (q : Bool) → eqb (a .number) 0 ≡ q → pick q b a .number ≡ 0 → (a .number ≡ 0) × (b .number ≡ 0)
-    by true e h = (eqb-true (a .number) 0 e, h)
-    by false e h = absurd (eqb-false (a .number) 0 e h)
-
 pass-sound : (b : Refusal) → earlier sound b .number ≡ b .number
 unfolding earlier
 pass-sound b = refl

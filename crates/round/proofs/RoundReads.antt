@@ -20,8 +20,8 @@ use Rattle.page.specs.Rules.{Every, none-left, one-more}
 use Rattle.page.specs.declared.Column.{Column}
 use Rattle.page.specs.declared.Owner.the-variants as O
 use Rattle.round.specs.Round.{Fits, a-number, a-text, a-suggestion, FitAll, no-value, a-value, amount-of, amount-in, points-alike, SoundRecord}
-use Rattle.laws.proofs.WrittenScans.{and-l, and-r}
 use Rattle.round.proofs.WrittenTexts.{text-exactly, all-quoted}
+use Rattle.page.proofs.TestLaws.{and-left, and-right}
 
 -- a test that all bytes of a line pass, each field passes
 
@@ -29,13 +29,13 @@ all-take : (p : ℕ → Bool) (n : ℕ) (w : Bytes) → all p w ≡ true → all
 unfolding all
 all-take p zero w h = refl
 all-take p (suc n) [] h = refl
-all-take p (suc n) (b ∷ w) h = rw (and-l (p b) (all p w) h) (all-take p n w (and-r (p b) (all p w) h))
+all-take p (suc n) (b ∷ w) h = rw (and-left (p b) (all p w) h) (all-take p n w (and-right (p b) (all p w) h))
 
 pub all-drop : (p : ℕ → Bool) (n : ℕ) (w : Bytes) → all p w ≡ true → all p (drop n w) ≡ true
 unfolding all
 all-drop p zero w h = h
 all-drop p (suc n) [] h = refl
-all-drop p (suc n) (b ∷ w) h = all-drop p n w (and-r (p b) (all p w) h)
+all-drop p (suc n) (b ∷ w) h = all-drop p n w (and-right (p b) (all p w) h)
 
 all-trim : (p : ℕ → Bool) (w : Bytes) → all p w ≡ true → all p (trim w) ≡ true
 unfolding trim
@@ -53,7 +53,7 @@ into-all p false b h (one-more {x} f fs) = one-more {x = b ∷ x} (rw h f) fs
 pub split-all : (p : ℕ → Bool) (q : Bool) (w : Bytes) → all p w ≡ true → Every (Passing p) (split q w)
 unfolding split all
 split-all p q [] h = one-more refl none-left
-split-all p q (b ∷ w) h = into-all p (parts-here q b) b (and-l (p b) (all p w) h) (split-all p (inside-after q b) w (and-r (p b) (all p w) h))
+split-all p q (b ∷ w) h = into-all p (parts-here q b) b (and-left (p b) (all p w) h) (split-all p (inside-after q b) w (and-right (p b) (all p w) h))
 
 pub trim-each : (p : ℕ → Bool) {fs : List Bytes} → Every (Passing p) fs → Every (Passing p) (map trim fs)
 trim-each p none-left = none-left
@@ -165,7 +165,7 @@ module _ (latin : Bool) (t : ℕ) where
   unfolding may-mark standing
   may-fit {ms} a j h =
       let z : 1 + j - 1 ≡ j = omega arith in
-      rw z at (and-r (leb 1 (1 + j)) (getD (standing t) (1 + j - 1) no-column .column .fillable) (marked-may t (1 + j) a h))
+      rw z at (and-right (leb 1 (1 + j)) (getD (standing t) (1 + j - 1) no-column .column .fillable) (marked-may t (1 + j) a h))
 
   line-allowed : (l : Bytes) → Says latin Rec l → all (allowed latin) (content l) ≡ true
   unfolding clean

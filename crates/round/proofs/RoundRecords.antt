@@ -20,10 +20,12 @@ use Rattle.page.specs.declared.Number.the-variants as N
 use Rattle.page.specs.declared.Owner.{Owner}
 use Rattle.page.specs.declared.Owner.the-variants as O
 use Rattle.round.specs.Round.{Fits, a-number, a-text, a-suggestion, FitAll, no-value, a-value, amount-of, amount-in}
-use Rattle.laws.proofs.WrittenScans.{and-l, and-r, all-mono, all-append}
+use Rattle.laws.proofs.WrittenScans.{all-mono, all-append}
 use Rattle.round.proofs.WrittenNumbers.{number-decimal, decimal-all}
-use Rattle.round.proofs.WrittenTexts.{text-quoted, quoted-all}
+use Rattle.round.proofs.WrittenTexts.{quoted-all}
 use Rattle.round.proofs.WrittenFields.{Field, Fields, no-field, a-field, quoted-field, decimal-field}
+use Rattle.page.proofs.TestLaws.{and-left, and-right}
+use Rattle.page.proofs.TextLaws.{quoted-text}
 
 -- columns of the eight tables: their bounds are small, and at most one of them may be marked
 
@@ -73,7 +75,7 @@ tame =
 pub digit-allowed : (wide : Bool) (b : ℕ) → digit b ≡ true → allowed wide b ≡ true
 unfolding allowed digit
 digit-allowed wide b h =
-    rw (le-leb 32 b (omega (arith, leb-true 48 b (and-l (leb 48 b) (leb b 57) h))), le-leb b 126 (omega (arith, leb-true b 57 (and-r (leb 48 b) (leb b 57) h))))
+    rw (le-leb 32 b (omega (arith, leb-true 48 b (and-left (leb 48 b) (leb b 57) h))), le-leb b 126 (omega (arith, leb-true b 57 (and-right (leb 48 b) (leb b 57) h))))
 
 module _ (latin : Bool) (c : Column) where
   pub field-back : (v : Datum) → Fits latin c v → c .hi < 10 ^ 18 → field-number (fieldOf c (datum-text v)) ≡ 0
@@ -81,8 +83,8 @@ module _ (latin : Bool) (c : Column) where
   field-back (number n) (a-number k l h) s =
       let z : n < 10 ^ 18 = omega arith in
       rw (k, number-decimal n z, le-leb (c .lo) n l, le-leb n (c .hi) h)
-  field-back (words O.Operator t) (a-text k h a) s = rw (k, text-quoted t, le-leb (length t) (c .hi) h)
-  field-back (words O.Suggestion t) (a-suggestion k f p h a) s = rw (k, text-quoted t, le-leb (length t) (c .hi) h)
+  field-back (words O.Operator t) (a-text k h a) s = rw (k, quoted-text t, le-leb (length t) (c .hi) h)
+  field-back (words O.Suggestion t) (a-suggestion k f p h a) s = rw (k, quoted-text t, le-leb (length t) (c .hi) h)
 
   -- whose the text is, is the owner's to say
   abbrev Owns : Owner → Datum → Type 0
@@ -94,8 +96,8 @@ module _ (latin : Bool) (c : Column) where
   datum-back o (number n) (a-number k l h) s w =
       let z : n < 10 ^ 18 = omega arith in
       rw (k, number-decimal n z)
-  datum-back o (words O.Operator t) (a-text k h a) s w = rw (k, text-quoted t, w)
-  datum-back o (words O.Suggestion t) (a-suggestion k f p h a) s w = rw (k, text-quoted t, w)
+  datum-back o (words O.Operator t) (a-text k h a) s w = rw (k, quoted-text t, w)
+  datum-back o (words O.Suggestion t) (a-suggestion k f p h a) s w = rw (k, quoted-text t, w)
 
   datum-allowed : (v : Datum) → Fits latin c v → all (allowed latin) (datum-text v) ≡ true
   unfolding datum-text allowed
@@ -134,21 +136,21 @@ module _ (latin : Bool) where
   unfolding first-wrong small
   wrong-back no-value s = refl
   wrong-back (a-value {c} {cs} {v} {vs} f g) s =
-      rw (field-back latin (c .column) v f (ltb-true (c .column .hi) (10 ^ 18) (and-l (ltb (c .column .hi) (10 ^ 18)) (small cs) s)))
-      (wrong-back g (and-r (ltb (c .column .hi) (10 ^ 18)) (small cs) s))
+      rw (field-back latin (c .column) v f (ltb-true (c .column .hi) (10 ^ 18) (and-left (ltb (c .column .hi) (10 ^ 18)) (small cs) s)))
+      (wrong-back g (and-right (ltb (c .column .hi) (10 ^ 18)) (small cs) s))
 
   pub values-back : (m i : ℕ) {cs : List Named} {vs : Record} → FitAll latin cs vs → small cs ≡ true → Owned m i vs → valuesOf m i cs (map datum-text vs) ≡ vs
   unfolding valuesOf small
   values-back m i no-value s w = refl
   values-back m i (a-value {c} {cs} {v = number n} {vs} f g) s (of-number w) =
       rw (
-        datum-back latin (c .column) (owner-of m i) (number n) f (ltb-true (c .column .hi) (10 ^ 18) (and-l (ltb (c .column .hi) (10 ^ 18)) (small cs) s)) tt,
-        values-back m (suc i) g (and-r (ltb (c .column .hi) (10 ^ 18)) (small cs) s) w,
+        datum-back latin (c .column) (owner-of m i) (number n) f (ltb-true (c .column .hi) (10 ^ 18) (and-left (ltb (c .column .hi) (10 ^ 18)) (small cs) s)) tt,
+        values-back m (suc i) g (and-right (ltb (c .column .hi) (10 ^ 18)) (small cs) s) w,
       )
   values-back m i (a-value {c} {cs} {v = words o t} {vs} f g) s (of-words e w) =
       rw (
-        datum-back latin (c .column) (owner-of m i) (words o t) f (ltb-true (c .column .hi) (10 ^ 18) (and-l (ltb (c .column .hi) (10 ^ 18)) (small cs) s)) e,
-        values-back m (suc i) g (and-r (ltb (c .column .hi) (10 ^ 18)) (small cs) s) w,
+        datum-back latin (c .column) (owner-of m i) (words o t) f (ltb-true (c .column .hi) (10 ^ 18) (and-left (ltb (c .column .hi) (10 ^ 18)) (small cs) s)) e,
+        values-back m (suc i) g (and-right (ltb (c .column .hi) (10 ^ 18)) (small cs) s) w,
       )
 
   pub width-back : {cs : List Named} {vs : Record} → FitAll latin cs vs → length vs ≡ length cs
@@ -169,7 +171,7 @@ module _ (latin : Bool) where
   unfolding amount-at amount-in amount-of datum-text small
   amount-back no-value s k = nothing-there
   amount-back (a-value {c} {cs} {v = number n} {vs} (a-number x l h) g) s zero =
-      let z : n < 10 ^ 18 = omega (arith, ltb-true (c .column .hi) (10 ^ 18) (and-l (ltb (c .column .hi) (10 ^ 18)) (small cs) s)) in
+      let z : n < 10 ^ 18 = omega (arith, ltb-true (c .column .hi) (10 ^ 18) (and-left (ltb (c .column .hi) (10 ^ 18)) (small cs) s)) in
       rw (number-decimal n z)
   amount-back (a-value {c} {cs} {v = words o t} {vs} f g) s zero = rw (quoted-none t)
-  amount-back (a-value {c} {cs} f g) s (suc k) = amount-back g (and-r (ltb (c .column .hi) (10 ^ 18)) (small cs) s) k
+  amount-back (a-value {c} {cs} f g) s (suc k) = amount-back g (and-right (ltb (c .column .hi) (10 ^ 18)) (small cs) s) k

@@ -20,10 +20,10 @@ use Rattle.page.specs.declared.Owner.the-variants as O
 use Rattle.page.specs.declared.Phase.the-variants as P
 use Rattle.page.proofs.LineLaws.{joined-append}
 use Rattle.round.specs.Round.{SoundRecord, SoundContent}
-use Rattle.round.proofs.WrittenTexts.{text-quoted}
 use Rattle.round.proofs.RoundRecords.{tame, Owned, values-back, width-back}
 use Rattle.round.proofs.RoundSteps.{mark-lines-of, mark-lines, Marked, unmarked, marked, marks-back, mark-seen, mark-reads, mark-step-back, end-seen, end-step-back, rec-seen, rec-step-back}
 use Rattle.round.proofs.RoundHeads.{Heads, heads, tbl-line, atr-line, frm-line}
+use Rattle.page.proofs.TextLaws.{quoted-text}
 
 -- the written lines
 
@@ -73,7 +73,7 @@ full-of : (j b : ℕ) (u : Bytes) (fs : List Bytes) → getD fs j [] ≡ quoted 
 unfolding empty-marked record-text
 full-of j b u fs q =
     let less : 1 + j - 1 ≡ j = omega arith in
-    rw (le-leb 1 (1 + j) (omega arith), less, q, text-quoted (b ∷ u))
+    rw (le-leb 1 (1 + j) (omega arith), less, q, quoted-text (b ∷ u))
 
 -- the machine over a record's lines, and the record
 

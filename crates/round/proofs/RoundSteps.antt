@@ -19,13 +19,14 @@ use Rattle.page.specs.declared.Phase.the-variants as P
 use Rattle.page.specs.declared.Remark.the-variants as R
 use Rattle.page.specs.declared.Step.the-variants as S
 use Rattle.round.specs.Round.{a-number, a-text, a-suggestion, FitAll, no-value, a-value, points-alike, SoundRecord}
-use Rattle.laws.proofs.WrittenScans.{and-l, and-r, all-mono, or-false}
+use Rattle.laws.proofs.WrittenScans.{all-mono}
 use Rattle.round.proofs.WrittenNumbers.{number-decimal, decimal-all}
 use Rattle.round.proofs.WrittenTexts.{quoted-all}
 use Rattle.round.proofs.WrittenFields.{no-field, a-field, quoted-field, decimal-field}
 use Rattle.round.proofs.WrittenLines.{commands, Seen, seen, separated-more, separated-none, quote-allowed}
 use Rattle.round.proofs.WrittenDates.{mark-again}
 use Rattle.round.proofs.RoundRecords.{tame, small, fillable-in, one-fillable, digit-allowed, Owned, no-owner, of-number, of-words, wrong-back, width-back, fields-stand, separated-allowed, amount-back}
+use Rattle.page.proofs.TestLaws.{and-left, and-right, neither}
 
 -- the marks of a record, line by line
 unfoldable pub mark-lines-of : ℕ → Datum → List Bytes
@@ -56,17 +57,17 @@ module _ (latin : Bool) where
   none-marked : (i : ℕ) {cs : List Named} {vs : Record} → FitAll latin cs vs → fillable-in cs ≡ false → mark-lines i vs ≡ []
   unfolding mark-lines mark-lines-of fillable-in
   none-marked i no-value e = refl
-  none-marked i (a-value {c} {cs} (a-number x l h) g) e = none-marked (suc i) g (or-false (c .column .fillable) (fillable-in cs) e .1)
-  none-marked i (a-value {c} {cs} (a-text x h a) g) e = none-marked (suc i) g (or-false (c .column .fillable) (fillable-in cs) e .1)
-  none-marked i (a-value {c} {cs} (a-suggestion x f p h a) g) e = absurd (false≢true (sym (or-false (c .column .fillable) (fillable-in cs) e .0) ∙ f))
+  none-marked i (a-value {c} {cs} (a-number x l h) g) e = none-marked (suc i) g (neither (c .column .fillable) (fillable-in cs) e .1)
+  none-marked i (a-value {c} {cs} (a-text x h a) g) e = none-marked (suc i) g (neither (c .column .fillable) (fillable-in cs) e .1)
+  none-marked i (a-value {c} {cs} (a-suggestion x f p h a) g) e = absurd (false≢true (sym (neither (c .column .fillable) (fillable-in cs) e .0) ∙ f))
 
   none-owned : (m i : ℕ) {cs : List Named} {vs : Record} → FitAll latin cs vs → fillable-in cs ≡ false → m < i → Owned m i vs
   unfolding fillable-in
   none-owned m i no-value e h = no-owner
-  none-owned m i (a-value {c} {cs} (a-number x l q) g) e h = of-number (none-owned m (suc i) g (or-false (c .column .fillable) (fillable-in cs) e .1) (omega arith))
+  none-owned m i (a-value {c} {cs} (a-number x l q) g) e h = of-number (none-owned m (suc i) g (neither (c .column .fillable) (fillable-in cs) e .1) (omega arith))
   none-owned m i (a-value {c} {cs} (a-text x q a) g) e h =
-      of-words (sym (owner-other m i (λ (z : m ≡ i). omega arith))) (none-owned m (suc i) g (or-false (c .column .fillable) (fillable-in cs) e .1) (omega arith))
-  none-owned m i (a-value {c} {cs} (a-suggestion x f p q a) g) e h = absurd (false≢true (sym (or-false (c .column .fillable) (fillable-in cs) e .0) ∙ f))
+      of-words (sym (owner-other m i (λ (z : m ≡ i). omega arith))) (none-owned m (suc i) g (neither (c .column .fillable) (fillable-in cs) e .1) (omega arith))
+  none-owned m i (a-value {c} {cs} (a-suggestion x f p q a) g) e h = absurd (false≢true (sym (neither (c .column .fillable) (fillable-in cs) e .0) ∙ f))
 
   -- a value of the operator's, or a number, in front
   onto : (i m : ℕ) (c : Named) {cs : List Named} {v : Datum} {vs : Record} → mark-lines-of i v ≡ [] →
@@ -81,14 +82,14 @@ module _ (latin : Bool) where
   unfolding one-fillable mark-lines mark-lines-of datum-text
   marks-back i p no-value e = (0, unmarked refl no-owner)
   marks-back i p (a-value {c} {cs} (a-number x l q) g) e =
-      let k = marks-back (suc i) (omega arith) g (and-r (not (c .column .fillable && fillable-in cs)) (one-fillable cs) e) in
+      let k = marks-back (suc i) (omega arith) g (and-right (not (c .column .fillable && fillable-in cs)) (one-fillable cs) e) in
       (k .0, onto i (k .0) c refl (λ n d o. of-number o) p (k .1))
   marks-back i p (a-value {c} {cs} (a-text x q a) g) e =
-      let k = marks-back (suc i) (omega arith) g (and-r (not (c .column .fillable && fillable-in cs)) (one-fillable cs) e) in
+      let k = marks-back (suc i) (omega arith) g (and-right (not (c .column .fillable && fillable-in cs)) (one-fillable cs) e) in
       (k .0, onto i (k .0) c refl (λ n d o. of-words (sym (owner-other n i d)) o) p (k .1))
   marks-back i p (a-value {c} {cs} {vs} (a-suggestion {t = []} x f l q a) g) e = absurd (omega arith)
   marks-back i p (a-value {c} {cs} {vs} (a-suggestion {t = b ∷ u} x f l q a) g) e =
-      let n : fillable-in cs ≡ false = rw f at (not-true (c .column .fillable && fillable-in cs) (and-l (not (c .column .fillable && fillable-in cs)) (one-fillable cs) e)) in
+      let n : fillable-in cs ≡ false = rw f at (not-true (c .column .fillable && fillable-in cs) (and-left (not (c .column .fillable && fillable-in cs)) (one-fillable cs) e)) in
       let z : i + 0 ≡ i = omega arith in
       (i + 0, marked 0 b u (omega arith) f refl (rw (none-marked (suc i) g n, z)) (of-words {i = i} (let y : O.Suggestion ≡ owner-of (i + 0) i = rw z (sym (owner-same i)) in y) (none-owned (i + 0) (suc i) g n (omega arith))))
 

@@ -18,10 +18,11 @@ use Rattle.page.specs.declared.Date.{Date}
 use Rattle.page.specs.declared.Time.{Time}
 use Rattle.page.specs.declared.Column.{Column}
 use Rattle.page.specs.declared.Remark.the-variants as R
-use Rattle.laws.proofs.WrittenScans.{and-l, and-r, all-append, all-mono, differ, same-self}
+use Rattle.laws.proofs.WrittenScans.{all-append, all-mono, differ}
 use Rattle.round.proofs.WrittenNumbers.{decimal-all, decimal-digits, decimal-value, decimal-lead, padded-all, padded-value}
-use Rattle.round.proofs.WrittenTexts.{text-quoted}
 use Rattle.round.proofs.WrittenFields.{quoted-field}
+use Rattle.page.proofs.TestLaws.{and-left, and-right, same-refl}
+use Rattle.page.proofs.TextLaws.{quoted-text}
 
 -- bytes without a quote are quoted as they are
 abbrev pub no-quote : ℕ → Bool
@@ -30,7 +31,7 @@ no-quote b = not (quote b)
 doubled-plain : (w : Bytes) → all no-quote w ≡ true → doubled w ≡ w
 unfolding doubled all
 doubled-plain [] h = refl
-doubled-plain (b ∷ w) h = rw (differ no-quote b 34 (and-l (no-quote b) (all no-quote w) h) refl, doubled-plain w (and-r (no-quote b) (all no-quote w) h))
+doubled-plain (b ∷ w) h = rw (differ no-quote b 34 (and-left (no-quote b) (all no-quote w) h) refl, doubled-plain w (and-right (no-quote b) (all no-quote w) h))
 
 digit-plain : (b : ℕ) → digit b ≡ true → no-quote b ≡ true
 unfolding digit
@@ -96,8 +97,8 @@ module _ (d : Date) (y : d .year ≤ 9999) (real : real-date d ≡ true) where
   day-days : (1 ≤ d .day) × (d .day ≤ days-in (d .year) (d .month))
   unfolding real-date
   day-days = (
-    leb-true 1 (d .day) (and-r (leb 1 (d .year)) (leb 1 (d .day)) (and-l (leb 1 (d .year) && leb 1 (d .day)) (leb (d .day) (days-in (d .year) (d .month))) real)),
-    leb-true (d .day) (days-in (d .year) (d .month)) (and-r (leb 1 (d .year) && leb 1 (d .day)) (leb (d .day) (days-in (d .year) (d .month))) real),
+    leb-true 1 (d .day) (and-right (leb 1 (d .year)) (leb 1 (d .day)) (and-left (leb 1 (d .year) && leb 1 (d .day)) (leb (d .day) (days-in (d .year) (d .month))) real)),
+    leb-true (d .day) (days-in (d .year) (d .month)) (and-right (leb 1 (d .year) && leb 1 (d .day)) (leb (d .day) (days-in (d .year) (d .month))) real),
   )
 
   pub real-day : d .day ≤ 31
@@ -138,15 +139,15 @@ module _ (d : Date) (y : d .year ≤ 9999) (real : real-date d ≡ true) where
 module _ (t : Time) (real : real-time t ≡ true) where
   hour-small : t .hour ≤ 23
   unfolding real-time
-  hour-small = leb-true (t .hour) 23 (and-l (leb (t .hour) 23) (leb (t .minute) 59) (and-l (leb (t .hour) 23 && leb (t .minute) 59) (leb (t .second) 59) real))
+  hour-small = leb-true (t .hour) 23 (and-left (leb (t .hour) 23) (leb (t .minute) 59) (and-left (leb (t .hour) 23 && leb (t .minute) 59) (leb (t .second) 59) real))
 
   minute-small : t .minute ≤ 59
   unfolding real-time
-  minute-small = leb-true (t .minute) 59 (and-r (leb (t .hour) 23) (leb (t .minute) 59) (and-l (leb (t .hour) 23 && leb (t .minute) 59) (leb (t .second) 59) real))
+  minute-small = leb-true (t .minute) 59 (and-right (leb (t .hour) 23) (leb (t .minute) 59) (and-left (leb (t .hour) 23 && leb (t .minute) 59) (leb (t .second) 59) real))
 
   second-small : t .second ≤ 59
   unfolding real-time
-  second-small = leb-true (t .second) 59 (and-r (leb (t .hour) 23 && leb (t .minute) 59) (leb (t .second) 59) real)
+  second-small = leb-true (t .second) 59 (and-right (leb (t .hour) 23 && leb (t .minute) 59) (leb (t .second) 59) real)
 
   hour-again : number-in 1 2 (time-field t) ≡ t .hour
   unfolding number-in time-text padded bytes
@@ -176,7 +177,7 @@ module _ (t : Time) (real : real-time t ≡ true) where
 until-digits : (w v : Bytes) → all digit w ≡ true → until no-digit v ≡ 0 → until no-digit (w ++ v) ≡ length w
 unfolding until all
 until-digits [] v h e = e
-until-digits (b ∷ w) v h e = rw (and-l (digit b) (all digit w) h, until-digits w v (and-r (digit b) (all digit w) h) e)
+until-digits (b ∷ w) v h e = rw (and-left (digit b) (all digit w) h, until-digits w v (and-right (digit b) (all digit w) h) e)
 
 -- a name, digits, a tail that begins with no digit
 formed-again : (name tail w : Bytes) → size-ok w ≡ true → all digit w ≡ true → until no-digit tail ≡ 0 → formed name tail (name ++ (w ++ tail)) ≡ true
@@ -190,8 +191,8 @@ formed-again name tail w ok d e =
       ok,
       drop-append-add name (w ++ tail) (length w),
       drop-append-seam w tail,
-      same-self name,
-      same-self tail,
+      same-refl name,
+      same-refl tail,
     )
 
 size-decimal : (n : ℕ) → 1 ≤ n → n ≤ 255 → size-ok (decimal n) ≡ true
@@ -225,4 +226,4 @@ format-again c l h = by (c .text)
 pub mark-again : (i : ℕ) → 1 ≤ i → i < 10 ^ 18 → remarkOf (32 ∷ quoted (bytes "SUGGESTED " ++ decimal i)) ≡ R.Mark i
 unfolding remarkOf mark-text mark-number bytes same
 mark-again i l h =
-    rw (quoted-field (bytes "SUGGESTED " ++ decimal i) .kept, text-quoted (bytes "SUGGESTED " ++ decimal i), decimal-digits i h, decimal-lead i h l, decimal-value i h)
+    rw (quoted-field (bytes "SUGGESTED " ++ decimal i) .kept, quoted-text (bytes "SUGGESTED " ++ decimal i), decimal-digits i h, decimal-lead i h l, decimal-value i h)

@@ -11,9 +11,10 @@ use Rattle.page.specs.Bytes.{Bytes, bytes, all, until, keep, space, trim}
 use Rattle.page.specs.Fields.{parts-here, inside-after, into, split, fields, digit}
 use Rattle.page.specs.Form.{separated, decimal, doubled, quoted}
 use Rattle.page.proofs.ScanLaws.{keep-snoc}
-use Rattle.laws.proofs.WrittenScans.{and-l, and-r, all-mono, differ}
+use Rattle.laws.proofs.WrittenScans.{all-mono, differ}
 use Rattle.round.proofs.WrittenNumbers.{decimal-all, decimal-some}
 use Rattle.round.proofs.WrittenTexts.{graft, Closed, into-graft, closed-quoted}
+use Rattle.page.proofs.TestLaws.{and-left, and-right}
 
 -- a byte that is neither a space nor a quote nor a semicolon
 unfoldable pub solid : ℕ → Bool
@@ -30,7 +31,7 @@ keep-end w b e = keep-snoc space w b ∙ rw (e, length-append) (omega arith)
 keep-solid : (w : Bytes) → all solid w ≡ true → keep space w ≡ length w
 unfolding keep all solid
 keep-solid [] h = refl
-keep-solid (b ∷ w) h = rw (differ solid b 32 (and-l (solid b) (all solid w) h) refl, keep-solid w (and-r (solid b) (all solid w) h))
+keep-solid (b ∷ w) h = rw (differ solid b 32 (and-left (solid b) (all solid w) h) refl, keep-solid w (and-right (solid b) (all solid w) h))
 
 -- a field that stands by itself: closed, and trimmed as it is
 pub record Field (f : Bytes) : Type 0 where
@@ -70,15 +71,15 @@ solid-closed : (w : Bytes) → all solid w ≡ true → Closed false w
 unfolding split all solid
 solid-closed [] h r = graft-split false r
 solid-closed (b ∷ w) h r =
-    let d : solid b ≡ true = and-l (solid b) (all solid w) h in
-    simp (differ solid b 59 d refl, differ solid b 34 d refl, solid-closed w (and-r (solid b) (all solid w) h) r, into-graft)
+    let d : solid b ≡ true = and-left (solid b) (all solid w) h in
+    simp (differ solid b 59 d refl, differ solid b 34 d refl, solid-closed w (and-right (solid b) (all solid w) h) r, into-graft)
 
 -- names, formats, numbers
 pub solid-field : (w : Bytes) → 0 < length w → all solid w ≡ true → Field w
 unfolding all solid
 solid-field [] p h = absurd (omega arith)
 solid-field (b ∷ w) p h =
-    record { shut = solid-closed (b ∷ w) h; kept = trim-one b w (differ solid b 32 (and-l (solid b) (all solid w) h) refl) (keep-solid (b ∷ w) h) }
+    record { shut = solid-closed (b ∷ w) h; kept = trim-one b w (differ solid b 32 (and-left (solid b) (all solid w) h) refl) (keep-solid (b ∷ w) h) }
 
 pub quoted-field : (t : Bytes) → Field (quoted t)
 unfolding quoted

@@ -15,15 +15,16 @@ use Rattle.page.specs.Fields.{fields}
 use Rattle.page.specs.Form.{line-end, separated, line}
 use Rattle.page.proofs.LineLaws.{Ended, lf, after}
 use Rattle.page.proofs.ContentLaws.{content-lf}
-use Rattle.laws.proofs.WrittenScans.{and-l, and-r, all-mono, all-append, differ}
+use Rattle.laws.proofs.WrittenScans.{all-mono, all-append, differ}
 use Rattle.round.proofs.WrittenFields.{Fields, fields-again}
+use Rattle.page.proofs.TestLaws.{and-left, and-right}
 
 -- bytes from 32 on: neither CR nor LF
 pub all-at : (f : ℕ → Bool) (w : Bytes) (i : ℕ) → all f w ≡ true → i < length w → f (getD w i 0) ≡ true
 unfolding all
 all-at f [] i h p = absurd (omega arith)
-all-at f (b ∷ w) zero h p = and-l (f b) (all f w) h
-all-at f (b ∷ w) (suc i) h p = all-at f w i (and-r (f b) (all f w) h) (omega arith)
+all-at f (b ∷ w) zero h p = and-left (f b) (all f w) h
+all-at f (b ∷ w) (suc i) h p = all-at f w i (and-right (f b) (all f w) h) (omega arith)
 
 no-return : (w : Bytes) → all (leb 32) w ≡ true → getD (w ++ 10 ∷ []) (length w - 1) 0 ≡ 13 → ⊥
 no-return [] h e = let z : _≡_ {A = ℕ} 10 13 = e in omega arith
@@ -45,7 +46,7 @@ content-of w h =
 pub ended-of : (w : Bytes) → all (leb 32) w ≡ true → Ended (w ++ 10 ∷ [])
 unfolding all
 ended-of [] h = lf refl
-ended-of (b ∷ w) h = after (differ (leb 32) b 10 (and-l (leb 32 b) (all (leb 32) w) h) refl) (ended-of w (and-r (leb 32 b) (all (leb 32) w) h))
+ended-of (b ∷ w) h = after (differ (leb 32) b 10 (and-left (leb 32 b) (all (leb 32) w) h) refl) (ended-of w (and-right (leb 32 b) (all (leb 32) w) h))
 
 -- an allowed byte is one from 32 on
 pub allowed-printed : (wide : Bool) (b : ℕ) → allowed wide b ≡ true → leb 32 b ≡ true
@@ -56,7 +57,7 @@ allowed-printed wide b h = by (leb 32 b) refl
     by true e = e
     by false e =
         let k : (leb 161 b && leb b 255 && wide) ≡ true = rw e at h in
-        le-leb 32 b (omega (arith, leb-true 161 b (and-l (leb 161 b) (leb b 255) (and-l (leb 161 b && leb b 255) wide k))))
+        le-leb 32 b (omega (arith, leb-true 161 b (and-left (leb 161 b) (leb b 255) (and-left (leb 161 b && leb b 255) wide k))))
 
 pub quote-allowed : allowed false 34 ≡ true
 unfolding allowed

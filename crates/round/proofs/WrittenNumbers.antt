@@ -12,7 +12,8 @@ use Rattle.page.specs.Bytes.{Bytes, all}
 use Rattle.page.specs.Fields.{digit, digits, value, numberOf}
 use Rattle.page.specs.Form.{decimal-in, decimal, padded}
 use Rattle.page.specs.declared.Number.the-variants as N
-use Rattle.laws.proofs.WrittenScans.{and-l, and-r, all-append, first-append}
+use Rattle.laws.proofs.WrittenScans.{all-append, first-append}
+use Rattle.page.proofs.TestLaws.{and-left, and-right}
 
 pub digit-of : (n : ℕ) → n < 10 → digit (48 + n) ≡ true
 unfolding digit
@@ -105,13 +106,13 @@ module _ (n : ℕ) (h : n < 10 ^ 18) where
 -- the first digit is no minus
 no-minus : (b : ℕ) → digit b ≡ true → eqb b 45 ≡ false
 unfolding digit
-no-minus b e = ne-eqb b 45 (λ (q : b ≡ 45). let l : 48 ≤ b = leb-true 48 b (and-l (leb 48 b) (leb b 57) e) in omega arith)
+no-minus b e = ne-eqb b 45 (λ (q : b ≡ 45). let l : 48 ≤ b = leb-true 48 b (and-left (leb 48 b) (leb b 57) e) in omega arith)
 
 number-digits : (w : Bytes) → digits w ≡ true → numberOf w ≡ N.Plus (value 0 w)
 unfolding numberOf digits all
 number-digits [] e = absurd (false≢true e)
 number-digits (b ∷ w) e =
-    let d : digit b ≡ true = and-l (digit b) (all digit w) (and-r (leb 1 (length (b ∷ w)) && leb (length (b ∷ w)) 18) (all digit (b ∷ w)) e) in
+    let d : digit b ≡ true = and-left (digit b) (all digit w) (and-right (leb 1 (length (b ∷ w)) && leb (length (b ∷ w)) 18) (all digit (b ∷ w)) e) in
     rw (no-minus b d) (rw e)
 
 pub number-decimal : (n : ℕ) → n < 10 ^ 18 → numberOf (decimal n) ≡ N.Plus n

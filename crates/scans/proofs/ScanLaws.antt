@@ -19,6 +19,7 @@ use Rattle.page.proofs.PartLaws.{part-rest}
 use Rattle.page.proofs.KeyLaws.{any-append}
 use Rattle.keys.specs.Numbers.{seven, chosen}
 use Rattle.scans.specs.Scan.{is-record, line-key, bears, again, Starts, first-line, some}
+use Rattle.page.proofs.TestLaws.{or-false}
 
 pub starts-first : (w : Bytes) → Starts w 0
 unfolding lines
@@ -36,10 +37,6 @@ starts-after w (suc k) n h e =
 or-true : (b : Bool) → (b || true) ≡ true
 or-true true = refl
 or-true false = refl
-
-or-false : (b : Bool) → (b || false) ≡ b
-or-false true = refl
-or-false false = refl
 
 -- a search from a place on, and then before it
 module _ (w : Bytes) (at : ℕ) (z : Starts w at) (p : Bytes → Bool) (x : Bool) (e : x ≡ any p (lines (take (length w - at) (drop at w)))) where

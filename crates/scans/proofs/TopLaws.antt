@@ -1,6 +1,6 @@
 -- The largest key of the lines passed: a key above it is new. Assumes nothing.
-use mathlib.Core.Path.{_≡_, refl, sym, _∙_}
-use mathlib.Core.Bool.{Bool, true, false, false≢true, _||_}
+use mathlib.Core.Path.{_≡_, refl, _∙_}
+use mathlib.Core.Bool.{Bool, true, false}
 use mathlib.Core.List.{List, [], _∷_, _++_}
 use Prim.Native.Nat.{ℕ, _+_}
 use borrow.Author.Tests.{eq-eqb, ne-eqb}
@@ -9,16 +9,12 @@ use Rattle.page.specs.Lines.{content, command, rest, Rec}
 use Rattle.page.specs.Fields.{fields}
 use Rattle.page.specs.File.{any}
 use Rattle.page.proofs.KeyLaws.{any-append}
-use Rattle.page.proofs.TestLaws.{same-true}
+use Rattle.page.proofs.TestLaws.{same-true, neither}
 use Rattle.keys.specs.Numbers.{seven, chosen}
 use Rattle.keys.specs.Orders.{less}
 use Rattle.keys.proofs.OrderLaws.{less-self, less-new, less-top}
 use Rattle.scans.specs.Scan.{is-record, line-key, bears, again, above, rises, raised, Topped}
 use Rattle.scans.proofs.ScanLaws.{recorded, keyed}
-
-neither : (a b : Bool) → (a || b) ≡ false → (a ≡ false) × (b ≡ false)
-neither true b e = absurd (false≢true (sym e))
-neither false b e = (refl, e)
 
 pub topped-none : (q : ℕ) (k : List ℕ) → Topped q k []
 unfolding any

@@ -35,16 +35,13 @@ use Rattle.seats.specs.Faults.{repeat-number, scan-end, repeat-line}
 use Rattle.seats.proofs.WalkLaws.{sound-at}
 use Rattle.seats.proofs.SeatLaws.{seats-apart}
 use Rattle.seats.proofs.FiledLaws.{filing, entry-of, Fit, filed-is, fit-is, first-lines, faults-none, faults-at}
+use Rattle.page.proofs.TestLaws.{or-false}
 
 or-turn : (a b : Bool) → (a || b) ≡ (b || (a || false))
 or-turn true true = refl
 or-turn true false = refl
 or-turn false true = refl
 or-turn false false = refl
-
-or-false : (b : Bool) → b ≡ (b || false)
-or-false true = refl
-or-false false = refl
 
 -- the keys of the records passed are those of the lines passed
 record Behind (p : Column → Bool) (t : ℕ) (b : List Filed) (before : List Bytes) : Type 0 where
@@ -81,7 +78,7 @@ module _ (p : Column → Bool) (small : Small p) (i t : ℕ) where
       record {
         is = λ us g.
             rw (any-append (bears (key-choice p t) (key-numbers p t us)) before (l ∷ []), no-line l (key-numbers p t us) r, a .is us g)
-            (or-false (any (bears (key-choice p t) (key-numbers p t us)) before));
+            (sym (or-false (any (bears (key-choice p t) (key-numbers p t us)) before)));
       }
 
   module _ (k : has-key p t ≡ true) where

@@ -1,13 +1,9 @@
 // Where each table stands.
 ghost use mathlib.Core.Path.{_≡_};
 ghost use Prim.Native.Nat.{_<_};
-ghost use lib.ListN.{length};
-ghost use Rattle.page.specs.Records.{table-of};
 ghost use Rattle.page.specs.Answers.{sound};
 ghost use Rattle.page.specs.File.{rowsOf, first-unsound};
-ghost use Rattle.cut.specs.Walk.{Settled, section-from};
 ghost use Rattle.seats.specs.Seating.{seat-at, Seating};
-use lines::Cursor;
 use page::tables::TABLES;
 
 // A section: its table by its place in the list of tables, and its bytes.
@@ -23,17 +19,6 @@ pub struct Seats {
     pub count: usize,
     pub seats: [Seat; TABLES],
     pub place: [usize; TABLES],
-}
-
-// The table that a section's first line names.
-fn read_table(s: &[u8], from: usize) -> usize
-    requires { ⌜ (from < length (now s)) × Settled (now s) from ⌝ }
-    ensures { λ r. ⌜ r ≡ table-of (section-from (now (s .entry)) from .lines) ⌝ }
-{
-    let l = Cursor { at: from }.line(s);
-    let e = l.span.to;
-    let c = lines::content_of(&s[from..e]);
-    names::find_table(commands::field_at(lines::rest_of(c), 0))
 }
 
 // One walk over the sections, so that the file is never searched for a table again.
@@ -52,7 +37,7 @@ pub fn seat_tables(s: &[u8]) -> Seats
     while at < s.len() {
         let from = at;
         let to = cut::section_end(s, from);
-        let t = read_table(s, from);
+        let t = names::table_at(s, from);
         at = cut::find_section(s, to);
         if place[t] != 0 {
             return Seats {

@@ -1,7 +1,7 @@
 -- "the first of 1, 2, 24 for the section". Assumes nothing.
 use mathlib.Core.Path.{_≡_, ap, sym, _∙_}
 use mathlib.Core.Bool.{true, false}
-use Prim.Native.Nat.{ℕ, _-_, _<_, _≤_}
+use Prim.Native.Nat.{ℕ, _-_, _<_}
 use native.Mathlib.Omega.{arith}
 use lib.Dec.{eqb, ltb}
 use lib.ListN.{length}
@@ -47,7 +47,3 @@ outside-zero i n e = rw (eq-eqb i 0 e)
 pub outside-past : (i n : ℕ) → n < i → outside i n ≡ true
 unfolding outside
 outside-past i n h = rw (ne-eqb i 0 (λ (e : i ≡ 0). omega arith), lt-ltb n i h)
-
-pub outside-not : (i n : ℕ) → (i ≡ 0 → ⊥) → i ≤ n → outside i n ≡ false
-unfolding outside
-outside-not i n z h = rw (ne-eqb i 0 z, le-ltb n i h)

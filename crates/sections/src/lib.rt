@@ -4,7 +4,6 @@ mod reading;
 mod walk;
 
 pub use answers::section;
-pub use answers::table_at;
 pub use reading::read_lines;
 pub use reading::read_section;
 pub use walk::Located;

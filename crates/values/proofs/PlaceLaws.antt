@@ -5,27 +5,14 @@ use Prim.Native.Nat.{ℕ, suc, _+_, _-_, _<_, _≤_}
 use native.Mathlib.Omega.{arith}
 use lib.Dec.{eqb}
 use lib.ListN.{length, take, drop}
-use borrow.Author.Tests.{ne-eqb}
 use Rattle.page.specs.Bytes.{Bytes, pick, until}
-use Rattle.page.specs.Lines.{lines, content-size, content, semicolon, command, rest, Rec, Com}
-use Rattle.page.specs.Marks.{remarkOf}
-use Rattle.page.specs.Records.{waiting, waits}
+use Rattle.page.specs.Lines.{lines, content-size, content, semicolon, command, rest, Rec}
+use Rattle.page.specs.Records.{waits}
 use Rattle.page.specs.Places.{nowhere, stands, this-or, record-at}
-use Rattle.page.specs.declared.Remark.{Remark}
 use Rattle.page.proofs.ScanLaws.{part-length}
 use Rattle.page.proofs.LineLaws.{line-size, line-in, cut-at, lines-end}
 use Rattle.headers.proofs.FoundLaws.{content-in, content-here, semicolon-in, rest-here}
 use Rattle.values.specs.Values.{Placed}
-
--- the mark that waits after a line of content c
-module _ (m : ℕ) (c : Bytes) where
-  pub waits-other : (command c ≡ Com → ⊥) → m ≡ waits m c
-  unfolding waits
-  waits-other n = rw (ne-eqb (command c) Com n)
-
-  pub waits-remark : (x : Remark) → command c ≡ Com → remarkOf (rest c) ≡ x → waiting m x ≡ waits m c
-  unfolding waits
-  waits-remark x e q = rw (e, q)
 
 -- the line at a place, that ends at e
 module _ (s : Bytes) (at e : ℕ) (h : at < length s) (q : e ≡ at + line-size (drop at s)) where

@@ -32,7 +32,7 @@ use Rattle.values.specs.Values.{Placed, row-from, refusal-from, value-fr
 use Rattle.cut.proofs.WalkLaws.{section-within, settled-begins}
 use Rattle.machine.proofs.SoundLaws.{sound-passed, passed-width}
 use Rattle.sections.specs.Located.{Begins}
-use Rattle.sections.proofs.AnswerLaws.{from-lines}
+use Rattle.names.proofs.TitleLaws.{from-lines}
 
 -- the value's answer, where its section stands at a place
 module _ (s : Bytes) (i : ℕ) where

@@ -11,6 +11,7 @@ ghost use Rattle.cut.specs.Walk.{Settled};
 ghost use Rattle.values.specs.Values.{value-from};
 use crate::values::find_record;
 use crate::values::value_in;
+use names::table_at;
 use page::Got;
 use page::Refusal;
 use page::Value;
@@ -18,7 +19,6 @@ use sections::Located;
 use sections::locate;
 use sections::read_section;
 use sections::refuse_with;
-use sections::table_at;
 
 fn is_outside(i: usize, n: usize) -> bool
     ensures { λ r. ⌜ r ≡ outside i n ⌝ }

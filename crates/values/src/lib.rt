@@ -5,8 +5,6 @@ mod values;
 pub use handed::value;
 pub use values::Place;
 pub use values::find_record;
-pub use values::is_record;
-pub use values::one_less;
 pub use values::owner_of;
 pub use values::place_fields;
 pub use values::value_in;

@@ -1,7 +1,6 @@
 // One value of a record.
 ghost use mathlib.Core.Path.{_≡_};
 ghost use Prim.Native.Nat.{_+_, _-_, _<_, _≤_};
-ghost use lib.Dec.{eqb};
 ghost use lib.ListN.{length, take, drop};
 ghost use Rattle.page.specs.Lines.{lines, content, command, Rec};
 ghost use Rattle.page.specs.Fields.{fields};
@@ -15,7 +14,6 @@ ghost use Rattle.values.specs.Values.{Placed};
 use judging::amount_at;
 use lines::Cursor;
 use page::Owner;
-use page::Remark;
 use page::Text;
 use page::Value;
 
@@ -26,25 +24,11 @@ pub struct Place {
     pub mark: u64,
 }
 
-pub fn is_record(l: &[u8]) -> bool
-    ensures { λ r. ⌜ r ≡ eqb (command (content (now (l .entry)))) Rec ⌝ }
-{
-    commands::command_of(lines::content_of(l)) == commands::REC
-}
-
-// The mark that waits after a line: "It speaks of the next `rec`."
+// The mark that waits after a line.
 pub fn wait_on(l: &[u8], m: u64) -> u64
     ensures { λ r. ⌜ r ≡ waits m (content (now (l .entry))) ⌝ }
 {
-    let c = lines::content_of(l);
-    if commands::command_of(c) != commands::COM {
-        return m;
-    }
-    match quoted::read_remark(lines::rest_of(c)) {
-        Remark::Comment => m,
-        Remark::Unreadable => m,
-        Remark::Mark(i) => i,
-    }
+    quoted::wait_on(lines::content_of(l), m)
 }
 
 // The fields of the `rec` line from `at` to `e`.
@@ -76,7 +60,7 @@ pub fn find_record(s: &[u8], from: usize, r: usize) -> Place
         let l = c.line(s);
         let e = l.span.to;
         c = l.next;
-        if is_record(&s[at..e]) {
+        if commands::is_record(&s[at..e]) {
             if k == 0 {
                 return place_fields(s, at, e, m);
             }
@@ -103,15 +87,6 @@ pub fn owner_of(m: u64, f: usize) -> Owner
     Owner::Operator
 }
 
-pub fn one_less(n: usize) -> usize
-    ensures { λ r. ⌜ r ≡ n - 1 ⌝ }
-{
-    if n == 0 {
-        return 0;
-    }
-    n - 1
-}
-
 // Field f, from 1, of the record whose fields are w and stand at a place of the file.
 fn find_words(w: &[u8], at: usize, m: u64, f: usize) -> Text
     requires { ⌜ (0 < f) × (f - 1 < length (fields (now w))) × (at + length (now w) ≤ limit) ⌝ }
@@ -122,7 +97,7 @@ fn find_words(w: &[u8], at: usize, m: u64, f: usize) -> Text
     let e = sp.to;
     Text {
         from: at + (a + 1),
-        to: at + one_less(e),
+        to: at + lines::one_less(e),
         owner: owner_of(m, f),
     }
 }

@@ -5,11 +5,11 @@ use Rattle.page.specs.Tables.{standing, width}
 use Rattle.page.specs.Section.{first-wrong}
 use Rattle.page.proofs.FieldLaws.{from, from-more, from-all, from-in, end-in}
 use Rattle.page.proofs.TableLaws.{width-le}
-use Rattle.machine.proofs.SoundLaws.{passed-width}
+use Rattle.machine.proofs.SoundLaws.{passed-width, passed-wrong}
 use Rattle.frames.proofs.LineLaws.{separator-length}
 use Rattle.output.proofs.PutLaws.{Todo, begin, left-is, next-by, at-end, same, puts}
 use Rattle.copies.specs.Parts.{fields-form}
-use Rattle.copies.proofs.FieldLaws.{fields-more, fields-end, none-wrong, passed-wrong}
+use Rattle.copies.proofs.FieldLaws.{fields-more, fields-end, none-wrong}
 use borrow.Author.Needs.{needs}
 use Prim.Native.Nat.{_+_, _-_, _<_, _≤_}
 use mathlib.Core.Path.{_≡_, ap, sym, _∙_}

@@ -5,10 +5,9 @@ use Rattle.page.specs.Bytes.{bytes}
 use Rattle.page.specs.Fields.{fields}
 use Rattle.page.specs.Tables.{standing}
 use Rattle.page.proofs.TableLaws.{standing-width}
-use Rattle.machine.proofs.SoundLaws.{passed-width}
+use Rattle.machine.proofs.SoundLaws.{passed-width, passed-wrong}
 use Rattle.output.proofs.PutLaws.{puts, put-as}
 use Rattle.copies.proofs.PartLaws.{record-is, record-length}
-use Rattle.copies.proofs.FieldLaws.{passed-wrong}
 use Rattle.copies.proofs.StandLaws.{record-kept, kept-length}
 use Rattle.recording.proofs.record.put_record.Statement.{statement}
 use Rattle.recording.proofs.record.put_record.Tie as tie

@@ -26,9 +26,8 @@ loop-holds c =
 section-end-requires : tie.Need-section-end-requires Inv-loop μ-loop
 section-end-requires c κs = search needs
 
-read-table-requires : tie.Need-read-table-requires Inv-loop μ-loop
-read-table-requires c κs =
-    (c .before .loop-test .taken, c .before .before .loop .inv .settled)
+table-at-requires : tie.Need-table-at-requires Inv-loop μ-loop
+table-at-requires c κs = c .before .loop-test .taken
 
 find-section-requires-2 : tie.Need-find-section-requires-2 Inv-loop μ-loop
 find-section-requires-2 c κs = search needs
@@ -37,14 +36,14 @@ mul-if1 : tie.Need-mul-if1 Inv-loop μ-loop
 mul-if1 c =
     let a = c .before .before .before .before .before .before .before .args in
     let l = c .before .before .before .before .loop in
-    let k = table-known (a .s .now) (c .before .before .before .before .before .before .before .pre) (l .n) (l .at) (l .seats) (l .place) (l .inv) (c .before .before .before .loop-test .taken) (c .before .read-table .result) (c .before .read-table .ensures) (c .before .before .section-end .result) (c .before .before .section-end .ensures .0) in
+    let k = table-known (a .s .now) (c .before .before .before .before .before .before .before .pre) (l .n) (l .at) (l .seats) (l .place) (l .inv) (c .before .before .before .loop-test .taken) (c .before .table-at .result) (c .before .table-at .ensures) (c .before .before .section-end .result) (c .before .before .section-end .ensures .0) in
     search needs
 
 array-read-if1 : tie.Need-array-read-if1 Inv-loop μ-loop
 array-read-if1 c =
     let a = c .before .before .before .before .before .before .before .args in
     let l = c .before .before .before .before .loop in
-    let k = table-known (a .s .now) (c .before .before .before .before .before .before .before .pre) (l .n) (l .at) (l .seats) (l .place) (l .inv) (c .before .before .before .loop-test .taken) (c .before .read-table .result) (c .before .read-table .ensures) (c .before .before .section-end .result) (c .before .before .section-end .ensures .0) in
+    let k = table-known (a .s .now) (c .before .before .before .before .before .before .before .pre) (l .n) (l .at) (l .seats) (l .place) (l .inv) (c .before .before .before .loop-test .taken) (c .before .table-at .result) (c .before .table-at .ensures) (c .before .before .section-end .result) (c .before .before .section-end .ensures .0) in
     search needs
 
 add-t15 : tie.Need-add-t15 Inv-loop μ-loop
@@ -59,7 +58,7 @@ returns c =
     let a = c .before .before .before .before .before .before .before .before .args in
     let l = c .before .before .before .before .before .loop in
     going-stop (a .s .now) (c .before .before .before .before .before .before .before .before .pre) (l .n) (l .seats) (l .place)
-    (going-again (a .s .now) (c .before .before .before .before .before .before .before .before .pre) (l .n) (l .at) (l .seats) (l .place) (l .inv) (c .before .before .before .before .loop-test .taken) (c .before .before .read-table .result) (c .before .before .read-table .ensures) (c .before .before .before .section-end .result) (c .before .before .before .section-end .ensures .0) (c .if1 .taken))
+    (going-again (a .s .now) (c .before .before .before .before .before .before .before .before .pre) (l .n) (l .at) (l .seats) (l .place) (l .inv) (c .before .before .before .before .loop-test .taken) (c .before .before .table-at .result) (c .before .before .table-at .ensures) (c .before .before .before .section-end .result) (c .before .before .before .section-end .ensures .0) (c .if1 .taken))
 
 mul-seats : tie.Need-mul-seats Inv-loop μ-loop
 mul-seats c =
@@ -72,7 +71,7 @@ array-set-from-seats : tie.Need-array-set-from-seats Inv-loop μ-loop
 array-set-from-seats c =
     let a = c .before .before .before .before .before .before .before .before .args in
     let l = c .before .before .before .before .before .loop in
-    let k = seat-room (a .s .now) (c .before .before .before .before .before .before .before .before .pre) (l .n) (l .at) (l .seats) (l .place) (l .inv) (c .before .before .before .before .loop-test .taken) (c .before .before .read-table .result) (c .before .before .read-table .ensures) (c .before .before .before .section-end .result) (c .before .before .before .section-end .ensures .0) (c .if1 .left) in
+    let k = seat-room (a .s .now) (c .before .before .before .before .before .before .before .before .pre) (l .n) (l .at) (l .seats) (l .place) (l .inv) (c .before .before .before .before .loop-test .taken) (c .before .before .table-at .result) (c .before .before .table-at .ensures) (c .before .before .before .section-end .result) (c .before .before .before .section-end .ensures .0) (c .if1 .left) in
     search needs
 
 add-n : tie.Need-add-n Inv-loop μ-loop
@@ -86,14 +85,14 @@ mul-place : tie.Need-mul-place Inv-loop μ-loop
 mul-place c =
     let a = c .before .before .before .before .before .before .before .before .args in
     let l = c .before .before .before .before .before .loop in
-    let k = table-known (a .s .now) (c .before .before .before .before .before .before .before .before .pre) (l .n) (l .at) (l .seats) (l .place) (l .inv) (c .before .before .before .before .loop-test .taken) (c .before .before .read-table .result) (c .before .before .read-table .ensures) (c .before .before .before .section-end .result) (c .before .before .before .section-end .ensures .0) in
+    let k = table-known (a .s .now) (c .before .before .before .before .before .before .before .before .pre) (l .n) (l .at) (l .seats) (l .place) (l .inv) (c .before .before .before .before .loop-test .taken) (c .before .before .table-at .result) (c .before .before .table-at .ensures) (c .before .before .before .section-end .result) (c .before .before .before .section-end .ensures .0) in
     search needs
 
 array-write-place : tie.Need-array-write-place Inv-loop μ-loop
 array-write-place c =
     let a = c .before .before .before .before .before .before .before .before .args in
     let l = c .before .before .before .before .before .loop in
-    let k = table-known (a .s .now) (c .before .before .before .before .before .before .before .before .pre) (l .n) (l .at) (l .seats) (l .place) (l .inv) (c .before .before .before .before .loop-test .taken) (c .before .before .read-table .result) (c .before .before .read-table .ensures) (c .before .before .before .section-end .result) (c .before .before .before .section-end .ensures .0) in
+    let k = table-known (a .s .now) (c .before .before .before .before .before .before .before .before .pre) (l .n) (l .at) (l .seats) (l .place) (l .inv) (c .before .before .before .before .loop-test .taken) (c .before .before .table-at .result) (c .before .before .table-at .ensures) (c .before .before .before .section-end .result) (c .before .before .before .section-end .ensures .0) in
     search needs
 
 loop-less : tie.Need-loop-less Inv-loop μ-loop
@@ -106,7 +105,7 @@ loop-again : tie.Need-loop-again Inv-loop μ-loop
 loop-again c =
     let a = c .before .before .before .before .before .before .before .before .args in
     let l = c .before .before .before .before .before .loop in
-    going-more (a .s .now) (c .before .before .before .before .before .before .before .before .pre) (l .n) (l .at) (l .seats) (l .place) (l .inv) (c .before .before .before .before .loop-test .taken) (c .before .before .read-table .result) (c .before .before .read-table .ensures) (c .before .before .before .section-end .result) (c .before .before .before .section-end .ensures .0) (c .if1 .left) _ (c .before .find-section2 .ensures)
+    going-more (a .s .now) (c .before .before .before .before .before .before .before .before .pre) (l .n) (l .at) (l .seats) (l .place) (l .inv) (c .before .before .before .before .loop-test .taken) (c .before .before .table-at .result) (c .before .before .table-at .ensures) (c .before .before .before .section-end .result) (c .before .before .before .section-end .ensures .0) (c .if1 .left) _ (c .before .find-section2 .ensures)
 
 returns-2 : tie.Need-returns-2 Inv-loop μ-loop
 returns-2 c =
@@ -123,7 +122,7 @@ seat-tables-spec =
     find-section-requires
     loop-holds
     section-end-requires
-    read-table-requires
+    table-at-requires
     find-section-requires-2
     mul-if1
     array-read-if1

@@ -1,61 +1,18 @@
 -- `values::values::wait_on` meets its contract. Assumes nothing.
-use Prim.Native.Nat.{_-_}
-use mathlib.Core.Path.{ap, sym, _∙_}
+use mathlib.Core.Path.{ap, _∙_}
 use borrow.Author.Needs.{needs}
-use Rattle.page.specs.Marks.{remarkOf}
-use Rattle.values.proofs.PlaceLaws.{waits-other, waits-remark}
+use Rattle.page.specs.Records.{waits}
 use Rattle.values.proofs.values.wait_on.Statement.{statement}
 use Rattle.values.proofs.values.wait_on.Tie as tie
 
 content-of-requires : tie.Need-content-of-requires
 content-of-requires c κs = search needs
 
-command-of-requires : tie.Need-command-of-requires
-command-of-requires c κs = search needs
+wait-on-requires : tie.Need-wait-on-requires
+wait-on-requires c κs = search needs
 
 returns : tie.Need-returns
-returns c =
-    rw (sym (c .before .before .content-of .ensures)) (waits-other (c .before .before .before .before .args .m) _ (λ e. c .if1 .taken (c .before .command-of .ensures ∙ e)))
-
-rest-of-requires : tie.Need-rest-of-requires
-rest-of-requires c κs = search needs
-
-read-remark-requires : tie.Need-read-remark-requires
-read-remark-requires c κs = search needs
-
-enum-told : tie.Need-enum-told
-enum-told c = search needs
-
-enum-told-2 : tie.Need-enum-told-2
-enum-told-2 c = search needs
-
-enum-known-i : tie.Need-enum-known-i
-enum-known-i c = search needs
-
-returns-2 : tie.Need-returns-2
-returns-2 c =
-    rw (sym (c .before .before .before .before .before .before .content-of .ensures)) (waits-remark (c .before .before .before .before .before .before .before .before .args .m) _ _ (sym (c .before .before .before .before .before .command-of .ensures) ∙ c .before .before .before .before .if1 .left) (ap remarkOf (sym (c .before .before .before .rest-of .ensures)) ∙ sym (c .before .before .read-remark .ensures) ∙ c .enum-told .given .1))
-
-returns-3 : tie.Need-returns-3
-returns-3 c =
-    rw (sym (c .before .before .before .before .before .before .content-of .ensures)) (waits-remark (c .before .before .before .before .before .before .before .before .args .m) _ _ (sym (c .before .before .before .before .before .command-of .ensures) ∙ c .before .before .before .before .if1 .left) (ap remarkOf (sym (c .before .before .before .rest-of .ensures)) ∙ sym (c .before .before .read-remark .ensures) ∙ c .enum-told2 .given .1))
-
-returns-4 : tie.Need-returns-4
-returns-4 c =
-    rw (sym (c .before .before .before .before .before .before .before .content-of .ensures)) (waits-remark (c .before .before .before .before .before .before .before .before .before .args .m) _ _ (sym (c .before .before .before .before .before .before .command-of .ensures) ∙ c .before .before .before .before .before .if1 .left) (ap remarkOf (sym (c .before .before .before .before .rest-of .ensures)) ∙ sym (c .before .before .before .read-remark .ensures) ∙ c .before .i .given .1))
+returns c = c .wait-on .ensures ∙ ap (waits _) (c .before .content-of .ensures)
 
 pub wait-on-spec : {M : Type 1} → statement M
-wait-on-spec =
-    tie.close
-    (tie.spec
-    content-of-requires
-    command-of-requires
-    returns
-    rest-of-requires
-    read-remark-requires
-    enum-told
-    enum-told-2
-    enum-known-i
-    returns-2
-    returns-3
-    returns-4)
+wait-on-spec = tie.close (tie.spec content-of-requires wait-on-requires returns)

@@ -1,12 +1,12 @@
--- `sections::answers::table_at` meets its contract. Assumes nothing.
+-- `names::titles::table_at` meets its contract. Assumes nothing.
 use Prim.Native.Nat.{_-_}
 use mathlib.Core.Path.{sym}
 use native.Mathlib.Omega.{arith}
 use borrow.Author.Needs.{needs}
 use Rattle.lines.proofs.CursorLaws.{handed}
-use Rattle.sections.proofs.AnswerLaws.{table-from}
-use Rattle.sections.proofs.answers.table_at.Statement.{statement}
-use Rattle.sections.proofs.answers.table_at.Tie as tie
+use Rattle.names.proofs.TitleLaws.{table-from}
+use Rattle.names.proofs.titles.table_at.Statement.{statement}
+use Rattle.names.proofs.titles.table_at.Tie as tie
 
 line-requires : tie.Need-line-requires
 line-requires c κs = search needs

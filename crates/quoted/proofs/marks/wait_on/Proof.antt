@@ -1,10 +1,10 @@
 use Rattle.page.specs.Marks.{remarkOf}
-use Rattle.recording.proofs.SectionLaws.{waits-other, waits-remark}
+use Rattle.quoted.proofs.WaitLaws.{waits-other, waits-remark}
 use Prim.Native.Nat.{_-_}
 use mathlib.Core.Path.{ap, sym, _∙_}
 use borrow.Author.Needs.{needs}
-use Rattle.recording.proofs.section.wait_on.Statement.{statement}
-use Rattle.recording.proofs.section.wait_on.Tie as tie
+use Rattle.quoted.proofs.marks.wait_on.Statement.{statement}
+use Rattle.quoted.proofs.marks.wait_on.Tie as tie
 
 command-of-requires : tie.Need-command-of-requires
 command-of-requires c κs = search needs

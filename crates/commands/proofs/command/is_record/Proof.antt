@@ -1,9 +1,9 @@
--- `values::values::is_record` meets its contract. Assumes nothing.
+-- `commands::command::is_record` meets its contract. Assumes nothing.
 use Prim.Native.Nat.{_-_}
 use mathlib.Core.Path.{sym}
 use borrow.Author.Needs.{needs}
-use Rattle.values.proofs.values.is_record.Statement.{statement}
-use Rattle.values.proofs.values.is_record.Tie as tie
+use Rattle.commands.proofs.command.is_record.Statement.{statement}
+use Rattle.commands.proofs.command.is_record.Tie as tie
 
 content-of-requires : tie.Need-content-of-requires
 content-of-requires c κs = search needs
