@@ -44,6 +44,15 @@ impl Call {
         matches!(self, Call::Write | Call::Fill | Call::Strip)
     }
 
+    /// The number that the call is to answer with a file of this answer: a
+    /// table is handed out whatever the file's answer is.
+    pub fn meant(self, answer: u32) -> u32 {
+        match self {
+            Call::Table => number::SOUND,
+            _ => answer,
+        }
+    }
+
     /// What is lent is made once, so that only the call is measured.
     pub fn prepare<'a>(self, library: &'a dyn Library, file: &'a [u8]) -> Prepared<'a> {
         let found = match self {
@@ -54,7 +63,10 @@ impl Call {
             Call::Table => largest(&found),
             _ => (0, 0),
         };
-        let bytes = if self.puts_out() { LIMIT } else { 0 };
+        let bytes = match self.puts_out() {
+            true => LIMIT.min(2 * file.len()),
+            false => 0,
+        };
         Prepared {
             call: self,
             library,
@@ -97,15 +109,6 @@ impl Prepared<'_> {
             Call::Strip => library.strip(file, &mut self.out),
         };
         put.err().unwrap_or(Refusal::SOUND)
-    }
-
-    /// The number that the call is to answer with a file of this answer: a
-    /// table is handed out whatever the file's answer is.
-    pub fn meant(&self, answer: u32) -> u32 {
-        match self.call {
-            Call::Table => number::SOUND,
-            _ => answer,
-        }
     }
 
     /// Whether another implementation put out the same.

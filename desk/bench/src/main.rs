@@ -3,6 +3,7 @@
 
 mod calls;
 mod clock;
+mod load;
 mod measure;
 mod options;
 mod report;
@@ -14,10 +15,11 @@ use std::thread::available_parallelism;
 
 use calls::Call;
 use compare::{command_line, Library};
+use load::Load;
 use measure::{Measured, Measuring};
 use options::Options;
 use report::Report;
-use samples::large::{file, Shape};
+use samples::large::Shape;
 
 fn main() -> ExitCode {
     command_line::run(bench)
@@ -43,17 +45,15 @@ fn bench(options: &Options) -> ExitCode {
 fn bench_shape(options: &Options, shape: Shape) -> Result<(), String> {
     let libraries = [compare::chosen(), compare::baseline()];
     let sizes = options.sizes().into_iter();
-    let files: Vec<_> = sizes
-        .map(|size| (size, file(shape, (size as usize) << 20, 1)))
-        .collect();
-    println!("\n## {}\n", shape.name());
+    let loads: Vec<_> = sizes.map(|size| Load::draw(shape, size)).collect();
+    println!("\n## {}\n", options.title(shape));
     let mut report = Report::new();
-    report.print_heading(libraries[0].name(), libraries[1].name());
+    report.print_heading(options.unit(), libraries[0].name(), libraries[1].name());
     for call in options.calls(shape) {
-        let measured = measure(options.runs, call, shape, &files, libraries)
+        let measured = measure(options.runs, call, shape, &loads, libraries)
             .map_err(|words| format!("{}: {words}", call.name()))?;
-        for ((mebibytes, file), measured) in files.iter().zip(measured) {
-            report.print(call, *mebibytes, file.len(), measured);
+        for (load, measured) in loads.iter().zip(measured) {
+            report.print(call, load.size, measured);
         }
     }
     Ok(())
@@ -65,12 +65,12 @@ fn measure(
     runs: u64,
     call: Call,
     shape: Shape,
-    files: &[(u64, Vec<u8>)],
+    loads: &[Load],
     libraries: [&dyn Library; 2],
 ) -> Result<Vec<Measured>, String> {
-    let files = files.iter();
-    let mut measuring = files
-        .map(|(_, file)| Measuring::new(call, file, shape.answer(), libraries))
+    let loads = loads.iter();
+    let mut measuring = loads
+        .map(|load| Measuring::new(call, &load.files, shape.answer(), libraries))
         .collect::<Result<Vec<_>, _>>()?;
     for _ in 0..runs {
         for size in &mut measuring {

@@ -9,7 +9,7 @@ use compare::Library;
 use crate::calls::{Call, Prepared};
 use crate::{clock, stack};
 
-/// What one call of both implementations took.
+/// What one run of both implementations took.
 #[derive(Clone, Copy, Debug, PartialEq, Eq)]
 pub struct Measured {
     pub subject: Taken,
@@ -23,10 +23,10 @@ pub struct Taken {
     pub stack: usize,
 }
 
-/// A call with one file, which is measured as often as it is run.
+/// A call over some files, which is measured as often as it is run.
 pub struct Measuring<'a> {
-    subject: Prepared<'a>,
-    baseline: Prepared<'a>,
+    subject: Vec<Prepared<'a>>,
+    baseline: Vec<Prepared<'a>>,
     /// The number that the call is to answer.
     meant: u32,
     measured: Measured,
@@ -36,17 +36,20 @@ impl<'a> Measuring<'a> {
     /// The first run, which no time is taken of, tells the stack.
     pub fn new(
         call: Call,
-        file: &'a [u8],
+        files: &'a [Vec<u8>],
         answer: u32,
         [subject, baseline]: [&'a dyn Library; 2],
     ) -> Result<Measuring<'a>, String> {
-        let mut subject = call.prepare(subject, file);
-        let mut baseline = call.prepare(baseline, file);
-        let measured = Measured {
-            subject: taken(&mut subject)?,
-            baseline: taken(&mut baseline)?,
+        let prepare = |library| -> Vec<_> {
+            let files = files.iter();
+            files.map(|file| call.prepare(library, file)).collect()
         };
-        let meant = subject.meant(answer);
+        let (mut subject, mut baseline) = (prepare(subject), prepare(baseline));
+        let meant = call.meant(answer);
+        let measured = Measured {
+            subject: taken(&mut subject, meant)?,
+            baseline: taken(&mut baseline, meant)?,
+        };
         Ok(Measuring {
             subject,
             baseline,
@@ -69,27 +72,34 @@ impl<'a> Measuring<'a> {
 
     /// What is fast and wrong is not measured.
     pub fn measured(&self) -> Result<Measured, String> {
-        match self.subject.agrees(&self.baseline) {
+        let mut both = self.subject.iter().zip(&self.baseline);
+        match both.all(|(subject, baseline)| subject.agrees(baseline)) {
             true => Ok(self.measured),
             false => Err("the two put out different things".to_owned()),
         }
     }
 }
 
-fn taken(prepared: &mut Prepared<'_>) -> Result<Taken, String> {
-    let stack = stack::used_by(&mut || {
-        black_box(prepared.run());
-    })?;
+fn taken(prepared: &mut [Prepared<'_>], meant: u32) -> Result<Taken, String> {
+    let mut answered = Ok(());
+    let stack = stack::used_by(&mut || answered = run_all(prepared, meant))?;
     let time = Duration::MAX;
-    Ok(Taken { time, stack })
+    answered.map(|()| Taken { time, stack })
 }
 
-fn time(prepared: &mut Prepared<'_>, meant: u32) -> Result<Duration, String> {
+fn time(prepared: &mut [Prepared<'_>], meant: u32) -> Result<Duration, String> {
     let start = clock::now();
-    let answer = black_box(prepared.run());
-    let time = clock::now() - start;
-    match answer.number == meant {
-        true => Ok(time),
-        false => Err(format!("answered by {}", answer.number)),
+    run_all(prepared, meant)?;
+    Ok(clock::now() - start)
+}
+
+/// The call with one file after the other.
+fn run_all(prepared: &mut [Prepared<'_>], meant: u32) -> Result<(), String> {
+    for file in prepared {
+        let answer = black_box(file.run());
+        if answer.number != meant {
+            return Err(format!("answered by {}", answer.number));
+        }
     }
+    Ok(())
 }

@@ -5,22 +5,24 @@ use samples::large::{Order, Shape};
 use vdv::number;
 
 use crate::calls::{Call, ALL};
+use crate::load::Size;
 
 const HELP: &str = "\
 Measures the library beside the independent reader.
 
-usage: bench [--runs N] [--largest MIB] [--call NAME] [--shape NAME]
+usage: bench [--runs N] [--largest MIB | --small] [--call NAME] [--shape NAME]
 
   --runs N       the best of so many runs (3)
   --largest MIB  sizes 1, 2, 4, .. up to this many MiB (16)
+  --small        256 files of 4 KiB instead, one after the other in each run
   --call NAME    one call: check, list, table, write, fill, strip
   --shape NAME   one shape: rising, shuffled, eight, eight-shuffled, many, huge,
                  huge-shuffled
 
 rising and shuffled have as many links as running times, in key order or not;
 eight is all eight tables with a share of the bytes each; many is small tables
-again and again, which is refused by 17 and so only read; huge is one table, the
-calendar. Prints Markdown tables: MB/s of both, the subject's time by the
+again and again, which is refused by 17 and so only read, and never small; huge
+is one table, the calendar. Prints Markdown tables: MB/s of both, the subject's time by the
 baseline's, the time by that of half the size (2 is growth with the bytes), and
 the most stack a call needed, in bytes.
 ";
@@ -42,6 +44,7 @@ const MOST: u64 = 16;
 pub struct Options {
     pub runs: u64,
     largest: u64,
+    small: bool,
     call: Option<Call>,
     shape: Option<Shape>,
 }
@@ -51,6 +54,7 @@ impl Default for Options {
         Options {
             runs: 3,
             largest: MOST,
+            small: false,
             call: None,
             shape: None,
         }
@@ -65,6 +69,7 @@ impl command_line::Options for Options {
         match name {
             "--runs" => self.runs = value.number(1..=1000)?,
             "--largest" => self.largest = value.number(1..=MOST)?,
+            "--small" => self.small = true,
             "--call" => self.call = Some(call(&value.word()?)?),
             "--shape" => self.shape = Some(shape(&value.word()?)?),
             _ => return Ok(false),
@@ -74,10 +79,24 @@ impl command_line::Options for Options {
 }
 
 impl Options {
-    /// In MiB.
-    pub fn sizes(&self) -> Vec<u64> {
+    pub fn sizes(&self) -> Vec<Size> {
+        if self.small {
+            return vec![Size::SMALL];
+        }
         let sizes = [1, 2, 4, 8, 16].into_iter();
-        sizes.filter(|size| *size <= self.largest).collect()
+        let wanted = sizes.filter(|size| *size <= self.largest);
+        wanted.map(|size| Size::mebibytes(size as usize)).collect()
+    }
+
+    pub fn unit(&self) -> &'static str {
+        self.sizes()[0].unit()
+    }
+
+    pub fn title(&self, shape: Shape) -> String {
+        match self.small {
+            true => format!("{}, {} small files", shape.name(), Size::SMALL.files),
+            false => shape.name().to_owned(),
+        }
     }
 
     /// A file that is refused is only read.
@@ -88,9 +107,12 @@ impl Options {
         calls.into_iter().filter(can_run).collect()
     }
 
+    /// A small file has no table again and again.
     pub fn shapes(&self) -> Vec<Shape> {
         let all = || SHAPES.map(|(_, shape)| shape).to_vec();
-        self.shape.map_or_else(all, |shape| vec![shape])
+        let mut shapes = self.shape.map_or_else(all, |shape| vec![shape]);
+        shapes.retain(|shape| !self.small || *shape != Shape::Small);
+        shapes
     }
 }
 
@@ -120,7 +142,7 @@ mod tests {
     #[test]
     fn wishes() {
         let all = read("").unwrap();
-        assert_eq!(all.sizes(), [1, 2, 4, 8, 16]);
+        assert_eq!(all.sizes(), [1, 2, 4, 8, 16].map(Size::mebibytes));
         assert_eq!(all.shapes().len(), 7);
         assert_eq!(all.calls(Shape::Eight(Order::Rising)).len(), 6);
         assert_eq!(
@@ -128,9 +150,12 @@ mod tests {
             [Call::Check, Call::List, Call::Table]
         );
         let some = read("--largest 4 --call table --shape huge").unwrap();
-        assert_eq!(some.sizes(), [1, 2, 4]);
+        assert_eq!(some.sizes(), [1, 2, 4].map(Size::mebibytes));
         assert_eq!(some.shapes(), [Shape::Calendar(Order::Rising)]);
         assert_eq!(some.calls(some.shapes()[0]), [Call::Table]);
+        let small = read("--small").unwrap();
+        assert_eq!(small.sizes(), [Size::SMALL]);
+        assert!(!small.shapes().contains(&Shape::Small));
     }
 
     #[test]

@@ -3,6 +3,7 @@
 use std::time::Duration;
 
 use crate::calls::Call;
+use crate::load::Size;
 use crate::measure::Measured;
 
 /// Remembers the last size of a call, to say how the time has grown.
@@ -15,9 +16,9 @@ impl Report {
         Report { last: None }
     }
 
-    pub fn print_heading(&self, subject: &str, baseline: &str) {
+    pub fn print_heading(&self, unit: &str, subject: &str, baseline: &str) {
         println!(
-            "| call  | MiB | {subject} MB/s | {baseline} MB/s | ratio | growth of {subject} | of {baseline} \
+            "| call  | {unit} | {subject} MB/s | {baseline} MB/s | ratio | growth of {subject} | of {baseline} \
              | stack of {subject} | of {baseline} |\n\
              |---|---:|---:|---:|---:|---:|---:|---:|---:|"
         );
@@ -25,7 +26,7 @@ impl Report {
 
     /// The ratio is the subject's time by the baseline's; growth is the time
     /// by that of half the size, 2 where time grows with the bytes.
-    pub fn print(&mut self, call: Call, mebibytes: u64, bytes: usize, measured: Measured) {
+    pub fn print(&mut self, call: Call, size: Size, measured: Measured) {
         let before = self.last.filter(|(last, _)| *last == call);
         let (subject, baseline) = (measured.subject, measured.baseline);
         let growth = before.map(|(_, last)| {
@@ -39,10 +40,11 @@ impl Report {
             None => ["", ""].map(str::to_owned),
         };
         println!(
-            "| {:5} | {mebibytes:3} | {:.2} | {:.2} | {:.2} | {of_subject} | {of_baseline} | {} | {} |",
+            "| {:5} | {:3} | {:.2} | {:.2} | {:.2} | {of_subject} | {of_baseline} | {} | {} |",
             call.name(),
-            speed(bytes, subject.time),
-            speed(bytes, baseline.time),
+            size.units(),
+            speed(size.total(), subject.time),
+            speed(size.total(), baseline.time),
             by(subject.time, baseline.time),
             subject.stack,
             baseline.stack,

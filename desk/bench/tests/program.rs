@@ -42,6 +42,19 @@ fn a_refused_file_is_only_read() {
 }
 
 #[test]
+fn small_files_are_read_one_after_the_other() {
+    let output = bench("--small --runs 1 --shape eight");
+    let printed = String::from_utf8(output.stdout).unwrap();
+    assert!(output.status.success(), "{printed}");
+    assert!(printed.contains("\n## all eight tables in key order, 256 small files\n"));
+    assert!(printed.contains("| call  | KiB |"), "{printed}");
+    for call in ["check", "list", "table", "write", "fill", "strip"] {
+        let lines = measured(&printed, call);
+        assert_eq!((lines.len(), lines[0][2]), (1, "4"), "{printed}");
+    }
+}
+
+#[test]
 fn help_and_misuse() {
     assert!(bench("--help").status.success());
     assert_eq!(bench("--runs").status.code(), Some(2));

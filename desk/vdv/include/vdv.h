@@ -5,11 +5,11 @@
  * else that is lent. There are no other conditions, and no call keeps anything
  * of what it is lent. Sections, records and fields count from 1.
  *
- * Each answer begins with document 01's number, 0 where the call was not
+ * Each answer begins with document 01's number, VDV_SOUND where the call was not
  * refused, and the place: section, 0 for header and trailer, and line. The
  * values that follow are 0 where the call was refused.
  *
- * The library is built for Linux on x86-64. */
+ * The library is built for Linux: on x86-64, and on an Arm machine for itself. */
 #ifndef VDV_H
 #define VDV_H
 
@@ -21,6 +21,36 @@
 extern "C" {
 #endif
 
+/* Document 01's numbers. */
+enum vdv_number {
+    VDV_SOUND = 0, /* sound */
+    VDV_FILE_TOO_LONG = 1, /* file over 16,777,216 bytes */
+    VDV_HEADER = 2, /* header breaks a rule */
+    VDV_TRAILER = 3, /* trailer breaks a rule */
+    VDV_BYTE = 4, /* byte not allowed in this line */
+    VDV_COMMAND = 5, /* no `;`, or unknown command */
+    VDV_ORDER = 6, /* command out of its order, or section without `end` */
+    VDV_UNKNOWN_TABLE = 7, /* unknown table */
+    VDV_ATR = 8, /* `atr` differs from the table's columns */
+    VDV_FRM = 9, /* `frm` differs from the columns' kinds */
+    VDV_FIELD_COUNT = 10, /* wrong number of fields */
+    VDV_NOT_A_TEXT = 11, /* not a text */
+    VDV_NOT_A_NUMBER = 12, /* not a number */
+    VDV_RANGE = 13, /* number out of range, or text over its size */
+    VDV_SAME_POINTS = 14, /* the two points are the same */
+    VDV_MARK = 15, /* mark misplaced, unreadable, not allowed, not rising, on an empty text, or with no record */
+    VDV_END_COUNT = 16, /* `end` count wrong */
+    VDV_TABLE_TWICE = 17, /* table a second time */
+    VDV_PRIMARY_KEY = 18, /* primary key met before */
+    VDV_SECOND_KEY = 19, /* second key met before */
+    VDV_REFERENCE = 20, /* a reference finds no record */
+    VDV_NO_ROOM = 21, /* no room */
+    VDV_NOT_EMPTY = 22, /* field to fill is not empty */
+    VDV_MAY_NOT_FILL = 23, /* field may not be filled */
+    VDV_NO_SUCH = 24, /* no such section, record or field */
+};
+
+/* `number` is one of enum vdv_number, as in every answer. */
 typedef struct vdv_refusal {
     uint32_t number;
     size_t section;

@@ -1,6 +1,9 @@
 //! What the calls hand back. Refusals and rows have the layout of the C
 //! boundary, so that lent rows pass through it as they are.
 
+use std::error::Error;
+use std::fmt::{self, Display, Formatter};
+
 use crate::number;
 
 /// "file over 16,777,216 bytes" is refused by 1; a form over it by 21.
@@ -40,6 +43,31 @@ impl Refusal {
         self.number == number::SOUND
     }
 }
+
+/// `refused with 13 at section 2, line 5: number out of range, or text over its
+/// size`; header and trailer are places too, and the number may have none.
+impl Display for Refusal {
+    fn fmt(&self, out: &mut Formatter<'_>) -> fmt::Result {
+        let Refusal {
+            number,
+            section,
+            line,
+        } = self;
+        let words = number::in_words(*number);
+        match (*number, *section) {
+            (number::SOUND, _) => write!(out, "{words}"),
+            (number::HEADER, 0) => write!(out, "refused with 2 at header, line {line}: {words}"),
+            (number::TRAILER, 0) => write!(out, "refused with 3 at trailer, line {line}: {words}"),
+            (_, 0) => write!(out, "refused with {number}: {words}"),
+            _ => write!(
+                out,
+                "refused with {number} at section {section}, line {line}: {words}"
+            ),
+        }
+    }
+}
+
+impl Error for Refusal {}
 
 /// "one row a section with table number, place, length, record count and
 /// verdict"; the verdict stands with its line.
@@ -203,6 +231,25 @@ pub fn own_bytes(stored: &[u8]) -> Vec<u8> {
 #[cfg(test)]
 mod tests {
     use super::*;
+
+    #[test]
+    fn refusals_in_words() {
+        let words = |number, section, line| Refusal::new(number, section, line).to_string();
+        assert_eq!(
+            words(13, 2, 5),
+            "refused with 13 at section 2, line 5: number out of range, or text over its size"
+        );
+        assert_eq!(
+            words(2, 0, 3),
+            "refused with 2 at header, line 3: header breaks a rule"
+        );
+        assert_eq!(
+            words(3, 0, 0),
+            "refused with 3 at trailer, line 0: trailer breaks a rule"
+        );
+        assert_eq!(words(21, 0, 0), "refused with 21: no room");
+        assert_eq!(Refusal::SOUND.to_string(), "sound");
+    }
 
     #[test]
     fn doubled_quotes_stand_for_one() {

@@ -40,6 +40,8 @@ use boundary::{HeaderAnswer, ValueAnswer};
 /// ```
 /// let refusal = vdv::check(b"").unwrap_err();
 /// assert_eq!(refusal, vdv::Refusal::new(vdv::number::HEADER, 0, 0));
+/// let words = "refused with 2 at header, line 0: header breaks a rule";
+/// assert_eq!(refusal.to_string(), words);
 /// ```
 pub fn check(file: &[u8]) -> Result<(), Refusal> {
     // SAFETY: a slice's pointer and count, borrowed during the call; the

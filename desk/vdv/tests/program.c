@@ -13,6 +13,8 @@ _Static_assert(sizeof(vdv_row_answer) == 72 && offsetof(vdv_row_answer, row) == 
 _Static_assert(sizeof(vdv_value_answer) == 56 && offsetof(vdv_value_answer, amount) == 32, "value");
 _Static_assert(sizeof(vdv_length_answer) == 32 && offsetof(vdv_length_answer, length) == 24, "length");
 
+_Static_assert(VDV_SOUND == 0 && VDV_NO_SUCH == 24, "numbers");
+
 static uint8_t file[65536];
 static uint8_t out[65536];
 
@@ -47,11 +49,25 @@ static void say_form(const char *name, vdv_length_answer form)
     fwrite(out, 1, form.length, stdout);
 }
 
+static void say_answer(vdv_refusal answer)
+{
+    switch (answer.number) {
+    case VDV_SOUND:
+        printf("check;sound\n");
+        break;
+    case VDV_HEADER:
+        printf("check;header;%zu\n", answer.line);
+        break;
+    default:
+        printf("check;%u;%zu;%zu\n", (unsigned)answer.number, answer.section, answer.line);
+    }
+}
+
 int main(void)
 {
     size_t length = fread(file, 1, sizeof file, stdin);
     vdv_refusal answer = vdv_check(file, length);
-    printf("check;%u;%zu;%zu\n", (unsigned)answer.number, answer.section, answer.line);
+    say_answer(answer);
     vdv_header_answer header = vdv_header(file, length);
     printf("header;%u;%llu;%llu;%llu;%d;%d;%d;%.*s\n", (unsigned)header.number, (unsigned long long)header.year,
            (unsigned long long)header.second, (unsigned long long)header.day, header.latin, header.dve, header.fft,
