@@ -17,8 +17,8 @@ use Rattle.page.specs.Records.{number, table-of}
 use Rattle.page.specs.Answers.{refusal, sound, earlier, refuse-if}
 use Rattle.page.specs.File.{limit, too-long, found, row-of, rowOf, header-refusal, section-refusal, file-refusal}
 use Rattle.page.specs.Reading.{outside, section-at, row-at, find-refusal, sectionOf, list-refusal, listOf, verdict-of, value-refusal, value-at, valueOf}
-use Rattle.page.specs.Handing.{text-refusal, own-text, textOut, cellsOf, table-refusal, cells-refusal, tableOf}
-use Rattle.page.specs.Writing.{put-refusal, putOf}
+use Rattle.page.specs.Handing.{text-refusal, own-text, text-owner, copied, textOut, cellsOf, table-refusal, cells-refusal, tableOf}
+use Rattle.page.specs.Writing.{put-refusal}
 use Rattle.page.specs.Trailer.{trailerOf}
 use Rattle.page.specs.Refusals.{Refused}
 use Rattle.page.specs.declared.Refusal.{Refusal}
@@ -27,6 +27,7 @@ use Rattle.page.specs.declared.Checked.the-variants as C
 use Rattle.page.specs.declared.Listed.the-variants as L
 use Rattle.page.specs.declared.Got.the-variants as G
 use Rattle.page.specs.declared.Written.the-variants as W
+use Rattle.page.specs.declared.Handed.the-variants as Ha
 use Rattle.verdicts.specs.Headers.{HeaderFault}
 use Rattle.calls.specs.Turns.{Outside, Within}
 use Rattle.laws.proofs.Decides.{Decides, holds, fails, one-of, below}
@@ -35,7 +36,7 @@ use Rattle.verdicts.proofs.Headers.{header-refused-exactly, header-settled}
 use Rattle.grammar.proofs.Refuses.{refuses-exactly, refused-ranged, section-settled}
 use Rattle.verdicts.proofs.Numbers.{exactly-section}
 use Rattle.calls.proofs.PromisesListing.{header-told, file-ranged}
-use Rattle.calls.proofs.CallAnswers.{some-number, written-exactly, got-exactly, listed-exactly, checked-exactly}
+use Rattle.calls.proofs.CallAnswers.{some-number, written-exactly, handed-exactly, got-exactly, listed-exactly, checked-exactly}
 use Rattle.calls.proofs.Turns.{earlier-exactly, turned, via, second, outside-d, within-not, not-within}
 use Rattle.laws.proofs.Earlier.{earlier-none}
 
@@ -352,10 +353,10 @@ value-other s i r f e =
     (if-number (outside r (row-at s i .records) || outside f (width (table-of (section-at s i .lines)))) 24 11 (some-number 11 (omega arith)) (λ (e : 24 ≡ 11). omega arith)) .0 e in
     omega (arith, h .0 .1, h .1 .0)
 
-pub text-11 : (s : Bytes) (i r f room : ℕ) → textOut s i r f room ≡ W.Refused (refusal 11 0 0) ↔ (Given s i r f × (¬ IsText s i f))
-unfolding textOut putOf put-refusal text-refusal
+pub text-11 : (s : Bytes) (i r f room : ℕ) → textOut s i r f room ≡ Ha.Refused (refusal 11 0 0) ↔ (Given s i r f × (¬ IsText s i f))
+unfolding textOut put-refusal text-refusal
 text-11 s i r f room =
-    via (written-exactly (put-refusal (text-refusal s i r f) (own-text s i r f) room) (refusal 11 0 0) (some-number 11 (omega arith)) (length (own-text s i r f)))
+    via (handed-exactly (put-refusal (text-refusal s i r f) (own-text s i r f) room) (refusal 11 0 0) (some-number 11 (omega arith)) (copied (own-text s i r f) (text-owner s i r f)))
     (via (outer, inner)
     (value-first, value-back))
   where
@@ -398,10 +399,10 @@ first-alone a b u x z other = (λ e. into b (earlier-exactly a (refuse-if b u) x
     into false (inr e) = absurd (z (sym (ap (λ (q : Refusal). q .number) (e .1))))
 
 pub text-else : (s : Bytes) (i r f room : ℕ) (x : Refusal) → ¬ (x .number ≡ 0) → ¬ (x ≡ refusal 11 0 0) → ¬ (x ≡ refusal 21 0 0) →
-    textOut s i r f room ≡ W.Refused x ↔ valueOf s i r f ≡ G.Refused x
-unfolding textOut putOf put-refusal text-refusal valueOf
+    textOut s i r f room ≡ Ha.Refused x ↔ valueOf s i r f ≡ G.Refused x
+unfolding textOut put-refusal text-refusal valueOf
 text-else s i r f room x z other full =
-    via (written-exactly (put-refusal (text-refusal s i r f) (own-text s i r f) room) x z (length (own-text s i r f)))
+    via (handed-exactly (put-refusal (text-refusal s i r f) (own-text s i r f) room) x z (copied (own-text s i r f) (text-owner s i r f)))
     (via (first-alone (text-refusal s i r f) (ltb room (length (own-text s i r f)) || ltb limit (length (own-text s i r f))) 21 x z full)
     (via (first-alone (value-refusal s i r f) (not (column-at (table-of (section-at s i .lines)) (f - 1) .text)) 11 x z other)
     (got-exactly (value-refusal s i r f) x z (value-at (section-at s i) r f) .1, got-exactly (value-refusal s i r f) x z (value-at (section-at s i) r f) .0)))

@@ -26,6 +26,7 @@ use Rattle.page.specs.declared.Headed.the-variants as H
 use Rattle.page.specs.declared.Listed.the-variants as L
 use Rattle.page.specs.declared.Got.the-variants as G
 use Rattle.page.specs.declared.Written.the-variants as W
+use Rattle.page.specs.declared.Handed.the-variants as Ha
 use Rattle.laws.proofs.Decides.{below}
 use Rattle.grammar.proofs.Refuses.{refused-ranged}
 use Rattle.calls.proofs.PromisesListing.{file-ranged}
@@ -91,7 +92,7 @@ module _ (s : Bytes) (x : Refusal) (some : 0 < x .number) (small : x .number ≤
       (further-big (find-refusal s i) _ (find-header i)
       (big-earlier (verdict-of i (row-at s i)) _ (big-verdict i) (big-if (outside r (row-at s i .records) || outside f (width (table-of (section-at s i .lines)))) 24 (omega arith))))
 
-  pub text-header : (i r f room : ℕ) → textOut s i r f room ≡ W.Refused x ↔ header-refusal s ≡ x
+  pub text-header : (i r f room : ℕ) → textOut s i r f room ≡ Ha.Refused x ↔ header-refusal s ≡ x
   text-header i r f room =
       via (text-else s i r f room x numbered (λ e. let k : x .number ≡ 11 = ap (λ (q : Refusal). q .number) e in omega arith)
       (λ e. let k : x .number ≡ 21 = ap (λ (q : Refusal). q .number) e in omega arith)) (value-header i r f)

@@ -9,7 +9,7 @@ use native.Mathlib.Omega.{arith}
 use lib.Dec.{eqb, ltb}
 use lib.ListN.{length, getD, take, drop, length-append, take-append-drop}
 use lib.Seq.{take-append-seam, drop-append-le, drop-append-add}
-use borrow.Author.Tests.{eqb-true, ltb-true, ltb-false}
+use borrow.Author.Tests.{eqb-true, eq-eqb, ltb-true, ltb-false}
 use Rattle.page.specs.Bytes.{Bytes, pick, until, moved, part}
 use Rattle.page.specs.Lines.{lines, joined, content-size, content, command, rest, semicolon, Tbl, Atr, Frm, Rec}
 use Rattle.page.specs.Fields.{fields, textOf}
@@ -25,17 +25,19 @@ use Rattle.page.specs.Form.{doubled}
 use Rattle.page.specs.Answers.{refuse-if, got, written}
 use Rattle.page.specs.Reading.{no-section, section-at, row-at, words-in, value-in, record-of, value-refusal, value-at, valueOf}
 use Rattle.page.specs.Writing.{put-refusal, putOf}
-use Rattle.page.specs.Handing.{text-refusal, own-text, textOut}
+use Rattle.page.specs.Handing.{text-refusal, own-text, text-owner, copied, textOut}
 use Rattle.page.specs.Grammar as Grammar
 use Rattle.page.specs.Grammar.{owner-by, Holds, Values, no-field, a-field, Then, found, skip, Records, pause, a-mark, a-record, the-end, Denotes}
 use Rattle.page.specs.Rules.{Every, none-left, one-more}
 use Rattle.page.specs.declared.Refusal.{Refusal}
-use Rattle.page.specs.declared.Owner.{Owner}
 use Rattle.page.specs.declared.Span.{Span}
+use Rattle.page.specs.declared.Text.{Text}
 use Rattle.page.specs.declared.Value.{Value}
 use Rattle.page.specs.declared.Value.the-variants as Va
 use Rattle.page.specs.declared.Got.the-variants as G
 use Rattle.page.specs.declared.Written.the-variants as W
+use Rattle.page.specs.declared.Copied.{Copied}
+use Rattle.page.specs.declared.Handed.the-variants as Ha
 use Rattle.page.proofs.LineLaws.{joined-lines, joined-append}
 use Rattle.page.proofs.ContentLaws.{rest-none}
 use Rattle.page.proofs.CutLaws.{section-stands}
@@ -50,7 +52,9 @@ use Rattle.grammar.proofs.Readings.{handed-denoted}
 use Rattle.grammar.proofs.Counts.{count-handed}
 use Rattle.laws.proofs.Sections.{sections-begin}
 use Rattle.grammar.proofs.Marks.{pass-marks, quiet-marks, mark-marks, record-marks, pass-at, quiet-at, mark-at, rec-at, owner-handed}
-use Rattle.calls.proofs.CallNumbers.{Given, value-given}
+use Rattle.calls.proofs.CallAnswers.{as-written, handed-is}
+use Rattle.calls.proofs.CallNumbers.{Given, IsText, value-given}
+use Rattle.calls.proofs.PromisesHanding.{text-put}
 use Rattle.laws.proofs.Earlier.{earlier-none}
 
 -- where a record's fields stand among the bytes
@@ -281,11 +285,29 @@ value-handed s i r f v e = by (eqb (value-refusal s i r f .number) 0) refl e
         rw z at (value-says s i r f (value-given s i r f .0 (eqb-true (value-refusal s i r f .number) 0 h)))
     by false h e = absurd (false≢true (cc))
 
--- `text`: the bytes that are handed out are the model's text
-pub text-handed : (s : Bytes) (i r f room n : ℕ) → textOut s i r f room ≡ W.Length n → (o : Owner) × (datum-at i r f (modelOf s) ≡ words o (own-text s i r f))
-unfolding textOut putOf put-refusal text-refusal
-text-handed s i r f room n e =
-    let a = accepted-put (text-refusal s i r f) (own-text s i r f) room n e in
-    let b = earlier-none (value-refusal s i r f) _ a in
-    let g = value-given s i r f .0 (b .0) in
-    (words-in (record-of (section-at s i) r) f .owner, text-says s i r f g (if-text (column-at (table-of (section-at s i .lines)) (f - 1) .text) (b .1)))
+-- `text`
+
+module _ (s : Bytes) (i r f room : ℕ) (x : Copied) (e : textOut s i r f room ≡ Ha.Is x) where
+  a-text-there : (value-refusal s i r f .number ≡ 0) × IsText s i f
+  unfolding text-refusal
+  a-text-there =
+      let a = accepted-put (text-refusal s i r f) (own-text s i r f) room (x .length) (sym (text-put s i r f room) ∙ ap as-written e) in
+      let b = earlier-none (value-refusal s i r f) _ a in
+      (b .0, if-text (column-at (table-of (section-at s i .lines)) (f - 1) .text) (b .1))
+
+  owner-told : words-in (record-of (section-at s i) r) f .owner ≡ x .owner
+  unfolding textOut text-owner
+  owner-told =
+      ap (λ (t : Copied). t .owner)
+      (handed-is (put-refusal (text-refusal s i r f) (own-text s i r f) room) (copied (own-text s i r f) (text-owner s i r f)) x e)
+
+  -- the bytes that are handed out, with the owner that is told, are the model's text
+  pub text-handed : datum-at i r f (modelOf s) ≡ words (x .owner) (own-text s i r f)
+  text-handed = rw (← owner-told) (text-says s i r f (value-given s i r f .0 (a-text-there .0)) (a-text-there .1))
+
+  -- and the owner is the one that `value` tells
+  pub text-whose : (t : Text) × ((valueOf s i r f ≡ G.Is (Va.Words t)) × (t .owner ≡ x .owner))
+  unfolding valueOf value-at value-in got
+  text-whose =
+      let z : eqb (value-refusal s i r f .number) 0 ≡ true = eq-eqb (value-refusal s i r f .number) 0 (a-text-there .0) in
+      (words-in (record-of (section-at s i) r) f, (rw (z, a-text-there .1), owner-told))

@@ -1,5 +1,5 @@
 -- The promises of the two calls that hand out into lent room: a text's own bytes, and all values of one table. Assumes nothing.
-use mathlib.Core.Path.{_≡_, refl, sym, _∙_}
+use mathlib.Core.Path.{_≡_, refl, ap, sym, _∙_}
 use mathlib.Core.Bool.{Bool, true, false, not, _||_, false≢true}
 use mathlib.Core.List.{List, _++_}
 use mathlib.Core.Logic.{_⊎_, inl, inr, _↔_}
@@ -14,33 +14,42 @@ use Rattle.page.specs.Cut.{sections}
 use Rattle.page.specs.Head.{latinOf}
 use Rattle.page.specs.Section.{outcome}
 use Rattle.page.specs.Records.{table-of}
-use Rattle.page.specs.Answers.{refusal, earlier, refuse-if, written, paper-written}
+use Rattle.page.specs.Answers.{refusal, earlier, refuse-if, written, paper-written, handed, paper-handed}
 use Rattle.page.specs.File.{limit, row-of, rowOf, header-refusal}
 use Rattle.page.specs.Reading.{outside, section-at, row-at, find-refusal, verdict-of, value-refusal}
 use Rattle.page.specs.Writing.{put-refusal, putOf}
-use Rattle.page.specs.Handing.{text-refusal, own-text, textOut, text-after, cellsOf, table-refusal, cells-refusal, tableOf, cells-after}
+use Rattle.page.specs.Handing.{text-refusal, own-text, text-owner, copied, textOut, text-after, cellsOf, table-refusal, cells-refusal, tableOf, cells-after}
 use Rattle.page.specs.declared.Refusal.{Refusal}
 use Rattle.page.specs.declared.Written.{Written}
 use Rattle.page.specs.declared.Written.the-variants as W
+use Rattle.page.specs.declared.Copied.{Copied}
+use Rattle.page.specs.declared.Handed.{Handed}
+use Rattle.page.specs.declared.Handed.the-variants as Ha
 use Rattle.calls.specs.Promises.{HandsText, HandsTable}
 use Rattle.grammar.proofs.Refuses.{verdict-ranged}
 use Rattle.calls.proofs.Promises.{one-outcome, refused-put, Done, done-put, long-find}
 use Rattle.calls.proofs.PromisesListing.{header-told}
+use Rattle.calls.proofs.CallAnswers.{as-written, handed-written, handed-number}
 use Rattle.calls.proofs.PromisesRoom.{TooLong, answer-number, room-exactly, earlier-never, if-never}
 
 -- two answers, and two later contents, that meet the promise are equal
 
-pub text-settled : (s : Bytes) (i j f : ℕ) (out : Bytes) {after later : Bytes} {r q : Written} → HandsText s i j f out r after → HandsText s i j f out q later → (r ≡ q) × (after ≡ later)
+pub text-settled : (s : Bytes) (i j f : ℕ) (out : Bytes) {after later : Bytes} {r q : Handed} → HandsText s i j f out r after → HandsText s i j f out q later → (r ≡ q) × (after ≡ later)
 text-settled s i j f out p q = one-outcome p q
 
 pub table-settled : (s : Bytes) (i : ℕ) (cells : List ℕ) {after later : List ℕ} {r q : Written} → HandsTable s i cells r after → HandsTable s i cells q later → (r ≡ q) × (after ≡ later)
 table-settled s i cells p q = one-outcome p q
 
+-- but for its owner, a text is put into lent output as a form is
+pub text-put : (s : Bytes) (i j f room : ℕ) → as-written (textOut s i j f room) ≡ putOf (text-refusal s i j f) (own-text s i j f) room
+unfolding textOut putOf
+text-put s i j f room = handed-written (put-refusal (text-refusal s i j f) (own-text s i j f) room) (copied (own-text s i j f) (text-owner s i j f))
+
 -- a refused call leaves what was lent as it was
 
-pub refused-text : (s : Bytes) (i j f : ℕ) (out : Bytes) (x : Refusal) → textOut s i j f (length out) ≡ W.Refused x → text-after s i j f out ≡ out
-unfolding textOut text-after
-refused-text s i j f out x e = refused-put (text-refusal s i j f) x (own-text s i j f) out e
+pub refused-text : (s : Bytes) (i j f : ℕ) (out : Bytes) (x : Refusal) → textOut s i j f (length out) ≡ Ha.Refused x → text-after s i j f out ≡ out
+unfolding text-after
+refused-text s i j f out x e = refused-put (text-refusal s i j f) x (own-text s i j f) out (sym (text-put s i j f (length out)) ∙ ap as-written e)
 
 pub refused-table : (s : Bytes) (i : ℕ) (cells : List ℕ) (x : Refusal) → tableOf s i (length cells) ≡ W.Refused x → cells-after s i cells ≡ cells
 unfolding tableOf cells-after written
@@ -53,9 +62,8 @@ refused-table s i cells x e = by (eqb (cells-refusal s i (length cells) .number)
 
 -- on success the count is given, the text or the values stand first, and what stands behind keeps its values
 
-pub text-done : (s : Bytes) (i j f : ℕ) (out : Bytes) (n : ℕ) → textOut s i j f (length out) ≡ W.Length n → Done (text-refusal s i j f) (own-text s i j f) out n
-unfolding textOut
-text-done s i j f out n e = done-put (text-refusal s i j f) (own-text s i j f) out n e
+pub text-done : (s : Bytes) (i j f : ℕ) (out : Bytes) (x : Copied) → textOut s i j f (length out) ≡ Ha.Is x → Done (text-refusal s i j f) (own-text s i j f) out (x .length)
+text-done s i j f out x e = done-put (text-refusal s i j f) (own-text s i j f) out (x .length) (sym (text-put s i j f (length out)) ∙ ap as-written e)
 
 pub record TableDone (s : Bytes) (i : ℕ) (cells : List ℕ) (n : ℕ) : Type 0 where
   pub given : n ≡ length (cellsOf (section-at s i))
@@ -87,8 +95,8 @@ table-done s i cells n e = by (eqb (table-refusal s i .number) 0) (ltb (length c
 -- 1: "file over 16,777,216 bytes"
 
 module _ (s : Bytes) (long : limit < length s) where
-  pub long-text : (i j f room : ℕ) → textOut s i j f room ≡ W.Refused (refusal 1 0 0)
-  unfolding textOut text-refusal value-refusal putOf put-refusal written earlier
+  pub long-text : (i j f room : ℕ) → textOut s i j f room ≡ Ha.Refused (refusal 1 0 0)
+  unfolding textOut text-refusal value-refusal put-refusal handed earlier
   long-text i j f room = rw (long-find s long i)
 
   pub long-table : (i room : ℕ) → tableOf s i room ≡ W.Refused (refusal 1 0 0)
@@ -139,9 +147,8 @@ text-never s i j f =
     (if-never (not (column-at (table-of (section-at s i .lines)) (f - 1) .text)) 11 (λ (z : 11 ≡ 21). omega arith))
 
 -- 21: nothing else refuses, and the text is longer than the room (or than a file may be)
-pub text-room : (s : Bytes) (i j f room : ℕ) → paper-written (textOut s i j f room) .number ≡ 21 ↔ ((text-refusal s i j f .number ≡ 0) × TooLong (own-text s i j f) room)
-unfolding textOut
-text-room s i j f room = room-exactly (text-refusal s i j f) (text-never s i j f) (own-text s i j f) room
+pub text-room : (s : Bytes) (i j f room : ℕ) → paper-handed (textOut s i j f room) .number ≡ 21 ↔ ((text-refusal s i j f .number ≡ 0) × TooLong (own-text s i j f) room)
+text-room s i j f room = rw (handed-number (textOut s i j f room), text-put s i j f room) (room-exactly (text-refusal s i j f) (text-never s i j f) (own-text s i j f) room)
 
 table-number : (s : Bytes) (i room : ℕ) → paper-written (tableOf s i room) .number ≡ pick (eqb (table-refusal s i .number) 0) (pick (ltb room (length (cellsOf (section-at s i)))) 21 0) (table-refusal s i .number)
 unfolding tableOf cells-refusal earlier refuse-if

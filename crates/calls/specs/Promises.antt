@@ -13,6 +13,7 @@ use Rattle.page.specs.declared.Headed.{Headed}
 use Rattle.page.specs.declared.Listed.{Listed}
 use Rattle.page.specs.declared.Got.{Got}
 use Rattle.page.specs.declared.Written.{Written}
+use Rattle.page.specs.declared.Handed.{Handed}
 use Rattle.page.specs.declared.Row.{Row}
 
 -- r is the answer, and `after` what was lent holds later
@@ -44,8 +45,8 @@ Strips s out r after = Kept (stripOf s (length out)) (strip-after s out) r after
 abbrev pub Fills : Bytes → ℕ → ℕ → ℕ → Bytes → Bytes → Written → Bytes → Type 0
 Fills s i j f t out r after = Kept (fillOf s i j f t (length out)) (fill-after s i j f t out) r after
 
--- a text's own bytes
-abbrev pub HandsText : Bytes → ℕ → ℕ → ℕ → Bytes → Written → Bytes → Type 0
+-- a text's own bytes, and whose it is
+abbrev pub HandsText : Bytes → ℕ → ℕ → ℕ → Bytes → Handed → Bytes → Type 0
 HandsText s i j f out r after = Kept (textOut s i j f (length out)) (text-after s i j f out) r after
 
 -- all values of one table

@@ -16,19 +16,21 @@ use Rattle.page.specs.Head.{latinOf}
 use Rattle.page.specs.Section.{record-text, rec-verdict, outcome}
 use Rattle.page.specs.Records.{table-of}
 use Rattle.page.specs.Places.{Standing, field-span}
-use Rattle.page.specs.Answers.{refusal, earlier, refuse-if, got, written}
+use Rattle.page.specs.Answers.{refusal, earlier, refuse-if, got, written, handed}
 use Rattle.page.specs.Writing.{put-refusal, putOf, put-after}
 use Rattle.page.specs.File.{limit, header-refusal, row-of, rowOf}
 use Rattle.page.specs.Reading.{no-section, outside, section-at, row-at, find-refusal, verdict-of, value-refusal, words-in, value-in, record-of, value-at}
-use Rattle.page.specs.Handing.{text-refusal, own-text, textOut, text-after}
+use Rattle.page.specs.Handing.{text-refusal, own-text, text-owner, copied, textOut, text-after}
 use Rattle.page.specs.declared.Refusal.{Refusal}
 use Rattle.page.specs.declared.Span.{Span}
 use Rattle.page.specs.declared.Row.{Row}
 use Rattle.page.specs.declared.Value.{Value}
 use Rattle.page.specs.declared.Value.the-variants as Va
 use Rattle.page.specs.declared.Got.the-variants as G
-use Rattle.page.specs.declared.Written.{Written}
 use Rattle.page.specs.declared.Written.the-variants as W
+use Rattle.page.specs.declared.Owner.{Owner}
+use Rattle.page.specs.declared.Handed.{Handed}
+use Rattle.page.specs.declared.Handed.the-variants as Ha
 use Rattle.page.proofs.LimitLaws.{header-short}
 use Rattle.page.proofs.ScanLaws.{part-length, part-moved}
 use Rattle.page.proofs.FieldLaws.{field-span-in, field-span-part}
@@ -38,11 +40,10 @@ use Rattle.laws.specs.Begins.{begins}
 use Rattle.laws.proofs.Sections.{sections-begin}
 use Rattle.machine.proofs.SoundLaws.{passed-width}
 use Rattle.values.proofs.ValueLaws.{inside}
-use Rattle.output.specs.Put.{Wrote}
 use Rattle.output.specs.Raw.{undoubled}
 use Rattle.frames.proofs.LineLaws.{own-is}
 use Rattle.output.proofs.WriteLaws.{refused}
-use Rattle.handing.specs.Own.{Lies, Spans, kind-refusal, own-of}
+use Rattle.handing.specs.Own.{Lies, Spans, owned, own-of, Gave}
 use Rattle.handing.proofs.PassLaws.{Closed, closed, passed-closed, section-passed, every-at}
 use Rattle.handing.proofs.StandLaws.{Lain, record-lain}
 use Rattle.page.proofs.TestLaws.{neither}
@@ -79,11 +80,21 @@ verdict-none i x e = by (eqb (x .verdict) 0) refl
     by true q = eqb-true (x .verdict) 0 q
     by false q = rw q at e
 
--- what is refused keeps its answer whatever the form
-unchanged : (r : Refusal) (a b l m : Bytes) (w : Written) → eqb (r .number) 0 ≡ false → Wrote r a l m w
-    → (w ≡ putOf r b (length l)) × (m ≡ put-after r b l)
-unfolding putOf put-after put-refusal earlier written
-unchanged r a b l m w e x = (rw (e, e) (rw (e, e) at (x .answer)), rw (e, e) (rw (e, e) at (x .left)))
+-- a text's owner, told beside what was written of it
+pub owned-put : (o : Owner) (r : Refusal) (form : Bytes) (room : ℕ) → owned o (putOf r form room) ≡ handed (put-refusal r form room) (copied form o)
+unfolding putOf written handed
+owned-put o r form room = by (eqb (put-refusal r form room .number) 0)
+  where
+    by : (b : Bool) → owned o (pick b (W.Length (length form)) (W.Refused (put-refusal r form room))) ≡ pick b (Ha.Is (copied form o)) (Ha.Refused (put-refusal r form room))
+    by true = refl
+    by false = refl
+
+-- what is refused before there is any writing
+refused-text : (o : Owner) (r : Refusal) (form l : Bytes) → (r .number ≡ 0 → ⊥)
+    → (Ha.Refused r ≡ handed (put-refusal r form (length l)) (copied form o)) × (l ≡ put-after r form l)
+refused-text o r form l n =
+    let z = refused r form l n in
+    (ap (owned o) (z .answer) ∙ owned-put o r form (length l), z .left)
 
 -- a section that is found, and sound
 pub record Sound (s : Bytes) (i : ℕ) : Type 0 where
@@ -209,34 +220,36 @@ module _ (s : Bytes) (i r f : ℕ) (found : value-refusal s i r f .number ≡ 0)
       go (closed u e) = words-lie s st f u (h .lain) (h .short) (has-field h) e
   spans-by h false q a = tt
 
-  wrote-by : There s i r f → (b : Bool) → column-at t (f - 1) .text ≡ b → (a : ℕ) (l m : Bytes) (w : Written)
-      → Wrote (kind-refusal (pick b (Va.Words (words-in st f)) (Va.Number a))) (own-of s (pick b (Va.Words (words-in st f)) (Va.Number a))) l m w
-      → (w ≡ textOut s i r f (length l)) × (m ≡ text-after s i r f l)
-  unfolding textOut text-after own-text refuse-if
-  wrote-by h true q a l m w x = go (text-closed h q)
+  gave-by : There s i r f → (b : Bool) → column-at t (f - 1) .text ≡ b → (a : ℕ) (l m : Bytes) (w : Handed)
+      → Gave s (pick b (Va.Words (words-in st f)) (Va.Number a)) l m w → (w ≡ textOut s i r f (length l)) × (m ≡ text-after s i r f l)
+  unfolding textOut text-after own-text text-owner refuse-if
+  gave-by h true q a l m w x = go (text-closed h q)
     where
-      go : Closed (getD (fields (st .rest)) (f - 1) []) → (w ≡ putOf (text-refusal s i r f) (own-text s i r f) (length l)) × (m ≡ put-after (text-refusal s i r f) (own-text s i r f) l)
+      go : Closed (getD (fields (st .rest)) (f - 1) []) →
+          (w ≡ handed (put-refusal (text-refusal s i r f) (own-text s i r f) (length l)) (copied (own-text s i r f) (text-owner s i r f)))
+          × (m ≡ put-after (text-refusal s i r f) (own-text s i r f) l)
       go (closed u e) =
           let y : own-text s i r f ≡ u = rw e in
-          let z : undoubled false (take (words-in st f .to - words-in st f .from) (drop (words-in st f .from) s)) ≡ u = words-own s st f u (h .lain) (h .short) (has-field h) e in
+          let z : own-of s (words-in st f) ≡ u = words-own s st f u (h .lain) (h .short) (has-field h) e in
           (rw (refusal-is, q, y) (rw z at (x .answer)), rw (refusal-is, q, y) (rw z at (x .left)))
-  wrote-by h false q a l m w x =
-      (rw (refusal-is, q) (unchanged (refusal 11 0 0) [] (own-text s i r f) l m w refl x .0), rw (refusal-is, q) (unchanged (refusal 11 0 0) [] (own-text s i r f) l m w refl x .1))
+  gave-by h false q a l m w x =
+      let z = refused-text (text-owner s i r f) (refusal 11 0 0) (own-text s i r f) l (λ (e : _≡_ {A = ℕ} 11 0). omega arith) in
+      (rw (refusal-is, q) (x .answer ∙ z .0), rw (refusal-is, q) (x .left ∙ z .1))
 
   pub value-spans : (v : Value) → v ≡ value-at (section-at s i) r f → Spans s v
   unfolding value-at value-in
   value-spans v e = rw e (spans-by (there-of s i r f found) (column-at t (f - 1) .text) refl _)
 
-  pub value-wrote : (v : Value) → v ≡ value-at (section-at s i) r f → (l m : Bytes) (w : Written) → Wrote (kind-refusal v) (own-of s v) l m w
+  pub value-gave : (v : Value) → v ≡ value-at (section-at s i) r f → (l m : Bytes) (w : Handed) → Gave s v l m w
       → (w ≡ textOut s i r f (length l)) × (m ≡ text-after s i r f l)
   unfolding value-at value-in
-  value-wrote v e l m w x = wrote-by (there-of s i r f found) (column-at t (f - 1) .text) refl _ l m w (rw e at x)
+  value-gave v e l m w x = gave-by (there-of s i r f found) (column-at t (f - 1) .text) refl _ l m w (rw e at x)
 
 -- a value that is not there
 pub text-refused : (s : Bytes) (i r f : ℕ) (x : Refusal) → (x .number ≡ 0 → ⊥) → x ≡ value-refusal s i r f → (l : Bytes)
-    → (W.Refused x ≡ textOut s i r f (length l)) × (l ≡ text-after s i r f l)
+    → (Ha.Refused x ≡ textOut s i r f (length l)) × (l ≡ text-after s i r f l)
 unfolding textOut text-after text-refusal earlier
 text-refused s i r f x n e l =
     let y : eqb (value-refusal s i r f .number) 0 ≡ false = rw e at (ne-eqb (x .number) 0 n) in
-    let z = refused (value-refusal s i r f) (own-text s i r f) l (rw e at n) in
-    (rw (y, e) (z .answer), rw y (z .left))
+    let z = refused-text (text-owner s i r f) (value-refusal s i r f) (own-text s i r f) l (rw e at n) in
+    (rw (y, e) (z .0), rw y (z .1))

@@ -1,4 +1,4 @@
-// What a call hands out into lent room: a text's own bytes, and all values of one table as numbers.
+// What a call hands out into lent room: a text's own bytes, and whose it is.
 mod texts;
 
 pub use texts::text;

@@ -17,6 +17,9 @@ use Rattle.page.specs.declared.Got.{Got}
 use Rattle.page.specs.declared.Got.the-variants as G
 use Rattle.page.specs.declared.Written.{Written}
 use Rattle.page.specs.declared.Written.the-variants as W
+use Rattle.page.specs.declared.Copied.{Copied}
+use Rattle.page.specs.declared.Handed.{Handed}
+use Rattle.page.specs.declared.Handed.the-variants as Ha
 
 -- number, section and line; "1, 21 to 24 and a fill's 11, 4 and 13 have 0 and 0"
 abbrev pub refusal : ℕ → ℕ → ℕ → Refusal
@@ -69,3 +72,10 @@ written r n = pick (eqb (r .number) 0) (W.Length n) (W.Refused r)
 unfoldable pub paper-written : Written → Refusal
 paper-written (W.Length n) = sound
 paper-written (W.Refused r) = r
+
+unfoldable pub handed : Refusal → Copied → Handed
+handed r x = pick (eqb (r .number) 0) (Ha.Is x) (Ha.Refused r)
+
+unfoldable pub paper-handed : Handed → Refusal
+paper-handed (Ha.Is x) = sound
+paper-handed (Ha.Refused r) = r

@@ -1,4 +1,4 @@
--- What a call hands out into lent room: a text's own bytes, and all values of one table as numbers.
+-- What a call hands out into lent room: a text's own bytes with its owner, and all values of one table as numbers.
 use mathlib.Core.Bool.{not}
 use mathlib.Core.List.{List, [], _∷_, _++_}
 use Prim.Native.Nat.{ℕ, zero, suc, _+_, _-_}
@@ -12,15 +12,17 @@ use Rattle.page.specs.Cut.{Section}
 use Rattle.page.specs.Section.{record-text}
 use Rattle.page.specs.Records.{own-bytes, waits, table-of}
 use Rattle.page.specs.Places.{Standing, stands}
-use Rattle.page.specs.Answers.{earlier, refuse-if, written}
-use Rattle.page.specs.Reading.{section-at, row-at, find-refusal, verdict-of, value-refusal, record-of, value-in}
-use Rattle.page.specs.Writing.{putOf, put-after}
+use Rattle.page.specs.Answers.{earlier, refuse-if, written, handed}
+use Rattle.page.specs.Reading.{section-at, row-at, find-refusal, verdict-of, value-refusal, words-in, record-of, value-in}
+use Rattle.page.specs.Writing.{put-refusal, put-after}
 use Rattle.page.specs.declared.Owner.the-variants as O
 use Rattle.page.specs.declared.Owner.{Owner}
 use Rattle.page.specs.declared.Value.{Value}
 use Rattle.page.specs.declared.Value.the-variants as Va
 use Rattle.page.specs.declared.Refusal.{Refusal}
 use Rattle.page.specs.declared.Written.{Written}
+use Rattle.page.specs.declared.Copied.{Copied}
+use Rattle.page.specs.declared.Handed.{Handed}
 
 -- a text's own bytes, doubled quotes undone: refused as reading its value is, then 11 if it is a number, then 21
 unfoldable pub text-refusal : Bytes → ℕ → ℕ → ℕ → Refusal
@@ -30,8 +32,16 @@ text-refusal s i r f =
 unfoldable pub own-text : Bytes → ℕ → ℕ → ℕ → Bytes
 own-text s i r f = own-bytes (record-text (getD (fields (record-of (section-at s i) r .rest)) (f - 1) []))
 
-unfoldable pub textOut : Bytes → ℕ → ℕ → ℕ → ℕ → Written
-textOut s i r f room = putOf (text-refusal s i r f) (own-text s i r f) room
+-- "Each text handed out says whose it is": its owner is the one that its value has
+unfoldable pub text-owner : Bytes → ℕ → ℕ → ℕ → Owner
+text-owner s i r f = words-in (record-of (section-at s i) r) f .owner
+
+abbrev pub copied : Bytes → Owner → Copied
+copied t o = record { length = length t; owner = o }
+
+unfoldable pub textOut : Bytes → ℕ → ℕ → ℕ → ℕ → Handed
+textOut s i r f room =
+    handed (put-refusal (text-refusal s i r f) (own-text s i r f) room) (copied (own-text s i r f) (text-owner s i r f))
 
 unfoldable pub text-after : Bytes → ℕ → ℕ → ℕ → Bytes → Bytes
 text-after s i r f out = put-after (text-refusal s i r f) (own-text s i r f) out

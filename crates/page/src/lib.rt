@@ -184,3 +184,15 @@ pub enum Written {
     Length(usize),
     Refused(Refusal),
 }
+
+// A text's own bytes in lent output: how many they are, and whose the text is.
+pub struct Copied {
+    pub length: usize,
+    pub owner: Owner,
+}
+
+// The answer of a call that hands out one text.
+pub enum Handed {
+    Is(Copied),
+    Refused(Refusal),
+}

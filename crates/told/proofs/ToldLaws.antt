@@ -5,7 +5,8 @@ use mathlib.Core.Bool.{Bool, true, false}
 use Prim.Native.Nat.{ℕ}
 use lib.Dec.{eqb}
 use Rattle.page.specs.Bytes.{pick}
-use Rattle.page.specs.Answers.{refusal, headed, listed, got, written}
+use Rattle.page.specs.Answers.{refusal, headed, listed, got, written, handed}
+use Rattle.page.specs.Handing.{owner-cell}
 use Rattle.page.specs.declared.Refusal.{Refusal}
 use Rattle.page.specs.declared.Stated.{Stated}
 use Rattle.page.specs.declared.Stated.the-variants as S
@@ -23,11 +24,15 @@ use Rattle.page.specs.declared.Got.{Got}
 use Rattle.page.specs.declared.Got.the-variants as G
 use Rattle.page.specs.declared.Written.{Written}
 use Rattle.page.specs.declared.Written.the-variants as W
-use Rattle.told.specs.Told.{told-header, told-headed, told-listed, told-value, told-got, told-written, stated-flag, stated-from, stated-to}
+use Rattle.page.specs.declared.Copied.{Copied}
+use Rattle.page.specs.declared.Handed.{Handed}
+use Rattle.page.specs.declared.Handed.the-variants as Ha
+use Rattle.told.specs.Told.{told-header, told-headed, told-listed, told-value, told-got, told-written, told-handed, stated-flag, stated-from, stated-to}
 use Rattle.told.specs.declared.answers.HeaderAnswer.{HeaderAnswer}
 use Rattle.told.specs.declared.answers.RowAnswer.{RowAnswer}
 use Rattle.told.specs.declared.answers.ValueAnswer.{ValueAnswer}
 use Rattle.told.specs.declared.answers.LengthAnswer.{LengthAnswer}
+use Rattle.told.specs.declared.answers.TextAnswer.{TextAnswer}
 
 -- a section's row, read again
 abbrev pub row-again : RowAnswer → Listed
@@ -59,6 +64,30 @@ length-read r n = length-by (eqb (r .number) 0) r n refl
 pub length-same : (r r′ : Refusal) (x x′ : ℕ) → told-written (written r x) ≡ told-written (written r′ x′) → written r x ≡ written r′ x′
 length-same r r′ x x′ e = sym (length-read r x) ∙ (ap length-again e ∙ length-read r′ x′)
 
+-- how much was written of a text, and whose it is
+abbrev owner-by : ℕ → Owner
+owner-by k = pick (eqb k 1) O.Operator O.Suggestion
+
+owner-back : (o : Owner) → owner-by (owner-cell o) ≡ o
+owner-back O.Operator = refl
+owner-back O.Suggestion = refl
+
+abbrev pub text-again : TextAnswer → Handed
+text-again x =
+    pick (eqb (x .number) 0) (Ha.Is (record { length = x .length; owner = owner-by (x .owner) }))
+    (Ha.Refused (refusal (x .number) (x .section) (x .line)))
+
+handed-by : (b : Bool) (r : Refusal) (x : Copied) → eqb (r .number) 0 ≡ b → text-again (told-handed (pick b (Ha.Is x) (Ha.Refused r))) ≡ pick b (Ha.Is x) (Ha.Refused r)
+handed-by true r x e = ap (λ (o : Owner). Ha.Is (record { length = x .length; owner = o })) (owner-back (x .owner))
+handed-by false r x e = rw e refl
+
+pub text-read : (r : Refusal) (x : Copied) → text-again (told-handed (handed r x)) ≡ handed r x
+unfolding handed
+text-read r x = handed-by (eqb (r .number) 0) r x refl
+
+pub text-same : (r r′ : Refusal) (x x′ : Copied) → told-handed (handed r x) ≡ told-handed (handed r′ x′) → handed r x ≡ handed r′ x′
+text-same r r′ x x′ e = sym (text-read r x) ∙ (ap text-again e ∙ text-read r′ x′)
+
 -- a value: its kind tells a number from a text, and whose the text is
 abbrev text-by : ℕ → ℕ → Owner → Value
 text-by from to owner = Va.Words (record { from = from; to = to; owner = owner })
@@ -66,7 +95,7 @@ text-by from to owner = Va.Words (record { from = from; to = to; owner = owner }
 abbrev pub value-by : ValueAnswer → Value
 value-by x =
     pick (eqb (x .kind) 0) (Va.Number (x .amount))
-    (text-by (x .from) (x .to) (pick (eqb (x .kind) 1) O.Operator O.Suggestion))
+    (text-by (x .from) (x .to) (owner-by (x .kind)))
 
 words-back : (from to : ℕ) (o : Owner) → value-by (told-value (text-by from to o)) ≡ text-by from to o
 words-back from to O.Operator = refl

@@ -18,10 +18,13 @@ use Rattle.page.specs.declared.Got.{Got}
 use Rattle.page.specs.declared.Got.the-variants as G
 use Rattle.page.specs.declared.Written.{Written}
 use Rattle.page.specs.declared.Written.the-variants as W
+use Rattle.page.specs.declared.Handed.{Handed}
+use Rattle.page.specs.declared.Handed.the-variants as Ha
 use Rattle.told.specs.declared.answers.HeaderAnswer.{HeaderAnswer}
 use Rattle.told.specs.declared.answers.RowAnswer.{RowAnswer}
 use Rattle.told.specs.declared.answers.ValueAnswer.{ValueAnswer}
 use Rattle.told.specs.declared.answers.LengthAnswer.{LengthAnswer}
+use Rattle.told.specs.declared.answers.TextAnswer.{TextAnswer}
 
 abbrev pub no-row : Row
 no-row = record { table = 0; place = 0; length = 0; records = 0; verdict = 0; line = 0 }
@@ -117,3 +120,8 @@ told-got (G.Refused r) =
 abbrev pub told-written : Written → LengthAnswer
 told-written (W.Length n) = record { number = 0; section = 0; line = 0; length = n }
 told-written (W.Refused r) = record { number = r .number; section = r .section; line = r .line; length = 0 }
+
+-- a text: how much was written, and whose it is: 1 the operator's, 2 a suggestion
+abbrev pub told-handed : Handed → TextAnswer
+told-handed (Ha.Is x) = record { number = 0; section = 0; line = 0; length = x .length; owner = owner-cell (x .owner) }
+told-handed (Ha.Refused r) = record { number = r .number; section = r .section; line = r .line; length = 0; owner = 0 }

@@ -1,8 +1,9 @@
 // What C is handed, where a call's answer is an enum: the paper's number first, 0 for a call that was not refused.
 ghost use mathlib.Core.Path.{_≡_};
-ghost use Rattle.told.specs.Told.{told-headed, told-listed, told-got, told-written, told-header, no-header, told-value, no-row, stated-flag, stated-from, stated-to};
+ghost use Rattle.told.specs.Told.{told-headed, told-listed, told-got, told-written, told-handed, told-header, no-header, told-value, no-row, stated-flag, stated-from, stated-to};
 ghost use Rattle.page.specs.Handing.{owner-cell};
 use page::Got;
+use page::Handed;
 use page::Headed;
 use page::Header;
 use page::Listed;
@@ -70,6 +71,16 @@ pub struct LengthAnswer {
     pub length: usize,
 }
 
+// How much was written of a text, and whose it is: 1 the operator's, 2 a suggestion; or a refusal.
+#[repr(C)]
+pub struct TextAnswer {
+    pub number: u32,
+    pub section: usize,
+    pub line: usize,
+    pub length: usize,
+    pub owner: u32,
+}
+
 fn no_row() -> Row
     ensures { λ r. ⌜ r ≡ no-row ⌝ }
 {
@@ -127,6 +138,30 @@ fn owner_kind(x: Owner) -> u32
     match x {
         Owner::Operator => 1,
         Owner::Suggestion => 2,
+    }
+}
+
+pub fn tell_text(x: Handed) -> TextAnswer
+    ensures { λ r. ⌜ r ≡ told-handed x ⌝ }
+{
+    match x {
+        Handed::Is(t) => {
+            let owner = t.owner;
+            TextAnswer {
+                number: 0,
+                section: 0,
+                line: 0,
+                length: t.length,
+                owner: owner_kind(owner),
+            }
+        }
+        Handed::Refused(r) => TextAnswer {
+            number: r.number,
+            section: r.section,
+            line: r.line,
+            length: 0,
+            owner: 0,
+        },
     }
 }
 

@@ -6,11 +6,13 @@ ghost use Rattle.page.specs.File.{file-refusal};
 ghost use Rattle.page.specs.Handing.{textOut, text-after, tableOf, cells-after};
 ghost use Rattle.page.specs.Reading.{list-refusal, rows-after};
 ghost use Rattle.page.specs.Writing.{writeOf, write-after, stripOf, strip-after, fillOf, fill-after};
-ghost use Rattle.told.specs.Told.{told-written};
+ghost use Rattle.told.specs.Told.{told-written, told-handed};
 use page::Refusal;
 use page::Row;
 use told::LengthAnswer;
+use told::TextAnswer;
 use told::tell_length;
+use told::tell_text;
 
 // "Listing is refused by 1, 2 and 21 only and then writes no row; other verdicts go into the rows and the file's answer."
 #[no_mangle]
@@ -22,7 +24,7 @@ pub extern "C" fn vdv_list(file: &[u8], rows: &mut [Row]) -> Refusal
     rows::list(file, rows)
 }
 
-// A text's own bytes, doubled quotes undone.
+// A text's own bytes, doubled quotes undone, and whose it is.
 #[no_mangle]
 pub extern "C" fn vdv_text(
     file: &[u8],
@@ -30,12 +32,12 @@ pub extern "C" fn vdv_text(
     record: usize,
     field: usize,
     out: &mut [u8],
-) -> LengthAnswer
+) -> TextAnswer
     ensures { λ r.
-        ⌜ (r ≡ told-written (textOut (now (file .entry)) section «record» field (length (now (out .entry)))))
+        ⌜ (r ≡ told-handed (textOut (now (file .entry)) section «record» field (length (now (out .entry)))))
         × (now (out .exit) ≡ text-after (now (file .entry)) section «record» field (now (out .entry))) ⌝ }
 {
-    tell_length(handing::text(file, section, record, field, out))
+    tell_text(handing::text(file, section, record, field, out))
 }
 
 // All values of a sound table, three numbers each: 0, the number, 0; or 1 for the operator's text and 2 for a suggestion, and its span.

@@ -1,11 +1,4 @@
-use Rattle.output.proofs.WriteLaws.{refused}
-use Rattle.page.specs.Answers.{refusal}
-use mathlib.Core.List.{[]}
-use mathlib.Core.Path.{_≡_}
-use Prim.Native.Nat.{ℕ}
-use Prim.Native.Nat.{ℕ, _-_}
-use mathlib.Core.Path.{_≡_}
-use native.Mathlib.Omega.{arith}
+use mathlib.Core.Path.{refl}
 use borrow.Author.Needs.{needs}
 use Rattle.handing.proofs.texts.hand_value.Statement.{statement}
 use Rattle.handing.proofs.texts.hand_value.Tie as tie
@@ -20,7 +13,7 @@ hand-words-requires : tie.Need-hand-words-requires
 hand-words-requires c κs = rw (c .before .before .v .given .1) at (c .before .before .before .before .before .before .pre)
 
 returns : tie.Need-returns
-returns c = rw (c .enum-told .given .1) (refused (refusal 11 0 0) [] (c .before .before .before .before .args .out .now) (λ (e : _≡_ {A = ℕ} 11 0). omega arith))
+returns c = rw (c .enum-told .given .1) (record { answer = refl; left = refl })
 
 same-length : tie.Need-same-length
 same-length c = search needs

@@ -1,4 +1,4 @@
-use Rattle.handing.proofs.TextLaws.{got-is, got-refused, value-spans, value-wrote, text-refused}
+use Rattle.handing.proofs.TextLaws.{got-is, got-refused, value-spans, value-gave, text-refused}
 use Rattle.page.specs.Reading.{section-at, value-refusal, value-at, valueOf}
 use mathlib.Core.Path.{sym, _∙_}
 use Prim.Native.Nat.{_-_}
@@ -33,7 +33,7 @@ returns c =
     let a = c .before .before .before .before .before .before .before .before .before .before .args in
     let s = a .file .now in
     let g = got-is (value-refusal s (a .i) (a .r) (a .f)) (value-at (section-at s (a .i)) (a .r) (a .f)) _ (sym (c .before .before .before .before .before .v .given .1) ∙ c .before .before .before .before .before .before .before .value .ensures) in
-    value-wrote s (a .i) (a .r) (a .f) (g .0) _ (g .1) _ _ _ (c .before .before .hand-value .ensures)
+    value-gave s (a .i) (a .r) (a .f) (g .0) _ (g .1) _ _ _ (c .before .before .hand-value .ensures)
 
 returns-2 : tie.Need-returns-2
 unfolding valueOf
