@@ -1,6 +1,7 @@
 -- Each number of the calls other than `check`, exactly: its condition holds, and none that is asked before it. Assumes nothing.
 use mathlib.Core.Path.{_≡_, refl, ap, sym, _∙_}
 use mathlib.Core.Bool.{Bool, true, false, not, _||_}
+use mathlib.Core.List.{List}
 use mathlib.Core.Logic.{_⊎_, inl, inr, _↔_}
 use Prim.Native.Nat.{ℕ, suc, _-_, _<_, _≤_}
 use native.Mathlib.Omega.{arith}
@@ -15,12 +16,11 @@ use Rattle.page.specs.Head.{latinOf}
 use Rattle.page.specs.Section.{outcome, refused}
 use Rattle.page.specs.Records.{number, table-of}
 use Rattle.page.specs.Answers.{refusal, sound, earlier, refuse-if}
-use Rattle.page.specs.File.{limit, too-long, found, row-of, rowOf, header-refusal, section-refusal, file-refusal}
+use Rattle.page.specs.File.{limit, too-long, found, any, row-of, rowOf, header-refusal, file-refusal}
 use Rattle.page.specs.Reading.{outside, section-at, row-at, find-refusal, sectionOf, list-refusal, listOf, verdict-of, value-refusal, value-at, valueOf}
 use Rattle.page.specs.Handing.{text-refusal, own-text, text-owner, copied, textOut, cellsOf, table-refusal, cells-refusal, tableOf}
 use Rattle.page.specs.Writing.{put-refusal}
-use Rattle.page.specs.Trailer.{trailerOf}
-use Rattle.page.specs.Refusals.{Refused}
+use Rattle.page.specs.Refusals.{Refused, section-numbers, header-numbers, file-numbers, gives, OneOf, SoundOr}
 use Rattle.page.specs.declared.Refusal.{Refusal}
 use Rattle.page.specs.declared.Finding.{Finding}
 use Rattle.page.specs.declared.Checked.the-variants as C
@@ -35,43 +35,26 @@ use Rattle.laws.proofs.Tests.{is-d}
 use Rattle.verdicts.proofs.Headers.{header-refused-exactly, header-settled}
 use Rattle.grammar.proofs.Refuses.{refuses-exactly, refused-ranged, section-settled}
 use Rattle.verdicts.proofs.Numbers.{exactly-section}
-use Rattle.calls.proofs.PromisesListing.{header-told, file-ranged}
+use Rattle.calls.proofs.PromisesListing.{header-told, file-told}
 use Rattle.calls.proofs.CallAnswers.{some-number, written-exactly, handed-exactly, got-exactly, listed-exactly, checked-exactly}
 use Rattle.calls.proofs.Turns.{earlier-exactly, turned, via, second, outside-d, within-not, not-within}
 use Rattle.laws.proofs.Earlier.{earlier-none}
+use Rattle.laws.proofs.Numbers.{other-number, apart}
 
 -- what the header and the file never answer
 
-pub header-small : (s : Bytes) → header-refusal s .number ≤ 2
-header-small s = by (header-told s)
-  where
-    by : (header-refusal s .number ≡ 0) ⊎ ((header-refusal s .number ≡ 1) ⊎ (header-refusal s .number ≡ 2)) → header-refusal s .number ≤ 2
-    by (inl h) = omega arith
-    by (inr (inl h)) = omega arith
-    by (inr (inr h)) = omega arith
+-- an answer that is 0 or one of a list is no other number
+pub told-other : (ns : List ℕ) {a x : Refusal} → SoundOr ns (a .number) → ¬ (x .number ≡ 0) → gives ns (x .number) ≡ false → ¬ (a ≡ x)
+told-other ns {a} {x} (inl h) z l e = z (ap (λ (q : Refusal). q .number) (sym e) ∙ h)
+told-other ns {a} {x} (inr g) z l e = other-number ns (a .number) (x .number) g l (ap (λ (q : Refusal). q .number) e)
 
-header-other : (s : Bytes) (x : Refusal) → 2 < x .number → ¬ (header-refusal s ≡ x)
-header-other s x l e = let z : header-refusal s .number ≡ x .number = ap (λ (q : Refusal). q .number) e in omega (arith, header-small s)
-
--- the file's own 4, 11 and 13 have a section's place, and 21 to 24 are never its
-pub file-other : (s : Bytes) (v : ℕ) → ((4 ≤ v) × (v ≤ 16)) ⊎ (20 < v) → ¬ (file-refusal s ≡ refusal v 0 0)
-unfolding file-refusal
-file-other s v (inl w) e = placed (exactly-section s v 0 0 (w .0) (w .1) .0 e .1 .4)
+-- a section's number, as the file's, has a section's place; and the file gives no number but its own
+pub file-other : (s : Bytes) (v : ℕ) → OneOf section-numbers v ⊎ (gives file-numbers v ≡ false) → ¬ (v ≡ 0) → ¬ (file-refusal s ≡ refusal v 0 0)
+file-other s v (inl g) z e = placed (exactly-section s v 0 0 g .0 e .1 .4)
   where
     placed : {n : ℕ} → 0 ≡ suc n → ⊥
     placed e = omega arith
-file-other s v (inr w) e = by (earlier-exactly (header-refusal s) _ (refusal v 0 0) (λ (z : v ≡ 0). omega arith) .0 (file-is ∙ e))
-  where
-    file-is : earlier (header-refusal s) (earlier (found (trailerOf s)) (section-refusal s)) ≡ file-refusal s
-    file-is = refl
-
-    by : (header-refusal s ≡ refusal v 0 0) ⊎ ((header-refusal s .number ≡ 0) × (earlier (found (trailerOf s)) (section-refusal s) ≡ refusal v 0 0)) → ⊥
-    by (inl h) = header-other s (refusal v 0 0) (omega arith) h
-    by (inr h) = ranged (file-ranged s (h .0))
-      where
-        ranged : (file-refusal s .number ≡ 0) ⊎ ((3 ≤ file-refusal s .number) × (file-refusal s .number ≤ 20)) → ⊥
-        ranged (inl z) = let k : file-refusal s .number ≡ v = ap (λ (q : Refusal). q .number) e in omega arith
-        ranged (inr z) = let k : file-refusal s .number ≡ v = ap (λ (q : Refusal). q .number) e in omega (arith, z)
+file-other s v (inr l) z e = told-other file-numbers (file-told s) z l e
 
 -- 1 and 2, of the header
 
@@ -113,14 +96,11 @@ abbrev pub Open : Bytes → Type 0
 Open s = header-refusal s .number ≡ 0
 
 -- what follows the header's answer
-pub after-header : (s : Bytes) (b : Refusal) (x : Refusal) → 2 < x .number → earlier (header-refusal s) b ≡ x ↔ (Open s × (b ≡ x))
-after-header s b x l = (λ e. into (earlier-exactly (header-refusal s) b x z .0 e), λ h. earlier-exactly (header-refusal s) b x z .1 (inr h))
+pub after-header : (s : Bytes) (b : Refusal) (x : Refusal) → ¬ (x .number ≡ 0) → gives header-numbers (x .number) ≡ false → earlier (header-refusal s) b ≡ x ↔ (Open s × (b ≡ x))
+after-header s b x z l = (λ e. into (earlier-exactly (header-refusal s) b x z .0 e), λ h. earlier-exactly (header-refusal s) b x z .1 (inr h))
   where
-    z : ¬ (x .number ≡ 0)
-    z e = omega arith
-
     into : (header-refusal s ≡ x) ⊎ (Open s × (b ≡ x)) → Open s × (b ≡ x)
-    into (inl e) = absurd (header-other s x l e)
+    into (inl e) = absurd (told-other header-numbers (header-told s) z l e)
     into (inr h) = h
 
 -- one question alone
@@ -130,9 +110,9 @@ if-exactly v z (holds a) = (λ e. a, λ x. refl)
 if-exactly v z (fails n) = (λ e. absurd (z (sym (ap (λ (q : Refusal). q .number) e))), λ x. absurd (n x))
 
 find-24 : (s : Bytes) (i : ℕ) → find-refusal s i ≡ refusal 24 0 0 ↔ (Open s × Outside i (length (sections s)))
-unfolding find-refusal
+unfolding find-refusal any
 find-24 s i =
-    via (after-header s (refuse-if (outside i (length (sections s))) 24) (refusal 24 0 0) (omega arith))
+    via (after-header s (refuse-if (outside i (length (sections s))) 24) (refusal 24 0 0) (some-number 24 (omega arith)) refl)
     (second (if-exactly 24 (some-number 24 (omega arith)) (outside-d i (length (sections s)))))
 
 -- `section`: 24, "no such section"
@@ -142,15 +122,15 @@ section-24 s i = via (listed-exactly (find-refusal s i) (refusal 24 0 0) (some-n
 
 -- `list`: 21, "Too few rows"
 pub list-21 : (s : Bytes) (room : ℕ) → listOf s room ≡ C.Refused (refusal 21 0 0) ↔ (Open s × (room < length (sections s)))
-unfolding listOf list-refusal
+unfolding listOf list-refusal any
 list-21 s room =
     via (checked-exactly (earlier (list-refusal s room) (file-refusal s)) (refusal 21 0 0) (some-number 21 (omega arith)))
     (via (λ e. into (earlier-exactly (list-refusal s room) (file-refusal s) (refusal 21 0 0) (some-number 21 (omega arith)) .0 e), λ e. earlier-exactly (list-refusal s room) (file-refusal s) (refusal 21 0 0) (some-number 21 (omega arith)) .1 (inl e))
-    (via (after-header s (refuse-if (ltb room (length (sections s))) 21) (refusal 21 0 0) (omega arith)) (second (if-exactly 21 (some-number 21 (omega arith)) (below room (length (sections s)))))))
+    (via (after-header s (refuse-if (ltb room (length (sections s))) 21) (refusal 21 0 0) (some-number 21 (omega arith)) refl) (second (if-exactly 21 (some-number 21 (omega arith)) (below room (length (sections s)))))))
   where
     into : (list-refusal s room ≡ refusal 21 0 0) ⊎ ((list-refusal s room .number ≡ 0) × (file-refusal s ≡ refusal 21 0 0)) → list-refusal s room ≡ refusal 21 0 0
     into (inl e) = e
-    into (inr e) = absurd (file-other s 21 (inr (omega arith)) (e .1))
+    into (inr e) = absurd (file-other s 21 (inr refl) (some-number 21 (omega arith)) (e .1))
 
 -- a call that nothing refuses
 
@@ -203,21 +183,22 @@ verdict-exactly s i v j n z = (into (section-settled (latinOf s) (section-at s i
 abbrev pub SectionRefused : Bytes → ℕ → ℕ → ℕ → ℕ → Type 0
 SectionRefused s i v j n = (Open s × Within i (length (sections s))) × ((j ≡ i) × ((k : ℕ) × Refused (latinOf s) (section-at s i .lines) k v n))
 
-find-else : (s : Bytes) (i : ℕ) (x : Refusal) → 2 < x .number → ¬ (x .number ≡ 24) → ¬ (find-refusal s i ≡ x)
+find-else : (s : Bytes) (i : ℕ) (x : Refusal) → ¬ (x .number ≡ 0) → gives header-numbers (x .number) ≡ false → ¬ (x .number ≡ 24) → ¬ (find-refusal s i ≡ x)
 unfolding find-refusal refuse-if
-find-else s i x l other e = by (outside i (length (sections s))) (after-header s (refuse-if (outside i (length (sections s))) 24) x l .0 e .1)
+find-else s i x z l other e = by (outside i (length (sections s))) (after-header s (refuse-if (outside i (length (sections s))) 24) x z l .0 e .1)
   where
     by : (b : Bool) → refuse-if b 24 ≡ x → ⊥
     by true e = other (sym (ap (λ (q : Refusal). q .number) e))
-    by false e = let k : 0 ≡ x .number = ap (λ (q : Refusal). q .number) e in omega arith
+    by false e = z (sym (ap (λ (q : Refusal). q .number) e))
 
--- a further answer after the section's verdict, which is not one of 4 to 16
-after-verdict : (s : Bytes) (i : ℕ) (b : Refusal) (v j n : ℕ) → 4 ≤ v → v ≤ 16 → ((x : Refusal) → b ≡ x → ¬ (x .number ≡ v)) →
+-- a further answer after the section's verdict, which is not v
+after-verdict : (s : Bytes) (i : ℕ) (b : Refusal) (v j n : ℕ) → OneOf section-numbers v → ((x : Refusal) → b ≡ x → ¬ (x .number ≡ v)) →
     earlier (find-refusal s i) (earlier (verdict-of i (row-at s i)) b) ≡ refusal v j n ↔ SectionRefused s i v j n
-after-verdict s i b v j n lo hi other = (into, back)
+unfolding any
+after-verdict s i b v j n g other = (into, back)
   where
     z : ¬ (v ≡ 0)
-    z e = omega arith
+    z = other-number section-numbers v 0 g refl
 
     into : earlier (find-refusal s i) (earlier (verdict-of i (row-at s i)) b) ≡ refusal v j n → SectionRefused s i v j n
     into e = first (earlier-exactly (find-refusal s i) (earlier (verdict-of i (row-at s i)) b) (refusal v j n) z .0 e)
@@ -227,7 +208,7 @@ after-verdict s i b v j n lo hi other = (into, back)
         then (inr h) = absurd (other (refusal v j n) (h .1) refl)
 
         first : (find-refusal s i ≡ refusal v j n) ⊎ ((find-refusal s i .number ≡ 0) × (earlier (verdict-of i (row-at s i)) b ≡ refusal v j n)) → SectionRefused s i v j n
-        first (inl h) = absurd (find-else s i (refusal v j n) (omega arith) (λ (e : v ≡ 24). omega arith) h)
+        first (inl h) = absurd (find-else s i (refusal v j n) z (apart section-numbers header-numbers v refl g) (other-number section-numbers v 24 g refl) h)
         first (inr h) = (find-open s i .0 (h .0), then (earlier-exactly (verdict-of i (row-at s i)) b (refusal v j n) z .0 (h .1)))
 
     back : SectionRefused s i v j n → earlier (find-refusal s i) (earlier (verdict-of i (row-at s i)) b) ≡ refusal v j n
@@ -287,7 +268,7 @@ abbrev pub Nowhere : Bytes → ℕ → ℕ → ℕ → Type 0
 Nowhere s i r f = (Open s × Outside i (length (sections s))) ⊎ ((Open s × Within i (length (sections s))) × ((row-at s i .verdict ≡ 0) × NoValue s i r f))
 
 pub value-refused-24 : (s : Bytes) (i r f : ℕ) → value-refusal s i r f ≡ refusal 24 0 0 ↔ Nowhere s i r f
-unfolding value-refusal
+unfolding value-refusal any
 value-refused-24 s i r f = (λ e. first (earlier-exactly (find-refusal s i) _ (refusal 24 0 0) z .0 e), back)
   where
     z : ¬ (refusal 24 0 0 .number ≡ 0)
@@ -296,8 +277,7 @@ value-refused-24 s i r f = (λ e. first (earlier-exactly (find-refusal s i) _ (r
     verdict-other : ¬ (verdict-of i (row-at s i) ≡ refusal 24 0 0)
     verdict-other e =
         let h = verdict-exactly s i 24 0 0 z .0 e in
-        let w = refused-ranged (latinOf s) (section-at s i .lines) (h .1 .0) 24 0 (h .1 .1) in
-        omega (arith, w)
+        other-number section-numbers 24 24 (refused-ranged (latinOf s) (section-at s i .lines) (h .1 .0) 24 0 (h .1 .1)) refl refl
 
     then : (verdict-of i (row-at s i) ≡ refusal 24 0 0)
         ⊎ ((verdict-of i (row-at s i) .number ≡ 0) × (refuse-if (outside r (row-at s i .records) || outside f (width (table-of (section-at s i .lines)))) 24 ≡ refusal 24 0 0)) →
@@ -332,13 +312,14 @@ unfolding refuse-if
 if-number true u v z w x e h = w (ap (λ (q : Refusal). q .number) e ∙ h)
 if-number false u v z w x e h = z (sym (ap (λ (q : Refusal). q .number) e ∙ h))
 
--- 4 to 16: the section's own verdict, with its place
-pub value-verdict : (s : Bytes) (i r f v j n : ℕ) → 4 ≤ v → v ≤ 16 → valueOf s i r f ≡ G.Refused (refusal v j n) ↔ SectionRefused s i v j n
-unfolding valueOf value-refusal
-value-verdict s i r f v j n lo hi =
-    via (got-exactly (value-refusal s i r f) (refusal v j n) (λ (e : v ≡ 0). omega arith) (value-at (section-at s i) r f))
-    (after-verdict s i (refuse-if (outside r (row-at s i .records) || outside f (width (table-of (section-at s i .lines)))) 24) v j n lo hi
-    (if-number (outside r (row-at s i .records) || outside f (width (table-of (section-at s i .lines)))) 24 v (λ (e : v ≡ 0). omega arith) (λ (e : 24 ≡ v). omega arith)))
+-- a section's numbers: its own verdict, with its place
+pub value-verdict : (s : Bytes) (i r f v j n : ℕ) → OneOf section-numbers v → valueOf s i r f ≡ G.Refused (refusal v j n) ↔ SectionRefused s i v j n
+unfolding valueOf value-refusal any
+value-verdict s i r f v j n g =
+    let z : ¬ (v ≡ 0) = other-number section-numbers v 0 g refl in
+    via (got-exactly (value-refusal s i r f) (refusal v j n) z (value-at (section-at s i) r f))
+    (after-verdict s i (refuse-if (outside r (row-at s i .records) || outside f (width (table-of (section-at s i .lines)))) 24) v j n g
+    (if-number (outside r (row-at s i .records) || outside f (width (table-of (section-at s i .lines)))) 24 v z (λ e. other-number section-numbers v 24 g refl (sym e))))
 
 -- `text`: 11, "not a text", after all that refuses a value; any other refusal but 21 is the value's
 
@@ -347,9 +328,9 @@ abbrev pub IsText : Bytes → ℕ → ℕ → Type 0
 IsText s i f = column-at (table-of (section-at s i .lines)) (f - 1) .text ≡ true
 
 value-other : (s : Bytes) (i r f : ℕ) → ¬ (value-refusal s i r f ≡ refusal 11 0 0)
-unfolding value-refusal
+unfolding value-refusal any
 value-other s i r f e =
-    let h = after-verdict s i (refuse-if (outside r (row-at s i .records) || outside f (width (table-of (section-at s i .lines)))) 24) 11 0 0 (omega arith) (omega arith)
+    let h = after-verdict s i (refuse-if (outside r (row-at s i .records) || outside f (width (table-of (section-at s i .lines)))) 24) 11 0 0 refl
     (if-number (outside r (row-at s i .records) || outside f (width (table-of (section-at s i .lines)))) 24 11 (some-number 11 (omega arith)) (λ (e : 24 ≡ 11). omega arith)) .0 e in
     omega (arith, h .0 .1, h .1 .0)
 
@@ -417,7 +398,7 @@ table-first s i room x z full =
 
 -- 24: no such section
 pub table-24 : (s : Bytes) (i room : ℕ) → tableOf s i room ≡ W.Refused (refusal 24 0 0) ↔ (Open s × Outside i (length (sections s)))
-unfolding table-refusal
+unfolding table-refusal any
 table-24 s i room =
     via (table-first s i room (refusal 24 0 0) (some-number 24 (omega arith)) (λ e. let k : _≡_ {A = ℕ} 24 21 = ap (λ (q : Refusal). q .number) e in omega arith))
     (via (
@@ -429,21 +410,23 @@ table-24 s i room =
     into (inl e) = e
     into (inr e) =
         let h = verdict-exactly s i 24 0 0 (some-number 24 (omega arith)) .0 (e .1) in
-        let w = refused-ranged (latinOf s) (section-at s i .lines) (h .1 .0) 24 0 (h .1 .1) in
-        absurd (let z : ⊥ = omega (arith, w) in z)
+        absurd (other-number section-numbers 24 24 (refused-ranged (latinOf s) (section-at s i .lines) (h .1 .0) 24 0 (h .1 .1)) refl refl)
 
--- 4 to 16: the section's own verdict, with its place
-pub table-verdict : (s : Bytes) (i room v j n : ℕ) → 4 ≤ v → v ≤ 16 → tableOf s i room ≡ W.Refused (refusal v j n) ↔ SectionRefused s i v j n
-unfolding table-refusal refuse-if
-table-verdict s i room v j n lo hi =
-    via (table-first s i room (refusal v j n) (λ (e : v ≡ 0). omega arith) (λ e. let k : v ≡ 21 = ap (λ (q : Refusal). q .number) e in omega arith))
-    (via (λ e. into e, λ e. out e) (after-verdict s i sound v j n lo hi (λ x e h. let k : 0 ≡ x .number = ap (λ (q : Refusal). q .number) e in omega arith)))
+-- a section's numbers: its own verdict, with its place
+pub table-verdict : (s : Bytes) (i room v j n : ℕ) → OneOf section-numbers v → tableOf s i room ≡ W.Refused (refusal v j n) ↔ SectionRefused s i v j n
+unfolding table-refusal refuse-if any
+table-verdict s i room v j n g =
+    via (table-first s i room (refusal v j n) z full)
+    (via (λ e. into e, λ e. out e) (after-verdict s i sound v j n g (λ x e h. z (sym (ap (λ (q : Refusal). q .number) e ∙ h)))))
   where
     z : ¬ (v ≡ 0)
-    z e = omega arith
+    z = other-number section-numbers v 0 g refl
+
+    full : ¬ (refusal v j n ≡ refusal 21 0 0)
+    full e = other-number section-numbers v 21 g refl (ap (λ (q : Refusal). q .number) e)
 
     same : earlier (verdict-of i (row-at s i)) sound ≡ refusal v j n ↔ verdict-of i (row-at s i) ≡ refusal v j n
-    same = first-alone (verdict-of i (row-at s i)) false 21 (refusal v j n) z (λ e. let k : v ≡ 21 = ap (λ (q : Refusal). q .number) e in omega arith)
+    same = first-alone (verdict-of i (row-at s i)) false 21 (refusal v j n) z full
 
     into : earlier (find-refusal s i) (verdict-of i (row-at s i)) ≡ refusal v j n → earlier (find-refusal s i) (earlier (verdict-of i (row-at s i)) sound) ≡ refusal v j n
     into e = earlier-exactly (find-refusal s i) _ (refusal v j n) z .1 (by (earlier-exactly (find-refusal s i) (verdict-of i (row-at s i)) (refusal v j n) z .0 e))

@@ -1,9 +1,9 @@
--- The numbers that calls give before they look further: 1 and 2 are the header's for every call, and 3 to 20 the file's where a call answers for
--- the file. Assumes nothing.
+-- The numbers that calls give before they look further: 1 and 2 are the header's for every call, and the later ones the file's where a call
+-- answers for the file. Assumes nothing.
 use mathlib.Core.Path.{_≡_, refl, ap, sym, _∙_}
-use mathlib.Core.Bool.{Bool, true, false, _||_}
+use mathlib.Core.Bool.{Bool, true, false, _||_, false≢true}
 use mathlib.Core.Logic.{_⊎_, inl, inr, _↔_}
-use Prim.Native.Nat.{ℕ, zero, suc, _<_, _≤_}
+use Prim.Native.Nat.{ℕ, _<_, _≤_}
 use native.Mathlib.Omega.{arith}
 use lib.Dec.{ltb}
 use lib.ListN.{length}
@@ -14,12 +14,12 @@ use Rattle.page.specs.Cut.{sections, header-lines}
 use Rattle.page.specs.Head.{header-values, latinOf}
 use Rattle.page.specs.Records.{number, table-of}
 use Rattle.page.specs.Answers.{refusal, earlier, refuse-if}
-use Rattle.page.specs.File.{limit, found, header-refusal, section-refusal, file-refusal}
+use Rattle.page.specs.File.{limit, found, any, header-refusal, section-refusal, file-refusal}
 use Rattle.page.specs.Reading.{outside, section-at, row-at, headerOf, find-refusal, sectionOf, list-refusal, listOf, verdict-of, value-refusal, value-at, valueOf}
 use Rattle.page.specs.Handing.{textOut, table-refusal, tableOf}
 use Rattle.page.specs.Writing.{put-refusal, putOf, write-form, writeOf, strip-form, stripOf}
 use Rattle.page.specs.Trailer.{trailerOf}
-use Rattle.page.specs.Refusals.{Refused}
+use Rattle.page.specs.Refusals.{Refused, section-numbers, header-numbers, later-numbers, gives, OneOf, SoundOr}
 use Rattle.page.specs.declared.Refusal.{Refusal}
 use Rattle.page.specs.declared.Checked.the-variants as C
 use Rattle.page.specs.declared.Headed.the-variants as H
@@ -29,25 +29,30 @@ use Rattle.page.specs.declared.Written.the-variants as W
 use Rattle.page.specs.declared.Handed.the-variants as Ha
 use Rattle.laws.proofs.Decides.{below}
 use Rattle.grammar.proofs.Refuses.{refused-ranged}
-use Rattle.calls.proofs.PromisesListing.{file-ranged}
+use Rattle.calls.proofs.PromisesListing.{file-ranged, header-told}
 use Rattle.calls.proofs.CallAnswers.{some-number, written-exactly, got-exactly, listed-exactly, headed-exactly, checked-exactly}
 use Rattle.calls.proofs.Turns.{earlier-exactly, via}
-use Rattle.calls.proofs.CallNumbers.{verdict-exactly, after-header, none-exactly, if-none, if-number, first-alone, table-first, header-small, text-else}
+use Rattle.calls.proofs.CallNumbers.{told-other, verdict-exactly, after-header, none-exactly, if-none, if-number, first-alone, table-first, text-else}
+use Rattle.laws.proofs.Numbers.{other-number, apart}
 
 -- 1 and 2 are the header's for each of these calls
 
-module _ (s : Bytes) (x : Refusal) (some : 0 < x .number) (small : x .number ≤ 2) where
+module _ (s : Bytes) (x : Refusal) (early : OneOf header-numbers (x .number)) where
   -- what never gives 1 or 2
   abbrev Big : Refusal → Type 0
   Big b = ¬ (b ≡ x)
 
-  numbered : ¬ (x .number ≡ 0)
-  numbered e = omega arith
+  other : (w : ℕ) → gives header-numbers w ≡ false → ¬ (x .number ≡ w)
+  other w = other-number header-numbers (x .number) w early
 
-  big-if : (b : Bool) (u : ℕ) → 2 < u → Big (refuse-if b u)
+  numbered : ¬ (x .number ≡ 0)
+  unfolding any
+  numbered = other 0 refl
+
+  big-if : (b : Bool) (u : ℕ) → gives header-numbers u ≡ false → Big (refuse-if b u)
   unfolding refuse-if
-  big-if true u l e = let k : u ≡ x .number = ap (λ (q : Refusal). q .number) e in omega arith
-  big-if false u l e = let k : 0 ≡ x .number = ap (λ (q : Refusal). q .number) e in omega arith
+  big-if true u l e = other u l (sym (ap (λ (q : Refusal). q .number) e))
+  big-if false u l e = numbered (sym (ap (λ (q : Refusal). q .number) e))
 
   big-earlier : (a b : Refusal) → Big a → Big b → Big (earlier a b)
   big-earlier a b f g e = by (earlier-exactly a b x numbered .0 e)
@@ -57,10 +62,11 @@ module _ (s : Bytes) (x : Refusal) (some : 0 < x .number) (small : x .number ≤
       by (inr e) = g (e .1)
 
   big-verdict : (i : ℕ) → Big (verdict-of i (row-at s i))
+  unfolding any
   big-verdict i e =
       let h = verdict-exactly s i (x .number) (x .section) (x .line) numbered .0 e in
       let w = refused-ranged (latinOf s) (section-at s i .lines) (h .1 .0) (x .number) (x .line) (h .1 .1) in
-      omega (arith, w)
+      false≢true (sym (apart section-numbers header-numbers (x .number) refl w) ∙ early)
 
   -- a first part that the header begins, and a further one that never gives 1 or 2
   further-big : (a b : Refusal) → a ≡ x ↔ header-refusal s ≡ x → Big b → earlier a b ≡ x ↔ header-refusal s ≡ x
@@ -74,8 +80,8 @@ module _ (s : Bytes) (x : Refusal) (some : 0 < x .number) (small : x .number ≤
   itself = (λ e. e, λ e. e)
 
   find-header : (i : ℕ) → find-refusal s i ≡ x ↔ header-refusal s ≡ x
-  unfolding find-refusal
-  find-header i = further-big (header-refusal s) _ itself (big-if (outside i (length (sections s))) 24 (omega arith))
+  unfolding find-refusal any
+  find-header i = further-big (header-refusal s) _ itself (big-if (outside i (length (sections s))) 24 refl)
 
   pub headerOf-header : headerOf s ≡ H.Refused x ↔ header-refusal s ≡ x
   unfolding headerOf
@@ -86,59 +92,56 @@ module _ (s : Bytes) (x : Refusal) (some : 0 < x .number) (small : x .number ≤
   section-header i = via (listed-exactly (find-refusal s i) x numbered (row-at s i)) (find-header i)
 
   pub value-header : (i r f : ℕ) → valueOf s i r f ≡ G.Refused x ↔ header-refusal s ≡ x
-  unfolding valueOf value-refusal
+  unfolding valueOf value-refusal any
   value-header i r f =
       via (got-exactly (value-refusal s i r f) x numbered (value-at (section-at s i) r f))
       (further-big (find-refusal s i) _ (find-header i)
-      (big-earlier (verdict-of i (row-at s i)) _ (big-verdict i) (big-if (outside r (row-at s i .records) || outside f (width (table-of (section-at s i .lines)))) 24 (omega arith))))
+      (big-earlier (verdict-of i (row-at s i)) _ (big-verdict i) (big-if (outside r (row-at s i .records) || outside f (width (table-of (section-at s i .lines)))) 24 refl)))
 
   pub text-header : (i r f room : ℕ) → textOut s i r f room ≡ Ha.Refused x ↔ header-refusal s ≡ x
+  unfolding any
   text-header i r f room =
-      via (text-else s i r f room x numbered (λ e. let k : x .number ≡ 11 = ap (λ (q : Refusal). q .number) e in omega arith)
-      (λ e. let k : x .number ≡ 21 = ap (λ (q : Refusal). q .number) e in omega arith)) (value-header i r f)
+      via (text-else s i r f room x numbered (λ e. other 11 refl (ap (λ (q : Refusal). q .number) e)) (λ e. other 21 refl (ap (λ (q : Refusal). q .number) e)))
+      (value-header i r f)
 
   pub table-header : (i room : ℕ) → tableOf s i room ≡ W.Refused x ↔ header-refusal s ≡ x
-  unfolding table-refusal
+  unfolding table-refusal any
   table-header i room =
-      via (table-first s i room x numbered (λ e. let k : x .number ≡ 21 = ap (λ (q : Refusal). q .number) e in omega arith))
+      via (table-first s i room x numbered (λ e. other 21 refl (ap (λ (q : Refusal). q .number) e)))
       (further-big (find-refusal s i) _ (find-header i) (big-verdict i))
 
   -- the file's too
   pub file-header : file-refusal s ≡ x ↔ header-refusal s ≡ x
-  unfolding file-refusal
+  unfolding file-refusal any
   file-header =
       (λ e. by (earlier-exactly (header-refusal s) _ x numbered .0 e) e, λ e. earlier-exactly (header-refusal s) _ x numbered .1 (inl e))
     where
-      ranged : (file-refusal s .number ≡ 0) ⊎ ((3 ≤ file-refusal s .number) × (file-refusal s .number ≤ 20)) → file-refusal s ≡ x → ⊥
-      ranged (inl z) e = let k : file-refusal s .number ≡ x .number = ap (λ (q : Refusal). q .number) e in omega arith
-      ranged (inr z) e = let k : file-refusal s .number ≡ x .number = ap (λ (q : Refusal). q .number) e in omega (arith, z)
-
       by : (header-refusal s ≡ x) ⊎ ((header-refusal s .number ≡ 0) × (earlier (found (trailerOf s)) (section-refusal s) ≡ x)) → file-refusal s ≡ x → header-refusal s ≡ x
       by (inl h) e = h
-      by (inr h) e = absurd (ranged (file-ranged s (h .0)) e)
+      by (inr h) e = absurd (told-other later-numbers (file-ranged s (h .0)) numbered (apart header-numbers later-numbers (x .number) refl early) e)
 
   pub list-header : (room : ℕ) → listOf s room ≡ C.Refused x ↔ header-refusal s ≡ x
-  unfolding listOf list-refusal
+  unfolding listOf list-refusal any
   list-header room =
       via (checked-exactly (earlier (list-refusal s room) (file-refusal s)) x numbered)
-      (λ e. by (earlier-exactly (list-refusal s room) (file-refusal s) x numbered .0 e), λ e. earlier-exactly (list-refusal s room) (file-refusal s) x numbered .1 (inl (first .1 e)))
+      (λ e. by (earlier-exactly (list-refusal s room) (file-refusal s) x numbered .0 e), λ e. earlier-exactly (list-refusal s room) (file-refusal s) x numbered .1 (inl (begun .1 e)))
     where
-      first : earlier (header-refusal s) (refuse-if (ltb room (length (sections s))) 21) ≡ x ↔ header-refusal s ≡ x
-      first = further-big (header-refusal s) _ itself (big-if (ltb room (length (sections s))) 21 (omega arith))
+      begun : earlier (header-refusal s) (refuse-if (ltb room (length (sections s))) 21) ≡ x ↔ header-refusal s ≡ x
+      begun = further-big (header-refusal s) _ itself (big-if (ltb room (length (sections s))) 21 refl)
 
       by : (list-refusal s room ≡ x) ⊎ ((list-refusal s room .number ≡ 0) × (file-refusal s ≡ x)) → header-refusal s ≡ x
-      by (inl e) = first .0 e
+      by (inl e) = begun .0 e
       by (inr e) = file-header .0 (e .1)
 
--- `list`: 3 to 20 are the file's, if the rows suffice
-pub list-verdict : (s : Bytes) (room : ℕ) (x : Refusal) → 3 ≤ x .number → x .number ≤ 20 → listOf s room ≡ C.Refused x ↔ ((length (sections s) ≤ room) × (file-refusal s ≡ x))
-unfolding listOf list-refusal
-list-verdict s room x lo hi =
+-- `list`: what the file gives after 1 and 2 is the file's, if the rows suffice
+pub list-verdict : (s : Bytes) (room : ℕ) (x : Refusal) → OneOf later-numbers (x .number) → listOf s room ≡ C.Refused x ↔ ((length (sections s) ≤ room) × (file-refusal s ≡ x))
+unfolding listOf list-refusal any
+list-verdict s room x g =
     via (checked-exactly (earlier (list-refusal s room) (file-refusal s)) x z)
     (λ e. into (earlier-exactly (list-refusal s room) (file-refusal s) x z .0 e), λ h. earlier-exactly (list-refusal s room) (file-refusal s) x z .1 (inr (none-exactly (header-refusal s) _ .1 (opens (h .1), enough (h .0)), h .1)))
   where
     z : ¬ (x .number ≡ 0)
-    z e = omega arith
+    z = other-number later-numbers (x .number) 0 g refl
 
     few : refuse-if (ltb room (length (sections s))) 21 .number ≡ 0 → length (sections s) ≤ room
     few e = under (length (sections s)) room (if-none 21 (some-number 21 (omega arith)) (below room (length (sections s))) .0 e)
@@ -154,20 +157,19 @@ list-verdict s room x lo hi =
     enough h = if-none 21 (some-number 21 (omega arith)) (below room (length (sections s))) .1 (λ (l : room < length (sections s)). omega arith)
 
     opens : file-refusal s ≡ x → header-refusal s .number ≡ 0
-    opens e = by (header-refusal s .number) refl
+    opens e = by (header-told s)
       where
-        by : (n : ℕ) → header-refusal s .number ≡ n → n ≡ 0
-        by zero h = refl
-        by (suc n) h =
-            let k : file-refusal s ≡ header-refusal s = file-header s (header-refusal s) (omega arith) (header-small s) .1 refl in
-            let w : x .number ≡ header-refusal s .number = ap (λ (q : Refusal). q .number) (sym e ∙ k) in
-            absurd (let y : ⊥ = omega (arith, header-small s) in y)
+        by : SoundOr header-numbers (header-refusal s .number) → header-refusal s .number ≡ 0
+        by (inl h) = h
+        by (inr h) =
+            let k : header-refusal s ≡ x = sym (file-header s (header-refusal s) h .1 refl) ∙ e in
+            absurd (told-other header-numbers (inr h) z (apart later-numbers header-numbers (x .number) refl g) k)
 
     into : (list-refusal s room ≡ x) ⊎ ((list-refusal s room .number ≡ 0) × (file-refusal s ≡ x)) → (length (sections s) ≤ room) × (file-refusal s ≡ x)
-    into (inl e) = absurd (first (after-header s (refuse-if (ltb room (length (sections s))) 21) x (omega arith) .0 e .1))
+    into (inl e) = absurd (first (after-header s (refuse-if (ltb room (length (sections s))) 21) x z (apart later-numbers header-numbers (x .number) refl g) .0 e .1))
       where
         first : refuse-if (ltb room (length (sections s))) 21 ≡ x → ⊥
-        first e = if-number (ltb room (length (sections s))) 21 (x .number) z (λ (k : 21 ≡ x .number). omega arith) x e refl
+        first e = if-number (ltb room (length (sections s))) 21 (x .number) z (λ (k : 21 ≡ x .number). other-number later-numbers (x .number) 21 g refl (sym k)) x e refl
     into (inr h) = (few (none-exactly (header-refusal s) _ .0 (h .0) .1), h .1)
 
 -- `write` and `strip`: "Only a file with verdict 0 is written; else its verdict is given."

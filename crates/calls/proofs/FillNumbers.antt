@@ -4,7 +4,7 @@ use mathlib.Core.Path.{_≡_, refl, ap, sym, _∙_}
 use mathlib.Core.Bool.{Bool, true, false, not, _||_, false≢true}
 use mathlib.Core.List.{List, [], _∷_}
 use mathlib.Core.Logic.{_⊎_, inl, inr, _↔_}
-use Prim.Native.Nat.{ℕ, _-_, _<_, _≤_}
+use Prim.Native.Nat.{ℕ, _-_, _<_}
 use native.Mathlib.Omega.{arith}
 use lib.Dec.{eqb, ltb}
 use lib.ListN.{length}
@@ -21,6 +21,7 @@ use Rattle.page.specs.File.{limit, any, file-refusal}
 use Rattle.page.specs.Reading.{section-at, row-at}
 use Rattle.page.specs.Writing.{put-refusal, putOf, empty-datum, fill-place, fill-refusal, fill-form, fillOf}
 use Rattle.page.specs.Rules.{none-left, one-more}
+use Rattle.page.specs.Refusals.{section-numbers, file-numbers, gives, OneOf}
 use Rattle.page.specs.declared.Refusal.{Refusal}
 use Rattle.page.specs.declared.Owner.{Owner}
 use Rattle.page.specs.declared.Written.the-variants as W
@@ -102,12 +103,12 @@ module _ (s : Bytes) (i r f : ℕ) (t : Bytes) (room : ℕ) where
       (via (λ e. sym in-order ∙ e, λ e. in-order ∙ e) (earlier-exactly (file-refusal s) (first-refusal (fill-questions s i r f t room)) x z))
 
   -- one of the seven, by its turn
-  pub fill-turn : (v : ℕ) → ((4 ≤ v) × (v ≤ 16)) ⊎ (20 < v) → ¬ (v ≡ 0) →
+  pub fill-turn : (v : ℕ) → OneOf section-numbers v ⊎ (gives file-numbers v ≡ false) → ¬ (v ≡ 0) →
       fillOf s i r f t room ≡ W.Refused (refusal v 0 0) ↔ ((file-refusal s .number ≡ 0) × Turn v (fill-questions s i r f t room))
   unfolding fillOf putOf
   fill-turn v w z =
       via (written-exactly (put-refusal (fill-refusal s i r f t) (fill-form s i r f t) room) (refusal v 0 0) z (length (fill-form s i r f t)))
-      (via (λ e. sym in-order ∙ e, λ e. in-order ∙ e) (after-exactly (file-refusal s) v z (file-other s v w) numbers))
+      (via (λ e. sym in-order ∙ e, λ e. in-order ∙ e) (after-exactly (file-refusal s) v z (file-other s v w z) numbers))
 
   place-d : Decides (NoPlace s i r f) (fill-place s i r f)
   unfolding fill-place
@@ -134,39 +135,39 @@ module _ (s : Bytes) (i r f : ℕ) (t : Bytes) (room : ℕ) where
   -- 24: "no such section, record or field"
   pub fill-24 : fillOf s i r f t room ≡ W.Refused (refusal 24 0 0) ↔ ((file-refusal s .number ≡ 0) × NoPlace s i r f)
   unfolding fill-questions any
-  fill-24 = via (fill-turn 24 (inr (omega arith)) (some-number 24 (omega arith))) (second (turn-now place-d refl))
+  fill-24 = via (fill-turn 24 (inr refl) (some-number 24 (omega arith))) (second (turn-now place-d refl))
 
   -- 23: "field may not be filled"
   pub fill-23 : fillOf s i r f t room ≡ W.Refused (refusal 23 0 0) ↔ ((file-refusal s .number ≡ 0) × ((¬ NoPlace s i r f) × (¬ MayFill s i f)))
   unfolding fill-questions any
   fill-23 =
-      via (fill-turn 23 (inr (omega arith)) (some-number 23 (omega arith)))
+      via (fill-turn 23 (inr refl) (some-number 23 (omega arith)))
       (second (turn-next place-d refl (turn-now (turned (is-d (column-at (table-of (section-at s i .lines)) (f - 1) .fillable))) refl)))
 
   -- 22: "field to fill is not empty"
   pub fill-22 : fillOf s i r f t room ≡ W.Refused (refusal 22 0 0) ↔ ((file-refusal s .number ≡ 0) × ((¬ NoPlace s i r f) × (MayFill s i f × (¬ IsEmpty s i r f))))
   unfolding fill-questions any
   fill-22 =
-      via (fill-turn 22 (inr (omega arith)) (some-number 22 (omega arith)))
+      via (fill-turn 22 (inr refl) (some-number 22 (omega arith)))
       (second (turn-next place-d refl (turn-past (is-d (column-at (table-of (section-at s i .lines)) (f - 1) .fillable)) refl (turn-now (turned empty-d) refl))))
 
   -- 11: "text empty"
   pub fill-11 : fillOf s i r f t room ≡ W.Refused (refusal 11 0 0) ↔ ((file-refusal s .number ≡ 0) × Blank s i r f (t ≡ []))
   unfolding fill-questions any
-  fill-11 = via (fill-turn 11 (inl (omega arith, omega arith)) (some-number 11 (omega arith))) (second (of-field refl refl refl (turn-now (nothing-d t) refl)))
+  fill-11 = via (fill-turn 11 (inl refl) (some-number 11 (omega arith))) (second (of-field refl refl refl (turn-now (nothing-d t) refl)))
 
   -- 4: "text byte not allowed in a `rec`"
   pub fill-4 : fillOf s i r f t room ≡ W.Refused (refusal 4 0 0) ↔ ((file-refusal s .number ≡ 0) × Blank s i r f ((¬ (t ≡ [])) × (¬ IsAllowed s t)))
   unfolding fill-questions any
   fill-4 =
-      via (fill-turn 4 (inl (omega arith, omega arith)) (some-number 4 (omega arith)))
+      via (fill-turn 4 (inl refl) (some-number 4 (omega arith)))
       (second (of-field refl refl refl (turn-next (nothing-d t) refl (turn-now (turned (is-d (all (allowed (latinOf s)) t))) refl))))
 
   -- 13: "over 40 bytes"
   pub fill-13 : fillOf s i r f t room ≡ W.Refused (refusal 13 0 0) ↔ ((file-refusal s .number ≡ 0) × Blank s i r f ((¬ (t ≡ [])) × (IsAllowed s t × (40 < length t))))
   unfolding fill-questions any
   fill-13 =
-      via (fill-turn 13 (inl (omega arith, omega arith)) (some-number 13 (omega arith)))
+      via (fill-turn 13 (inl refl) (some-number 13 (omega arith)))
       (second (of-field refl refl refl (turn-next (nothing-d t) refl (turn-past (is-d (all (allowed (latinOf s)) t)) refl (turn-now (below 40 (length t)) refl)))))
 
   -- 21: "the form is longer than the lent output or than 16,777,216 bytes"
@@ -174,6 +175,6 @@ module _ (s : Bytes) (i r f : ℕ) (t : Bytes) (room : ℕ) where
       ((file-refusal s .number ≡ 0) × Blank s i r f ((¬ (t ≡ [])) × (IsAllowed s t × ((¬ (40 < length t)) × TooLong (fill-form s i r f t) room))))
   unfolding fill-questions any
   fill-21 =
-      via (fill-turn 21 (inr (omega arith)) (some-number 21 (omega arith)))
+      via (fill-turn 21 (inr refl) (some-number 21 (omega arith)))
       (second (of-field refl refl refl
       (turn-next (nothing-d t) refl (turn-past (is-d (all (allowed (latinOf s)) t)) refl (turn-next (below 40 (length t)) refl (turn-now room-d refl))))))

@@ -2,7 +2,7 @@
 use mathlib.Core.Path.{_≡_, refl, ap, sym, _∙_}
 use mathlib.Core.Bool.{Bool, true, false, not, _||_, false≢true}
 use mathlib.Core.List.{List, _++_}
-use mathlib.Core.Logic.{_⊎_, inl, inr, _↔_}
+use mathlib.Core.Logic.{_↔_}
 use Prim.Native.Nat.{ℕ, _-_, _<_, _≤_}
 use native.Mathlib.Omega.{arith}
 use lib.Dec.{eqb, ltb}
@@ -15,10 +15,11 @@ use Rattle.page.specs.Head.{latinOf}
 use Rattle.page.specs.Section.{outcome}
 use Rattle.page.specs.Records.{table-of}
 use Rattle.page.specs.Answers.{refusal, earlier, refuse-if, written, paper-written, handed, paper-handed}
-use Rattle.page.specs.File.{limit, row-of, rowOf, header-refusal}
+use Rattle.page.specs.File.{limit, row-of, rowOf, header-refusal, any}
 use Rattle.page.specs.Reading.{outside, section-at, row-at, find-refusal, verdict-of, value-refusal}
 use Rattle.page.specs.Writing.{put-refusal, putOf}
 use Rattle.page.specs.Handing.{text-refusal, own-text, text-owner, copied, textOut, text-after, cellsOf, table-refusal, cells-refusal, tableOf, cells-after}
+use Rattle.page.specs.Refusals.{section-numbers, header-numbers}
 use Rattle.page.specs.declared.Refusal.{Refusal}
 use Rattle.page.specs.declared.Written.{Written}
 use Rattle.page.specs.declared.Written.the-variants as W
@@ -30,7 +31,7 @@ use Rattle.grammar.proofs.Refuses.{verdict-ranged}
 use Rattle.calls.proofs.Promises.{one-outcome, refused-put, Done, done-put, long-find}
 use Rattle.calls.proofs.PromisesListing.{header-told}
 use Rattle.calls.proofs.CallAnswers.{as-written, handed-written, handed-number}
-use Rattle.calls.proofs.PromisesRoom.{TooLong, answer-number, room-exactly, earlier-never, if-never}
+use Rattle.calls.proofs.PromisesRoom.{TooLong, answer-number, room-exactly, earlier-never, if-never, told-never}
 
 -- two answers, and two later contents, that meet the promise are equal
 
@@ -106,28 +107,20 @@ module _ (s : Bytes) (long : limit < length s) where
 -- what is asked before the room never gives 21
 
 pub header-never : (s : Bytes) → ¬ (header-refusal s .number ≡ 21)
-header-never s e = by (header-told s)
-  where
-    by : (header-refusal s .number ≡ 0) ⊎ ((header-refusal s .number ≡ 1) ⊎ (header-refusal s .number ≡ 2)) → ⊥
-    by (inl h) = omega arith
-    by (inr (inl h)) = omega arith
-    by (inr (inr h)) = omega arith
+unfolding any
+header-never s = told-never header-numbers refl (header-told s)
 
 find-never : (s : Bytes) (i : ℕ) → ¬ (find-refusal s i .number ≡ 21)
 unfolding find-refusal
 find-never s i = earlier-never (header-refusal s) _ (header-never s) (if-never (outside i (length (sections s))) 24 (λ (z : 24 ≡ 21). omega arith))
 
 verdict-never : (s : Bytes) (i : ℕ) → ¬ (verdict-of i (row-at s i) .number ≡ 21)
-unfolding verdict-of row-at rowOf row-of
-verdict-never s i = by (eqb (outcome (latinOf s) (section-at s i .lines) .verdict) 0) (verdict-ranged (latinOf s) (section-at s i .lines))
+unfolding verdict-of row-at rowOf row-of any
+verdict-never s i = by (eqb (outcome (latinOf s) (section-at s i .lines) .verdict) 0)
   where
-    by : (b : Bool) →
-        (outcome (latinOf s) (section-at s i .lines) .verdict ≡ 0)
-        ⊎ ((4 ≤ outcome (latinOf s) (section-at s i .lines) .verdict) × (outcome (latinOf s) (section-at s i .lines) .verdict ≤ 16)) →
-        ¬ (pick b (refusal 0 0 0) (refusal (outcome (latinOf s) (section-at s i .lines) .verdict) i (outcome (latinOf s) (section-at s i .lines) .line)) .number ≡ 21)
-    by true h e = omega arith
-    by false (inl h) e = omega arith
-    by false (inr h) e = omega (arith, h)
+    by : (b : Bool) → ¬ (pick b (refusal 0 0 0) (refusal (outcome (latinOf s) (section-at s i .lines) .verdict) i (outcome (latinOf s) (section-at s i .lines) .line)) .number ≡ 21)
+    by true e = omega arith
+    by false e = told-never section-numbers refl (verdict-ranged (latinOf s) (section-at s i .lines)) e
 
 table-never : (s : Bytes) (i : ℕ) → ¬ (table-refusal s i .number ≡ 21)
 unfolding table-refusal

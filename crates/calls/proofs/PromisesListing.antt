@@ -1,10 +1,9 @@
 -- "Listing is refused by 1, 2 and 21 only and then writes no row; other verdicts go into the rows and the file's answer." Assumes nothing.
 use mathlib.Core.Path.{_≡_, refl, ap, sym, _∙_}
-use mathlib.Core.Bool.{Bool, true, false}
+use mathlib.Core.Bool.{Bool, true, false, false≢true}
 use mathlib.Core.List.{List, [], _∷_, _++_, map}
 use mathlib.Core.Logic.{_⊎_, inl, inr}
-use Prim.Native.Nat.{ℕ, suc, _≤_}
-use native.Mathlib.Omega.{arith}
+use Prim.Native.Nat.{ℕ, suc}
 use lib.Dec.{eqb, ltb}
 use lib.ListN.{length, drop}
 use borrow.Author.Tests.{eqb-true, ne-eqb}
@@ -16,8 +15,9 @@ use Rattle.page.specs.Head.{latinOf}
 use Rattle.page.specs.Section.{outcome}
 use Rattle.page.specs.Trailer.{eof-ok, all-blank, trailer-of, trailerOf}
 use Rattle.page.specs.Answers.{refusal, earlier, refuse-if, checked, paper-checked}
-use Rattle.page.specs.File.{too-long, found, header-refusal, row-of, rowOf, rowsOf, first-unsound, first-again, by-primary, by-second, Filed, repeats, lost, first-record, filedOf, record-refusal, section-refusal, file-refusal}
+use Rattle.page.specs.File.{too-long, found, header-refusal, row-of, rowOf, rowsOf, first-unsound, any, first-again, by-primary, by-second, Filed, repeats, lost, first-record, filedOf, record-refusal, section-refusal, file-refusal}
 use Rattle.page.specs.Reading.{list-refusal, listOf, rows-after}
+use Rattle.page.specs.Refusals.{section-numbers, header-numbers, later-numbers, file-numbers, OneOf, SoundOr}
 use Rattle.page.specs.declared.Refusal.{Refusal}
 use Rattle.page.specs.declared.Row.{Row}
 use Rattle.page.specs.declared.Finding.{Finding}
@@ -26,101 +26,116 @@ use Rattle.verdicts.proofs.Headers.{header-settled}
 use Rattle.grammar.proofs.Refuses.{verdict-ranged}
 use Rattle.round.proofs.RoundKeys.{breaks-number, again-number}
 use Rattle.laws.proofs.Earlier.{earlier-none}
+use Rattle.laws.proofs.Numbers.{other-number, apart, within}
 
--- a number that the sections, the keys and the trailer give
-abbrev Ranged : ℕ → Type 0
-Ranged n = (n ≡ 0) ⊎ ((3 ≤ n) × (n ≤ 20))
-
-earlier-ranged : (a b : Refusal) → Ranged (a .number) → Ranged (b .number) → Ranged (earlier a b .number)
+-- the first of two gives what one of them gives
+earlier-ranged : (ns : List ℕ) (a b : Refusal) → SoundOr ns (a .number) → SoundOr ns (b .number) → SoundOr ns (earlier a b .number)
 unfolding earlier
-earlier-ranged a b p q = by (eqb (a .number) 0)
+earlier-ranged ns a b p q = by (eqb (a .number) 0)
   where
-    by : (x : Bool) → Ranged (pick x b a .number)
+    by : (x : Bool) → SoundOr ns (pick x b a .number)
     by true = q
     by false = p
 
-pick-ranged : (b : Bool) (v : ℕ) → 3 ≤ v → v ≤ 20 → Ranged (pick b v 0)
-pick-ranged true v l h = inr (l, h)
-pick-ranged false v l h = inl refl
+pick-ranged : (ns : List ℕ) (b : Bool) (v : ℕ) → OneOf ns v → SoundOr ns (pick b v 0)
+pick-ranged ns true v g = inr g
+pick-ranged ns false v g = inl refl
 
-blank-ranged : (n : ℕ) (ls : List Bytes) → Ranged (all-blank n ls .verdict)
-unfolding all-blank
+blank-ranged : (n : ℕ) (ls : List Bytes) → SoundOr later-numbers (all-blank n ls .verdict)
+unfolding all-blank any
 blank-ranged n [] = inl refl
 blank-ranged n (l ∷ ls) = by (blank-ranged (suc n) ls) (blank (content l))
   where
-    by : Ranged (all-blank (suc n) ls .verdict) → (b : Bool) → Ranged (pick b (all-blank (suc n) ls) (record { verdict = 3; line = suc n }) .verdict)
+    by : SoundOr later-numbers (all-blank (suc n) ls .verdict) → (b : Bool) → SoundOr later-numbers (pick b (all-blank (suc n) ls) (record { verdict = 3; line = suc n }) .verdict)
     by ih true = ih
-    by ih false = inr (omega arith, omega arith)
+    by ih false = inr refl
 
-trailer-ranged : (n : ℕ) (ls : List Bytes) → Ranged (trailer-of n ls .verdict)
-unfolding trailer-of
-trailer-ranged n [] = inr (omega arith, omega arith)
+trailer-ranged : (n : ℕ) (ls : List Bytes) → SoundOr later-numbers (trailer-of n ls .verdict)
+unfolding trailer-of any
+trailer-ranged n [] = inr refl
 trailer-ranged n (l ∷ ls) = by (eof-ok n (content l))
   where
-    by : (b : Bool) → Ranged (pick b (all-blank 1 ls) (record { verdict = 3; line = 1 }) .verdict)
+    by : (b : Bool) → SoundOr later-numbers (pick b (all-blank 1 ls) (record { verdict = 3; line = 1 }) .verdict)
     by true = blank-ranged 1 ls
-    by false = inr (omega arith, omega arith)
+    by false = inr refl
 
-unsound-ranged : (latin : Bool) (i : ℕ) (xs : List Section) → Ranged (first-unsound i (map (rowOf latin) xs) .number)
+unsound-ranged : (latin : Bool) (i : ℕ) (xs : List Section) → SoundOr later-numbers (first-unsound i (map (rowOf latin) xs) .number)
 unfolding first-unsound rowOf row-of
 unsound-ranged latin i [] = inl refl
-unsound-ranged latin i (x ∷ xs) = by (unsound-ranged latin (suc i) xs) (verdict-ranged latin (x .lines)) (eqb (outcome latin (x .lines) .verdict) 0) refl
+unsound-ranged latin i (x ∷ xs) = by (unsound-ranged latin (suc i) xs) (verdict-ranged latin (x .lines)) (eqb (outcome latin (x .lines) .verdict) 0)
   where
-    by : Ranged (first-unsound (suc i) (map (rowOf latin) xs) .number) →
-        (outcome latin (x .lines) .verdict ≡ 0) ⊎ ((4 ≤ outcome latin (x .lines) .verdict) × (outcome latin (x .lines) .verdict ≤ 16)) →
-        (b : Bool) → eqb (outcome latin (x .lines) .verdict) 0 ≡ b →
-        Ranged (pick b (first-unsound (suc i) (map (rowOf latin) xs)) (refusal (outcome latin (x .lines) .verdict) i (outcome latin (x .lines) .line)) .number)
-    by ih v true e = ih
-    by ih (inl z) false e = inl z
-    by ih (inr z) false e = inr (omega (arith, z), omega (arith, z))
+    by : SoundOr later-numbers (first-unsound (suc i) (map (rowOf latin) xs) .number) → SoundOr section-numbers (outcome latin (x .lines) .verdict) → (b : Bool) →
+        SoundOr later-numbers (pick b (first-unsound (suc i) (map (rowOf latin) xs)) (refusal (outcome latin (x .lines) .verdict) i (outcome latin (x .lines) .line)) .number)
+    by ih v true = ih
+    by ih (inl z) false = inl z
+    by ih (inr g) false = inr (within (3 ∷ []) section-numbers _ (outcome latin (x .lines) .verdict) g)
 
-record-ranged : (v : ℕ) → 3 ≤ v → v ≤ 20 → (s : Bytes) (bad : List Filed → Filed → Bool) → Ranged (first-record v bad [] (filedOf s) .number)
-record-ranged v l h s bad = rw (breaks-number v bad [] (filedOf s)) (pick-ranged (breaks bad [] (filedOf s)) v l h)
+record-ranged : (v : ℕ) → OneOf later-numbers v → (s : Bytes) (bad : List Filed → Filed → Bool) → SoundOr later-numbers (first-record v bad [] (filedOf s) .number)
+record-ranged v g s bad = rw (breaks-number v bad [] (filedOf s)) (pick-ranged later-numbers (breaks bad [] (filedOf s)) v g)
 
-section-ranged : (s : Bytes) → Ranged (section-refusal s .number)
-unfolding section-refusal record-refusal rowsOf
+section-ranged : (s : Bytes) → SoundOr later-numbers (section-refusal s .number)
+unfolding section-refusal record-refusal rowsOf any
 section-ranged s =
-    earlier-ranged (first-unsound 1 (rowsOf s)) (earlier (first-again [] 1 (rowsOf s)) (record-refusal (filedOf s))) (unsound-ranged (latinOf s) 1 (sections s))
-    (earlier-ranged (first-again [] 1 (rowsOf s)) (record-refusal (filedOf s))
-    (rw (again-number [] 1 (rowsOf s)) (pick-ranged (again [] (map (λ (r : Row). r .table) (rowsOf s))) 17 (omega arith) (omega arith)))
-    (earlier-ranged (first-record 18 (repeats by-primary) [] (filedOf s))
+    earlier-ranged later-numbers (first-unsound 1 (rowsOf s)) (earlier (first-again [] 1 (rowsOf s)) (record-refusal (filedOf s))) (unsound-ranged (latinOf s) 1 (sections s))
+    (earlier-ranged later-numbers (first-again [] 1 (rowsOf s)) (record-refusal (filedOf s))
+    (rw (again-number [] 1 (rowsOf s)) (pick-ranged later-numbers (again [] (map (λ (r : Row). r .table) (rowsOf s))) 17 refl))
+    (earlier-ranged later-numbers (first-record 18 (repeats by-primary) [] (filedOf s))
     (earlier (first-record 19 (repeats by-second) [] (filedOf s)) (first-record 20 (λ before. lost (filedOf s)) [] (filedOf s)))
-    (record-ranged 18 (omega arith) (omega arith) s (repeats by-primary))
-    (earlier-ranged (first-record 19 (repeats by-second) [] (filedOf s)) (first-record 20 (λ before. lost (filedOf s)) [] (filedOf s))
-    (record-ranged 19 (omega arith) (omega arith) s (repeats by-second)) (record-ranged 20 (omega arith) (omega arith) s (λ before. lost (filedOf s))))))
+    (record-ranged 18 refl s (repeats by-primary))
+    (earlier-ranged later-numbers (first-record 19 (repeats by-second) [] (filedOf s)) (first-record 20 (λ before. lost (filedOf s)) [] (filedOf s))
+    (record-ranged 19 refl s (repeats by-second)) (record-ranged 20 refl s (λ before. lost (filedOf s))))))
 
--- after a header that is not refused the file gives 0 or 3 to 20
-pub file-ranged : (s : Bytes) → header-refusal s .number ≡ 0 → Ranged (file-refusal s .number)
+-- after a header that is not refused the file gives 0 or what follows 1 and 2
+pub file-ranged : (s : Bytes) → header-refusal s .number ≡ 0 → SoundOr later-numbers (file-refusal s .number)
 unfolding file-refusal trailerOf
 file-ranged s h =
-    earlier-ranged (header-refusal s) (earlier (found (trailerOf s)) (section-refusal s)) (inl h)
-    (earlier-ranged (found (trailerOf s)) (section-refusal s) (trailer-ranged (length (sections s)) (trailer-lines s)) (section-ranged s))
+    earlier-ranged later-numbers (header-refusal s) (earlier (found (trailerOf s)) (section-refusal s)) (inl h)
+    (earlier-ranged later-numbers (found (trailerOf s)) (section-refusal s) (trailer-ranged (length (sections s)) (trailer-lines s)) (section-ranged s))
 
--- 1, 2, 21
-abbrev pub NoRows : ℕ → Type 0
-NoRows n = (n ≡ 1) ⊎ ((n ≡ 2) ⊎ (n ≡ 21))
-
-pub header-told : (s : Bytes) → (header-refusal s .number ≡ 0) ⊎ ((header-refusal s .number ≡ 1) ⊎ (header-refusal s .number ≡ 2))
-unfolding header-refusal earlier refuse-if
+-- the header gives 0, 1 or 2
+pub header-told : (s : Bytes) → SoundOr header-numbers (header-refusal s .number)
+unfolding header-refusal earlier refuse-if any
 header-told s = by (too-long s) (header-settled (header-lines s))
   where
     by : (b : Bool) → (headOf (header-lines s) ≡ record { verdict = 0; line = 0 }) ⊎ ((n : ℕ) × (headOf (header-lines s) ≡ record { verdict = 2; line = n })) →
-        (earlier (refuse-if b 1) (found (headOf (header-lines s))) .number ≡ 0)
-        ⊎ ((earlier (refuse-if b 1) (found (headOf (header-lines s))) .number ≡ 1) ⊎ (earlier (refuse-if b 1) (found (headOf (header-lines s))) .number ≡ 2))
-    by true h = inr (inl refl)
+        SoundOr header-numbers (earlier (refuse-if b 1) (found (headOf (header-lines s))) .number)
+    by true h = inr refl
     by false (inl e) = inl (ap (λ (f : Finding). f .verdict) e)
-    by false (inr e) = inr (inr (ap (λ (f : Finding). f .verdict) (e .1)))
+    by false (inr e) = inr (rw (e .1))
 
-list-told : (s : Bytes) (room : ℕ) → (list-refusal s room .number ≡ 0) ⊎ NoRows (list-refusal s room .number)
-unfolding list-refusal earlier refuse-if
-list-told s room = by (header-told s) (ltb room (length (sections s)))
+-- the file gives 0 or one of its numbers
+pub file-told : (s : Bytes) → SoundOr file-numbers (file-refusal s .number)
+unfolding file-refusal earlier any
+file-told s = by (header-told s)
   where
-    by : (header-refusal s .number ≡ 0) ⊎ ((header-refusal s .number ≡ 1) ⊎ (header-refusal s .number ≡ 2)) → (b : Bool) →
-        (earlier (header-refusal s) (refuse-if b 21) .number ≡ 0) ⊎ NoRows (earlier (header-refusal s) (refuse-if b 21) .number)
-    by (inl e) true = inr (inr (inr (rw e)))
-    by (inl e) false = inl (rw e)
-    by (inr (inl e)) b = inr (inl (rw e))
-    by (inr (inr e)) b = inr (inr (inl (rw e)))
+    later : SoundOr later-numbers (file-refusal s .number) → SoundOr file-numbers (file-refusal s .number)
+    later (inl z) = inl z
+    later (inr g) = inr (within header-numbers later-numbers [] (file-refusal s .number) g)
+
+    by : SoundOr header-numbers (header-refusal s .number) → SoundOr file-numbers (file-refusal s .number)
+    by (inl h) = later (file-ranged s h)
+    by (inr g) =
+        let z : ¬ (header-refusal s .number ≡ 0) = other-number header-numbers (header-refusal s .number) 0 g refl in
+        inr (rw (ne-eqb (header-refusal s .number) 0 z) (within [] header-numbers later-numbers (header-refusal s .number) g))
+
+-- 1, 2, 21
+abbrev pub row-less : List ℕ
+row-less = header-numbers ++ (21 ∷ [])
+
+abbrev pub NoRows : ℕ → Type 0
+NoRows n = OneOf row-less n
+
+list-told : (s : Bytes) (room : ℕ) → SoundOr row-less (list-refusal s room .number)
+unfolding list-refusal refuse-if any
+list-told s room = earlier-ranged row-less (header-refusal s) (refuse-if (ltb room (length (sections s))) 21) (first (header-told s)) (second (ltb room (length (sections s))))
+  where
+    first : SoundOr header-numbers (header-refusal s .number) → SoundOr row-less (header-refusal s .number)
+    first (inl e) = inl e
+    first (inr g) = inr (within [] header-numbers (21 ∷ []) (header-refusal s .number) g)
+
+    second : (b : Bool) → SoundOr row-less (refuse-if b 21 .number)
+    second true = inr refl
+    second false = inl refl
 
 -- the paper's number of the answer
 answer-number : (r : Refusal) → paper-checked (checked r) .number ≡ r .number
@@ -147,22 +162,20 @@ module _ (s : Bytes) (rows : List Row) where
   unfolding earlier
   open-is e = number-is ∙ rw e
 
-  open-ranged : list-refusal s (length rows) .number ≡ 0 → Ranged the-answer
+  open-ranged : list-refusal s (length rows) .number ≡ 0 → SoundOr later-numbers the-answer
   unfolding list-refusal
   open-ranged e =
       let h = earlier-none (header-refusal s) (refuse-if (ltb (length rows) (length (sections s))) 21) e in
       rw (open-is e) (file-ranged s (h .0))
 
   not-zero : (n : ℕ) → NoRows n → ¬ (n ≡ 0)
-  not-zero n (inl e) z = omega arith
-  not-zero n (inr (inl e)) z = omega arith
-  not-zero n (inr (inr e)) z = omega arith
+  unfolding any
+  not-zero n w = other-number row-less n 0 w refl
 
-  never-both : (n : ℕ) → Ranged n → ¬ NoRows n
+  never-both : (n : ℕ) → SoundOr later-numbers n → ¬ NoRows n
+  unfolding any
   never-both n (inl z) w = not-zero n w z
-  never-both n (inr z) (inl e) = omega (arith, z)
-  never-both n (inr z) (inr (inl e)) = omega (arith, z)
-  never-both n (inr z) (inr (inr e)) = omega (arith, z)
+  never-both n (inr g) w = false≢true (sym (apart later-numbers row-less n refl g) ∙ w)
 
   -- refused by 1, 2 or 21: no row is written
   pub rows-untouched : NoRows the-answer → rows-after s rows ≡ rows

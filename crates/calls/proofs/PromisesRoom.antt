@@ -1,12 +1,13 @@
 -- "21 exactly if the form is longer than the lent output or than 16,777,216 bytes." Assumes nothing.
 use mathlib.Core.Path.{_≡_, refl, sym, _∙_}
 use mathlib.Core.Bool.{Bool, true, false, not, _||_}
+use mathlib.Core.List.{List}
 use mathlib.Core.Logic.{_⊎_, inl, inr, _↔_}
-use Prim.Native.Nat.{ℕ, _-_, _<_, _≤_}
+use Prim.Native.Nat.{ℕ, _-_, _<_}
 use native.Mathlib.Omega.{arith}
 use lib.Dec.{eqb, ltb}
 use lib.ListN.{length}
-use borrow.Author.Tests.{eqb-true, ne-eqb, ltb-true, lt-ltb}
+use borrow.Author.Tests.{eqb-true, ltb-true, lt-ltb}
 use Rattle.page.specs.Bytes.{Bytes, pick, all}
 use Rattle.page.specs.Lines.{allowed}
 use Rattle.page.specs.Head.{latinOf}
@@ -14,11 +15,13 @@ use Rattle.page.specs.Tables.{column-at}
 use Rattle.page.specs.Records.{table-of}
 use Rattle.page.specs.Model.{modelOf, datum-at}
 use Rattle.page.specs.Answers.{earlier, refuse-if, written, paper-written}
-use Rattle.page.specs.File.{limit, header-refusal, file-refusal}
+use Rattle.page.specs.File.{limit, any, file-refusal}
 use Rattle.page.specs.Reading.{section-at}
 use Rattle.page.specs.Writing.{put-refusal, putOf, write-form, writeOf, strip-form, stripOf, empty-datum, fill-place, fill-refusal, fill-form, fillOf}
+use Rattle.page.specs.Refusals.{file-numbers, gives, SoundOr}
 use Rattle.page.specs.declared.Refusal.{Refusal}
-use Rattle.calls.proofs.PromisesListing.{header-told, file-ranged}
+use Rattle.laws.proofs.Numbers.{other-number}
+use Rattle.calls.proofs.PromisesListing.{file-told}
 
 -- longer than the room, or than a file may be
 abbrev pub TooLong : Bytes → ℕ → Type 0
@@ -72,10 +75,6 @@ module _ (r : Refusal) (never : ¬ (r .number ≡ 21)) (form : Bytes) (room : �
 
 -- what is asked before the room never gives 21
 
-refused-first : (s : Bytes) (n : ℕ) → header-refusal s .number ≡ n → ¬ (n ≡ 0) → ¬ (n ≡ 21) → ¬ (file-refusal s .number ≡ 21)
-unfolding file-refusal earlier
-refused-first s n h z w e = w (rw (h, ne-eqb n 0 z) at e)
-
 pub earlier-never : (a b : Refusal) → ¬ (a .number ≡ 21) → ¬ (b .number ≡ 21) → ¬ (earlier a b .number ≡ 21)
 unfolding earlier
 earlier-never a b x y = by (eqb (a .number) 0)
@@ -89,17 +88,14 @@ unfolding refuse-if
 if-never true v n e = n e
 if-never false v n e = omega arith
 
+-- a number that is 0 or one of a list is not 21, if the list lacks it
+pub told-never : (ns : List ℕ) → gives ns 21 ≡ false → {n : ℕ} → SoundOr ns n → ¬ (n ≡ 21)
+told-never ns l (inl z) e = omega arith
+told-never ns l {n} (inr g) e = other-number ns n 21 g l e
+
 pub file-never : (s : Bytes) → ¬ (file-refusal s .number ≡ 21)
-file-never s e = by (header-told s)
-  where
-    by : (header-refusal s .number ≡ 0) ⊎ ((header-refusal s .number ≡ 1) ⊎ (header-refusal s .number ≡ 2)) → ⊥
-    by (inl h) = ranged (file-ranged s h)
-      where
-        ranged : (file-refusal s .number ≡ 0) ⊎ ((3 ≤ file-refusal s .number) × (file-refusal s .number ≤ 20)) → ⊥
-        ranged (inl z) = omega arith
-        ranged (inr z) = omega (arith, z)
-    by (inr (inl h)) = refused-first s 1 h (λ (z : 1 ≡ 0). omega arith) (λ (z : 1 ≡ 21). omega arith) e
-    by (inr (inr h)) = refused-first s 2 h (λ (z : 2 ≡ 0). omega arith) (λ (z : 2 ≡ 21). omega arith) e
+unfolding any
+file-never s = told-never file-numbers refl (file-told s)
 
 fill-never : (s : Bytes) (i j f : ℕ) (t : Bytes) → ¬ (fill-refusal s i j f t .number ≡ 21)
 unfolding fill-refusal

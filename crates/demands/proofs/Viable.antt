@@ -26,7 +26,7 @@ use Rattle.page.specs.declared.Step.the-variants as S
 use Rattle.page.specs.declared.Outcome.{Outcome}
 use Rattle.page.proofs.TableLaws.{listed, each-table}
 use Rattle.demands.specs.Viable.{Viable, SectionPlace, breaks, lacks}
-use Rattle.grammar.proofs.Ranged.{laws-ranged}
+use Rattle.grammar.proofs.Ranged.{laws-some}
 use Rattle.grammar.proofs.Steps.{go-exactly, stop-exactly, leads-go}
 use Rattle.grammar.proofs.Accepts.{denotes-accepted, accepted-denotes}
 use Rattle.grammar.proofs.Refuses.{reach-run, refused-denotes-nothing}
@@ -187,7 +187,7 @@ module _ (latin : Bool) where
       by : ((q : Phase) → run latin q (suc n) (ls ++ more) .verdict ≡ 0 → (r : Phase) × Reaches latin q ls r) → (s : Step) → step latin p l ≡ s →
           continue s (table-in p) (suc n) (λ q. run latin q (suc n) (ls ++ more)) .verdict ≡ 0 → (r : Phase) × Reaches latin p (l ∷ ls) r
       by ih (S.Go q) h e = let y = ih q e in (y .0, move (go-exactly latin l p q .0 h) (y .1))
-      by ih (S.Stop v) h e = let z = laws-ranged latin p l v (stop-exactly latin l p v .0 h) in absurd (let y : ⊥ = omega arith in y)
+      by ih (S.Stop v) h e = absurd (laws-some latin p l v (stop-exactly latin l p v .0 h) e)
 
   viable-reach : (ls : List Bytes) → Viable latin ls → (q : Phase) × Reaches latin P.Tbl ls q
   unfolding outcome

@@ -21,7 +21,7 @@ use Rattle.page.specs.declared.Step.the-variants as S
 use Rattle.page.specs.declared.Outcome.{Outcome}
 use Rattle.page.proofs.TableLaws.{one-markable, may-mark-within}
 use Rattle.grammar.proofs.Steps.{go-exactly, stop-exactly, leads-go}
-use Rattle.grammar.proofs.Ranged.{laws-ranged}
+use Rattle.grammar.proofs.Ranged.{laws-some}
 
 -- the machine's one mark stands for the grammar's list: no table has a second column that may be marked
 abbrev pub Fits : Phase → Type 0
@@ -90,7 +90,7 @@ module _ (latin : Bool) where
       by : ((q : Phase) → Fits q → run latin q (suc n) ls .verdict ≡ 0 → Rest latin q ls) → (s : Step) → step latin p l ≡ s →
           continue s (table-in p) (suc n) (λ q. run latin q (suc n) ls) .verdict ≡ 0 → Rest latin p (l ∷ ls)
       by ih (S.Go q) h e = let g = go-exactly latin l p q .0 h in back ls g f (ih q (fits-on g f) e)
-      by ih (S.Stop v) h e = let z = laws-ranged latin p l v (stop-exactly latin l p v .0 h) in absurd (let y : ⊥ = omega arith in y)
+      by ih (S.Stop v) h e = absurd (laws-some latin p l v (stop-exactly latin l p v .0 h) e)
 
 -- a sound section's answer
 abbrev pub accepted : ℕ → ℕ → Outcome

@@ -1,25 +1,27 @@
--- The machine refuses a section exactly as the order of refusals says: each number 4 to 16, at its line, with the table's number.
+-- The machine refuses a section exactly as the order of refusals says: each number at its line, with the table's number.
 use mathlib.Core.Path.{_≡_, refl, ap, sym, _∙_}
 use mathlib.Core.Bool.{Bool, true, false, false≢true}
 use mathlib.Core.List.{List, [], _∷_, _++_, append-nil}
 use mathlib.Core.Logic.{_⊎_, inl, inr, _↔_}
-use Prim.Native.Nat.{ℕ, suc, _+_, _≤_}
+use Prim.Native.Nat.{ℕ, suc, _+_}
 use native.Mathlib.Omega.{arith}
 use native.Mathlib.Nat.{zero-add}
 use lib.ListN.{length}
 use Rattle.page.specs.Bytes.{Bytes}
 use Rattle.page.specs.Section.{step, continue, finish, run, outcome, refused, table-in}
 use Rattle.page.specs.Records.{Record}
+use Rattle.page.specs.File.{any}
 use Rattle.page.specs.Grammar.{Denotes}
-use Rattle.page.specs.Refusals.{FirstBroken, laws, Leads, Reaches, stay, move, is-ended, Refused, at-line, unfinished}
+use Rattle.page.specs.Refusals.{FirstBroken, laws, Leads, Reaches, stay, move, is-ended, Refused, at-line, unfinished, section-numbers, OneOf, SoundOr}
 use Rattle.page.specs.declared.Phase.{Phase}
 use Rattle.page.specs.declared.Phase.the-variants as P
 use Rattle.page.specs.declared.Step.{Step}
 use Rattle.page.specs.declared.Step.the-variants as S
 use Rattle.page.specs.declared.Outcome.{Outcome}
 use Rattle.grammar.proofs.Steps.{go-exactly, stop-exactly, leads-go}
-use Rattle.grammar.proofs.Ranged.{laws-ranged}
+use Rattle.grammar.proofs.Ranged.{laws-ranged, laws-some}
 use Rattle.grammar.proofs.Accepts.{denotes-accepted}
+use Rattle.laws.proofs.Numbers.{other-number}
 
 -- refused from a phase on, j lines further
 data From (latin : Bool) (p : Phase) (ls : List Bytes) (k v j : ℕ) : Type 0 where
@@ -84,10 +86,11 @@ module _ (latin : Bool) where
       let z : run latin P.Tbl 0 (ls ++ []) ≡ refused k v n = reach-run 0 [] g ∙ finish-six r (length ls + 0) c ∙ rw (a, f, b) (ap (refused (table-in r) 6) (omega arith)) in
       rw append-nil at z
 
-  -- the number of a refusal is one of 4 to 16
-  pub refused-ranged : (ls : List Bytes) (k v n : ℕ) → Refused latin ls k v n → (4 ≤ v) × (v ≤ 16)
+  -- the number of a refusal is a section's
+  pub refused-ranged : (ls : List Bytes) (k v n : ℕ) → Refused latin ls k v n → OneOf section-numbers v
+  unfolding any
   refused-ranged ls k v n (at-line before after l q s g f a b) = laws-ranged latin q l v f
-  refused-ranged ls k v n (unfinished q g c a f b) = (omega arith, omega arith)
+  refused-ranged ls k v n (unfinished q g c a f b) = rw f
 
   -- either the verdict is 0, or the outcome is a refusal
   settled : (p : Phase) (m : ℕ) (ls : List Bytes) → (run latin p m ls .verdict ≡ 0) ⊎ ((k : ℕ) × (v : ℕ) × (n : ℕ) × (¬ (v ≡ 0)) × (run latin p m ls ≡ refused k v n))
@@ -103,12 +106,12 @@ module _ (latin : Bool) where
           (continue s (table-in p) (suc m) (λ q. run latin q (suc m) ls) .verdict ≡ 0) ⊎
           ((k : ℕ) × (v : ℕ) × (n : ℕ) × (¬ (v ≡ 0)) × (continue s (table-in p) (suc m) (λ q. run latin q (suc m) ls) ≡ refused k v n))
       by ih (S.Go q) f = ih q
-      by ih (S.Stop w) f = inr (table-in p, w, suc m, (λ e. let z = laws-ranged latin p l w (stop-exactly latin l p w .0 f) in omega arith), refl)
+      by ih (S.Stop w) f = inr (table-in p, w, suc m, laws-some latin p l w (stop-exactly latin l p w .0 f), refl)
 
 -- a section has table number k, verdict v (not 0) and line n exactly if it is refused so by the order of refusals
 pub refuses-exactly : (latin : Bool) (ls : List Bytes) (k v n : ℕ) → ((outcome latin ls ≡ refused k v n) × ¬ (v ≡ 0)) ↔ Refused latin ls k v n
-unfolding outcome
-refuses-exactly latin ls k v n = (there, λ r. (from latin ls k v n r, λ e. let z = refused-ranged latin ls k v n r in omega arith))
+unfolding outcome any
+refuses-exactly latin ls k v n = (there, λ r. (from latin ls k v n r, other-number section-numbers v 0 (refused-ranged latin ls k v n r) refl))
   where
     named : (j : ℕ) → n ≡ j → From latin P.Tbl ls k v j → Refused latin ls k v n
     named j e (here before after l q s g f a b) = at-line before after l q s g f a (e ∙ b)
@@ -117,7 +120,7 @@ refuses-exactly latin ls k v n = (there, λ r. (from latin ls k v n r, λ e. let
     there : (run latin P.Tbl 0 ls ≡ refused k v n) × ¬ (v ≡ 0) → Refused latin ls k v n
     there x = let y = into latin P.Tbl 0 ls k v n (x .1) (x .0) in named (y .0) (let z = y .1 in omega arith) (y .2)
 
--- every section is accepted with verdict 0, or refused by one of 4 to 16
+-- every section is accepted with verdict 0, or refused
 pub section-settled : (latin : Bool) (ls : List Bytes) → (outcome latin ls .verdict ≡ 0) ⊎ ((k : ℕ) × (v : ℕ) × (n : ℕ) × (outcome latin ls ≡ refused k v n) × Refused latin ls k v n)
 unfolding outcome
 section-settled latin ls = by (settled latin P.Tbl 0 ls)
@@ -127,12 +130,12 @@ section-settled latin ls = by (settled latin P.Tbl 0 ls)
     by (inl e) = inl e
     by (inr x) = inr (x .0, x .1, x .2, x .4, refuses-exactly latin ls (x .0) (x .1) (x .2) .0 (x .4, x .3))
 
--- a section's verdict is 0 or one of 4 to 16
-pub verdict-ranged : (latin : Bool) (ls : List Bytes) → (outcome latin ls .verdict ≡ 0) ⊎ ((4 ≤ outcome latin ls .verdict) × (outcome latin ls .verdict ≤ 16))
+-- a section's verdict is 0 or one of its numbers
+pub verdict-ranged : (latin : Bool) (ls : List Bytes) → SoundOr section-numbers (outcome latin ls .verdict)
 verdict-ranged latin ls = by (section-settled latin ls)
   where
     by : (outcome latin ls .verdict ≡ 0) ⊎ ((k : ℕ) × (v : ℕ) × (n : ℕ) × (outcome latin ls ≡ refused k v n) × Refused latin ls k v n) →
-        (outcome latin ls .verdict ≡ 0) ⊎ ((4 ≤ outcome latin ls .verdict) × (outcome latin ls .verdict ≤ 16))
+        SoundOr section-numbers (outcome latin ls .verdict)
     by (inl e) = inl e
     by (inr x) = inr (rw (x .3) (refused-ranged latin ls (x .0) (x .1) (x .2) (x .4)))
 

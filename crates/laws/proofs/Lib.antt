@@ -5,3 +5,4 @@ pub mod Lists
 pub mod Sections
 pub mod Stages
 pub mod Earlier
+pub mod Numbers

@@ -15,6 +15,7 @@ use Rattle.page.specs.Marks.{remarkOf, may-mark}
 use Rattle.page.specs.Section.{record-text, table-in}
 use Rattle.page.specs.Records.{Datum, words, Record}
 use Rattle.page.specs.Grammar.{fields-of, Quiet, TblLine, AtrLine, FrmLine, MarkLine, RecLine, EndLine, Formats, Holds, Values, Breaks, Rises}
+use Rattle.page.specs.File.{any}
 use Rattle.page.specs.declared.Number.the-variants as N
 use Rattle.page.specs.declared.Owner.the-variants as O
 use Rattle.page.specs.declared.Remark.{Remark}
@@ -139,3 +140,33 @@ pub data Refused (latin : Bool) (ls : List Bytes) (k v n : ℕ) : Type 0 where
   at-line : (before after : List Bytes) (l : Bytes) (q : Phase) → ls ≡ before ++ (l ∷ after) → Reaches latin P.Tbl before q →
       FirstBroken (laws latin q l) v → k ≡ table-in q → n ≡ suc (length before) → Refused latin ls k v n
   unfinished : (q : Phase) → Reaches latin P.Tbl ls q → is-ended q ≡ false → k ≡ table-in q → v ≡ 6 → n ≡ length ls → Refused latin ls k v n
+
+-- Which of the numbers given back are a section's, and which the file's: listed here, once. What theorems say of a number they say by these
+-- lists, and what sets two numbers apart is computed from them.
+
+-- a section's: the numbers of the laws above
+abbrev pub section-numbers : List ℕ
+section-numbers = 4 ∷ 5 ∷ 6 ∷ 7 ∷ 8 ∷ 9 ∷ 10 ∷ 11 ∷ 12 ∷ 13 ∷ 14 ∷ 15 ∷ 16 ∷ []
+
+-- "After 1 or 2 no section is read."
+abbrev pub header-numbers : List ℕ
+header-numbers = 1 ∷ 2 ∷ []
+
+-- what else the file gives: "3, the first unsound section in file order, 17, 18, 19, 20"; "17 to 20 are the file's, never a section's"
+abbrev pub later-numbers : List ℕ
+later-numbers = 3 ∷ (section-numbers ++ (17 ∷ 18 ∷ 19 ∷ 20 ∷ []))
+
+-- "The file gives the first of 1, 2, 3, the first unsound section in file order, 17, 18, 19, 20"
+abbrev pub file-numbers : List ℕ
+file-numbers = header-numbers ++ later-numbers
+
+-- whether v is one of these
+abbrev pub gives : List ℕ → ℕ → Bool
+gives ns v = any (eqb v) ns
+
+abbrev pub OneOf : List ℕ → ℕ → Type 0
+OneOf ns v = gives ns v ≡ true
+
+-- 0, "sound", or one of these
+abbrev pub SoundOr : List ℕ → ℕ → Type 0
+SoundOr ns v = (v ≡ 0) ⊎ OneOf ns v

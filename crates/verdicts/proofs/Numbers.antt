@@ -1,5 +1,6 @@
 -- Each number of a file's answer, for itself: given exactly if its condition holds at the place, and that of no number before it.
 use mathlib.Core.Path.{_≡_, refl}
+use mathlib.Core.Bool.{false}
 use mathlib.Core.List.{List, []}
 use mathlib.Core.Logic.{_↔_}
 use Prim.Native.Nat.{ℕ, suc, _≤_, _<_}
@@ -9,9 +10,9 @@ use Rattle.page.specs.Bytes.{Bytes}
 use Rattle.page.specs.Cut.{Section, sections, header-lines, trailer-lines}
 use Rattle.page.specs.Head.{latinOf}
 use Rattle.page.specs.Answers.{refusal}
-use Rattle.page.specs.File.{limit, by-primary, by-second, Filed, filedOf, file-refusal}
+use Rattle.page.specs.File.{limit, any, by-primary, by-second, Filed, filedOf, file-refusal}
 use Rattle.page.specs.Model.{Content}
-use Rattle.page.specs.Refusals.{Refused}
+use Rattle.page.specs.Refusals.{Refused, section-numbers, gives, OneOf}
 use Rattle.page.specs.Rules.{SoundHeader, SoundTrailer, Tables}
 use Rattle.verdicts.specs.First.{First, NoneOf}
 use Rattle.verdicts.specs.Headers.{HeaderFault}
@@ -19,6 +20,7 @@ use Rattle.verdicts.specs.Trailers.{TrailerFault}
 use Rattle.verdicts.specs.Files.{Unsound, TableAgain, KeyAgain, Lost, FileRefused, too-long, header, trailer, section, table-again, primary-again, second-again, reference-lost}
 use Rattle.grammar.proofs.Refuses.{refused-ranged}
 use Rattle.verdicts.proofs.Files.{refuses-file-exactly}
+use Rattle.laws.proofs.Numbers.{other-number}
 
 -- "the first of 1, 2, 3": nothing before the sections is at fault
 pub record Opens (s : Bytes) : Type 0 where
@@ -35,21 +37,20 @@ module _ (s : Bytes) where
   given : (v i n : ℕ) → ¬ (v ≡ 0) → {A : Type 0} → (FileRefused s v i n → A) → (A → FileRefused s v i n) → file-refusal s ≡ refusal v i n ↔ A
   given v i n z f g = (λ e. f (refuses-file-exactly s v i n .0 (e, z)), λ a. refuses-file-exactly s v i n .1 (g a) .0)
 
-  no-section : {ls : List Bytes} {k v n : ℕ} → 16 < v → Refused (latinOf s) ls k v n → ⊥
-  no-section {ls} {k} {v} {n} h r = let z = refused-ranged (latinOf s) ls k v n r in omega arith
-
-  early-section : {ls : List Bytes} {k v n : ℕ} → v < 4 → Refused (latinOf s) ls k v n → ⊥
-  early-section {ls} {k} {v} {n} h r = let z = refused-ranged (latinOf s) ls k v n r in omega arith
+  -- no section is refused by a number that is none of a section's
+  no-section : {ls : List Bytes} {k v n : ℕ} → gives section-numbers v ≡ false → Refused (latinOf s) ls k v n → ⊥
+  no-section {ls} {k} {v} {n} h r = other-number section-numbers v v (refused-ranged (latinOf s) ls k v n r) h refl
 
   -- 1: "file over 16,777,216 bytes", with no place
   pub exactly-1 : (i n : ℕ) → file-refusal s ≡ refusal 1 i n ↔ ((limit < length s) × (i ≡ 0) × (n ≡ 0))
+  unfolding any
   exactly-1 i n = given 1 i n (λ z. omega arith) into back
     where
       into : FileRefused s 1 i n → (limit < length s) × (i ≡ 0) × (n ≡ 0)
       into (too-long l a b c) = (l, b, c)
       into (header l h a b) = absurd (let z : ⊥ = omega arith in z)
       into (trailer l h t a b) = absurd (let z : ⊥ = omega arith in z)
-      into (section l h t x k f r a) = absurd (early-section (omega arith) r)
+      into (section l h t x k f r a) = absurd (no-section refl r)
       into (table-again cs l h t d c f a b w) = absurd (let z : ⊥ = omega arith in z)
       into (primary-again cs l h t d m e f a b w) = absurd (let z : ⊥ = omega arith in z)
       into (second-again cs l h t d m p e f a b w) = absurd (let z : ⊥ = omega arith in z)
@@ -60,13 +61,14 @@ module _ (s : Bytes) where
 
   -- 2: "header breaks a rule"
   pub exactly-2 : (i n : ℕ) → file-refusal s ≡ refusal 2 i n ↔ ((length s ≤ limit) × HeaderFault (header-lines s) n × (i ≡ 0))
+  unfolding any
   exactly-2 i n = given 2 i n (λ z. omega arith) into back
     where
       into : FileRefused s 2 i n → (length s ≤ limit) × HeaderFault (header-lines s) n × (i ≡ 0)
       into (too-long l a b c) = absurd (let z : ⊥ = omega arith in z)
       into (header l h a b) = (l, h, b)
       into (trailer l h t a b) = absurd (let z : ⊥ = omega arith in z)
-      into (section l h t x k f r a) = absurd (early-section (omega arith) r)
+      into (section l h t x k f r a) = absurd (no-section refl r)
       into (table-again cs l h t d c f a b w) = absurd (let z : ⊥ = omega arith in z)
       into (primary-again cs l h t d m e f a b w) = absurd (let z : ⊥ = omega arith in z)
       into (second-again cs l h t d m p e f a b w) = absurd (let z : ⊥ = omega arith in z)
@@ -77,13 +79,14 @@ module _ (s : Bytes) where
 
   -- 3: "trailer breaks a rule"
   pub exactly-3 : (i n : ℕ) → file-refusal s ≡ refusal 3 i n ↔ ((length s ≤ limit) × SoundHeader (header-lines s) × TrailerFault (length (sections s)) (trailer-lines s) n × (i ≡ 0))
+  unfolding any
   exactly-3 i n = given 3 i n (λ z. omega arith) into back
     where
       into : FileRefused s 3 i n → (length s ≤ limit) × SoundHeader (header-lines s) × TrailerFault (length (sections s)) (trailer-lines s) n × (i ≡ 0)
       into (too-long l a b c) = absurd (let z : ⊥ = omega arith in z)
       into (header l h a b) = absurd (let z : ⊥ = omega arith in z)
       into (trailer l h t a b) = (l, h, t, b)
-      into (section l h t x k f r a) = absurd (early-section (omega arith) r)
+      into (section l h t x k f r a) = absurd (no-section refl r)
       into (table-again cs l h t d c f a b w) = absurd (let z : ⊥ = omega arith in z)
       into (primary-again cs l h t d m e f a b w) = absurd (let z : ⊥ = omega arith in z)
       into (second-again cs l h t d m p e f a b w) = absurd (let z : ⊥ = omega arith in z)
@@ -92,32 +95,37 @@ module _ (s : Bytes) where
       back : (length s ≤ limit) × SoundHeader (header-lines s) × TrailerFault (length (sections s)) (trailer-lines s) n × (i ≡ 0) → FileRefused s 3 i n
       back x = trailer (x .0) (x .1) (x .2) refl (x .3)
 
-  -- 4 to 16: "the first unsound section in file order", by its own verdict and line
-  pub exactly-section : (v i n : ℕ) → 4 ≤ v → v ≤ 16 → file-refusal s ≡ refusal v i n ↔ (Opens s × ((x : Section) × (k : ℕ) × (f : First (Unsound (latinOf s)) [] (sections s) x) × Refused (latinOf s) (x .lines) k v n × (i ≡ suc (length (f .before)))))
-  exactly-section v i n lo hi = given v i n (λ z. omega arith) into back
+  -- a section's numbers: "the first unsound section in file order", by its own verdict and line
+  pub exactly-section : (v i n : ℕ) → OneOf section-numbers v → file-refusal s ≡ refusal v i n ↔ (Opens s × ((x : Section) × (k : ℕ) × (f : First (Unsound (latinOf s)) [] (sections s) x) × Refused (latinOf s) (x .lines) k v n × (i ≡ suc (length (f .before)))))
+  unfolding any
+  exactly-section v i n g = given v i n (other 0 refl) into back
     where
+      other : (w : ℕ) → gives section-numbers w ≡ false → ¬ (v ≡ w)
+      other w = other-number section-numbers v w g
+
       into : FileRefused s v i n → Opens s × ((x : Section) × (k : ℕ) × (f : First (Unsound (latinOf s)) [] (sections s) x) × Refused (latinOf s) (x .lines) k v n × (i ≡ suc (length (f .before))))
-      into (too-long l a b c) = absurd (let z : ⊥ = omega arith in z)
-      into (header l h a b) = absurd (let z : ⊥ = omega arith in z)
-      into (trailer l h t a b) = absurd (let z : ⊥ = omega arith in z)
+      into (too-long l a b c) = absurd (other 1 refl a)
+      into (header l h a b) = absurd (other 2 refl a)
+      into (trailer l h t a b) = absurd (other 3 refl a)
       into (section l h t x k f r a) = (record { size = l; header = h; trailer = t }, (x, k, f, r, a))
-      into (table-again cs l h t d c f a b w) = absurd (let z : ⊥ = omega arith in z)
-      into (primary-again cs l h t d m e f a b w) = absurd (let z : ⊥ = omega arith in z)
-      into (second-again cs l h t d m p e f a b w) = absurd (let z : ⊥ = omega arith in z)
-      into (reference-lost cs l h t d m p q e f a b w) = absurd (let z : ⊥ = omega arith in z)
+      into (table-again cs l h t d c f a b w) = absurd (other 17 refl a)
+      into (primary-again cs l h t d m e f a b w) = absurd (other 18 refl a)
+      into (second-again cs l h t d m p e f a b w) = absurd (other 19 refl a)
+      into (reference-lost cs l h t d m p q e f a b w) = absurd (other 20 refl a)
 
       back : Opens s × ((x : Section) × (k : ℕ) × (f : First (Unsound (latinOf s)) [] (sections s) x) × Refused (latinOf s) (x .lines) k v n × (i ≡ suc (length (f .before)))) → FileRefused s v i n
       back x = section (x .0 .size) (x .0 .header) (x .0 .trailer) (x .1 .0) (x .1 .1) (x .1 .2) (x .1 .3) (x .1 .4)
 
   -- 17: "table a second time", at the second table's line 1
   pub exactly-17 : (i n : ℕ) → file-refusal s ≡ refusal 17 i n ↔ ((cs : List Content) × Reads s cs × ((c : Content) × (f : First TableAgain [] cs c) × (i ≡ suc (length (f .before)))) × (n ≡ 1))
+  unfolding any
   exactly-17 i n = given 17 i n (λ z. omega arith) into back
     where
       into : FileRefused s 17 i n → (cs : List Content) × Reads s cs × ((c : Content) × (f : First TableAgain [] cs c) × (i ≡ suc (length (f .before)))) × (n ≡ 1)
       into (too-long l a b c) = absurd (let z : ⊥ = omega arith in z)
       into (header l h a b) = absurd (let z : ⊥ = omega arith in z)
       into (trailer l h t a b) = absurd (let z : ⊥ = omega arith in z)
-      into (section l h t x k f r a) = absurd (no-section (omega arith) r)
+      into (section l h t x k f r a) = absurd (no-section refl r)
       into (table-again cs l h t d c f a b w) = (cs, record { opens = record { size = l; header = h; trailer = t }; tables = d }, (c, f, b), w)
       into (primary-again cs l h t d m e f a b w) = absurd (let z : ⊥ = omega arith in z)
       into (second-again cs l h t d m p e f a b w) = absurd (let z : ⊥ = omega arith in z)
@@ -128,13 +136,14 @@ module _ (s : Bytes) where
 
   -- 18: "primary key met before", at the first record whose was
   pub exactly-18 : (i n : ℕ) → file-refusal s ≡ refusal 18 i n ↔ ((cs : List Content) × Reads s cs × NoneOf TableAgain [] cs × ((e : Filed) × First (KeyAgain by-primary) [] (filedOf s) e × (i ≡ e .section) × (n ≡ e .line)))
+  unfolding any
   exactly-18 i n = given 18 i n (λ z. omega arith) into back
     where
       into : FileRefused s 18 i n → (cs : List Content) × Reads s cs × NoneOf TableAgain [] cs × ((e : Filed) × First (KeyAgain by-primary) [] (filedOf s) e × (i ≡ e .section) × (n ≡ e .line))
       into (too-long l a b c) = absurd (let z : ⊥ = omega arith in z)
       into (header l h a b) = absurd (let z : ⊥ = omega arith in z)
       into (trailer l h t a b) = absurd (let z : ⊥ = omega arith in z)
-      into (section l h t x k f r a) = absurd (no-section (omega arith) r)
+      into (section l h t x k f r a) = absurd (no-section refl r)
       into (table-again cs l h t d c f a b w) = absurd (let z : ⊥ = omega arith in z)
       into (primary-again cs l h t d m e f a b w) = (cs, record { opens = record { size = l; header = h; trailer = t }; tables = d }, m, (e, f, b, w))
       into (second-again cs l h t d m p e f a b w) = absurd (let z : ⊥ = omega arith in z)
@@ -145,13 +154,14 @@ module _ (s : Bytes) where
 
   -- 19: "second key met before", at the first record whose was
   pub exactly-19 : (i n : ℕ) → file-refusal s ≡ refusal 19 i n ↔ ((cs : List Content) × Reads s cs × NoneOf TableAgain [] cs × NoneOf (KeyAgain by-primary) [] (filedOf s) × ((e : Filed) × First (KeyAgain by-second) [] (filedOf s) e × (i ≡ e .section) × (n ≡ e .line)))
+  unfolding any
   exactly-19 i n = given 19 i n (λ z. omega arith) into back
     where
       into : FileRefused s 19 i n → (cs : List Content) × Reads s cs × NoneOf TableAgain [] cs × NoneOf (KeyAgain by-primary) [] (filedOf s) × ((e : Filed) × First (KeyAgain by-second) [] (filedOf s) e × (i ≡ e .section) × (n ≡ e .line))
       into (too-long l a b c) = absurd (let z : ⊥ = omega arith in z)
       into (header l h a b) = absurd (let z : ⊥ = omega arith in z)
       into (trailer l h t a b) = absurd (let z : ⊥ = omega arith in z)
-      into (section l h t x k f r a) = absurd (no-section (omega arith) r)
+      into (section l h t x k f r a) = absurd (no-section refl r)
       into (table-again cs l h t d c f a b w) = absurd (let z : ⊥ = omega arith in z)
       into (primary-again cs l h t d m e f a b w) = absurd (let z : ⊥ = omega arith in z)
       into (second-again cs l h t d m p e f a b w) = (cs, record { opens = record { size = l; header = h; trailer = t }; tables = d }, m, p, (e, f, b, w))
@@ -162,13 +172,14 @@ module _ (s : Bytes) where
 
   -- 20: "a reference finds no record", at the first record of which one does not
   pub exactly-20 : (i n : ℕ) → file-refusal s ≡ refusal 20 i n ↔ ((cs : List Content) × Reads s cs × NoneOf TableAgain [] cs × NoneOf (KeyAgain by-primary) [] (filedOf s) × NoneOf (KeyAgain by-second) [] (filedOf s) × ((e : Filed) × First (Lost (filedOf s)) [] (filedOf s) e × (i ≡ e .section) × (n ≡ e .line)))
+  unfolding any
   exactly-20 i n = given 20 i n (λ z. omega arith) into back
     where
       into : FileRefused s 20 i n → (cs : List Content) × Reads s cs × NoneOf TableAgain [] cs × NoneOf (KeyAgain by-primary) [] (filedOf s) × NoneOf (KeyAgain by-second) [] (filedOf s) × ((e : Filed) × First (Lost (filedOf s)) [] (filedOf s) e × (i ≡ e .section) × (n ≡ e .line))
       into (too-long l a b c) = absurd (let z : ⊥ = omega arith in z)
       into (header l h a b) = absurd (let z : ⊥ = omega arith in z)
       into (trailer l h t a b) = absurd (let z : ⊥ = omega arith in z)
-      into (section l h t x k f r a) = absurd (no-section (omega arith) r)
+      into (section l h t x k f r a) = absurd (no-section refl r)
       into (table-again cs l h t d c f a b w) = absurd (let z : ⊥ = omega arith in z)
       into (primary-again cs l h t d m e f a b w) = absurd (let z : ⊥ = omega arith in z)
       into (second-again cs l h t d m p e f a b w) = absurd (let z : ⊥ = omega arith in z)

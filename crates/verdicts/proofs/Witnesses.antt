@@ -13,6 +13,7 @@ use Rattle.page.specs.Model.{Content, modelOf}
 use Rattle.page.specs.Open.{open-all}
 use Rattle.page.specs.Cases.{versions, day-types, point-types, links, head}
 use Rattle.page.specs.Rules.{SoundFile}
+use Rattle.page.specs.Refusals.{file-numbers}
 use Rattle.page.specs.declared.Owner.the-variants as O
 use Rattle.page.specs.declared.Refusal.{Refusal}
 use Rattle.verdicts.proofs.Files.{accepted-says}
@@ -60,10 +61,15 @@ answers =
     refusal 2 0 0 ∷ refusal 3 0 1 ∷ refusal 4 1 4 ∷ refusal 5 1 4 ∷ refusal 6 1 4 ∷ refusal 7 1 1 ∷ refusal 8 1 2 ∷ refusal 9 1 3 ∷ refusal 10 1 4 ∷ refusal 11 1 4 ∷ refusal 12 1 4 ∷
     refusal 13 1 4 ∷ refusal 14 1 4 ∷ refusal 15 1 4 ∷ refusal 16 1 5 ∷ refusal 17 2 1 ∷ refusal 18 1 5 ∷ refusal 19 2 5 ∷ refusal 20 1 4 ∷ []
 
--- each number from 2 to 20 is some file's answer
+-- they are the answers to these files
 pub each-number : map file-refusal faulty ≡ answers
 unfolding open-all file version faulty answers versions day-types point-types links head
 each-number = refl
+
+-- with 1 they are all numbers that the file gives: no number is listed that no file gets
+pub each-listed : 1 ∷ map (λ (r : Refusal). r .number) answers ≡ file-numbers
+unfolding answers
+each-listed = refl
 
 -- not every file is refused
 pub two-tables-accepted : file-refusal two-tables .number ≡ 0
