@@ -199,12 +199,17 @@ impl Comparison<'_> {
         let call = Call("text", at);
         let run = move |library: &dyn Library, out: &mut [u8]| library.text(file, at, out);
         match value {
-            Ok(Value::Text { span, .. }) => {
+            Ok(Value::Text { span, owner }) => {
                 let ample = span.to.saturating_sub(span.from) + 2;
                 let text = lend_all_ways(self.pair, self.tally, &call, ample, &run)?;
                 law(
                     text == Ok(own_bytes(span.of(file))),
                     &format_args!("{call}: the span's bytes, doubled quotes undone"),
+                )?;
+                let told = run(self.pair.subject, &mut room(ample));
+                law(
+                    told.map(|text| text.owner) == Ok(owner),
+                    &format_args!("{call}: whose it is, as its value says"),
                 )?;
             }
             _ => {

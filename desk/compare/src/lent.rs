@@ -3,7 +3,7 @@
 
 use std::fmt::{Debug, Display};
 
-use vdv::{number, Refusal, Row};
+use vdv::{number, Copied, Refusal, Row};
 
 use crate::difference::{law, same, Difference};
 use crate::tally::Tally;
@@ -50,16 +50,33 @@ fn is_kept<T: Before>(room: &[T], from: usize) -> bool {
         .all(|(place, held)| *held == T::before(place))
 }
 
+/// What such a call answers: how much it put out, of a text also whose it is.
+pub trait Put: Copy + PartialEq + Debug {
+    fn length(self) -> usize;
+}
+
+impl Put for usize {
+    fn length(self) -> usize {
+        self
+    }
+}
+
+impl Put for Copied {
+    fn length(self) -> usize {
+        self.length
+    }
+}
+
 /// A call that puts something into lent room.
-pub type Call<'c, T> = dyn Fn(&dyn Library, &mut [T]) -> Result<usize, Refusal> + 'c;
+pub type Call<'c, T, A = usize> = dyn Fn(&dyn Library, &mut [T]) -> Result<A, Refusal> + 'c;
 
 /// The answer of both to one call, and what they put out.
-pub fn lend<T: Before>(
+pub fn lend<T: Before, A: Put>(
     pair: Pair<'_>,
     tally: &mut Tally,
     call: &dyn Display,
     length: usize,
-    run: &Call<'_, T>,
+    run: &Call<'_, T, A>,
 ) -> Result<Result<Vec<T>, Refusal>, Difference> {
     let call = &format_args!("{call} lent {length}");
     let mut room = room::<T>(length);
@@ -69,7 +86,7 @@ pub fn lend<T: Before>(
     if room != other {
         return Err(parted(call, &room, &other));
     }
-    let written = answer.unwrap_or(0);
+    let written = answer.map_or(0, A::length);
     law(
         written <= length && is_kept(&room, written),
         &format_args!("{call}: what is not written keeps its values"),
@@ -92,12 +109,12 @@ fn parted<T: Before>(call: &dyn Display, subject: &[T], baseline: &[T]) -> Diffe
 
 /// The call with ample room, with just enough, and with too little: "21
 /// exactly if the form is longer than the lent output".
-pub fn lend_all_ways<T: Before>(
+pub fn lend_all_ways<T: Before, A: Put>(
     pair: Pair<'_>,
     tally: &mut Tally,
     call: &dyn Display,
     ample: usize,
-    run: &Call<'_, T>,
+    run: &Call<'_, T, A>,
 ) -> Result<Result<Vec<T>, Refusal>, Difference> {
     let answer = lend(pair, tally, call, ample, run)?;
     let Ok(put) = &answer else {

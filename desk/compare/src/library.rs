@@ -1,7 +1,7 @@
 //! The compared calls as one trait, so that the proved library and the
 //! independent reader stand behind the same ones.
 
-use vdv::{cells_of, listing_of, number, At, Header, Listing, Refusal, Row, Value};
+use vdv::{cells_of, listing_of, number, At, Copied, Header, Listing, Refusal, Row, Value};
 
 /// One implementation. No call keeps anything of the file; what is lent keeps
 /// its values wherever nothing is promised to be written.
@@ -26,9 +26,9 @@ pub trait Library: Sync {
     /// section's verdict, 24 for the record or field."
     fn value(&self, file: &[u8], at: At) -> Result<Value, Refusal>;
 
-    /// A text's own bytes, doubled quotes undone: refused as its value is,
-    /// then 11 for a number, then 21.
-    fn text(&self, file: &[u8], at: At, out: &mut [u8]) -> Result<usize, Refusal>;
+    /// A text's own bytes, doubled quotes undone, and whose it is: refused as
+    /// its value is, then 11 for a number, then 21.
+    fn text(&self, file: &[u8], at: At, out: &mut [u8]) -> Result<Copied, Refusal>;
 
     /// Every value of a section, three cells each: refused as its values are,
     /// then 21.

@@ -1,6 +1,6 @@
 //! The proved library behind the trait.
 
-use vdv::{At, Header, Refusal, Row, Value};
+use vdv::{At, Copied, Header, Refusal, Row, Value};
 
 use crate::Library;
 
@@ -31,7 +31,7 @@ impl Library for Linked {
         vdv::value(file, at)
     }
 
-    fn text(&self, file: &[u8], at: At, out: &mut [u8]) -> Result<usize, Refusal> {
+    fn text(&self, file: &[u8], at: At, out: &mut [u8]) -> Result<Copied, Refusal> {
         vdv::text(file, at, out)
     }
 

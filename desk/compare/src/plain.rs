@@ -1,6 +1,6 @@
 //! The independent reader behind the trait.
 
-use vdv::{number, At, Date, Header, Owner, Refusal, Row, Span, Time, Value, CELLS};
+use vdv::{number, At, Copied, Date, Header, Owner, Refusal, Row, Span, Time, Value, CELLS};
 
 use crate::Library;
 
@@ -41,9 +41,12 @@ impl Library for Plain {
         value.as_ref().map(self::value).map_err(|e| refusal(*e))
     }
 
-    fn text(&self, file: &[u8], at: At, out: &mut [u8]) -> Result<usize, Refusal> {
+    fn text(&self, file: &[u8], at: At, out: &mut [u8]) -> Result<Copied, Refusal> {
         match reader::value(file, at.section, at.record, at.field) {
-            Ok(reader::Value::Text { bytes, .. }) => put(&bytes, out),
+            Ok(reader::Value::Text { bytes, owner, .. }) => Ok(Copied {
+                length: put(&bytes, out)?,
+                owner: self::owner(owner),
+            }),
             Ok(reader::Value::Number(_)) => Err(Refusal::placeless(number::NOT_A_TEXT)),
             Err(answer) => Err(refusal(answer)),
         }
@@ -136,10 +139,14 @@ fn value(value: &reader::Value<'_>) -> Value {
             span: range, owner, ..
         } => Value::Text {
             span: span(range.clone()),
-            owner: match owner {
-                reader::Owner::Operator => Owner::Operator,
-                reader::Owner::Suggestion => Owner::Suggestion,
-            },
+            owner: self::owner(*owner),
         },
+    }
+}
+
+fn owner(owner: reader::Owner) -> Owner {
+    match owner {
+        reader::Owner::Operator => Owner::Operator,
+        reader::Owner::Suggestion => Owner::Suggestion,
     }
 }

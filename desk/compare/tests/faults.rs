@@ -4,7 +4,7 @@
 use std::path::Path;
 
 use compare::{all_rows, run, Library, Options, Pair, Plain};
-use vdv::{number, At, Header, Owner, Refusal, Row, Value};
+use vdv::{number, At, Copied, Header, Owner, Refusal, Row, Value};
 
 /// A right implementation but for one fault.
 struct Bent(Fault);
@@ -46,6 +46,7 @@ faults! {
     QuotesStay,
     PartOfText,
     TextOfNumber,
+    OperatorsText,
     LastCellLost,
     SpareCell,
     WritesNothing,
@@ -183,14 +184,15 @@ impl Library for Bent {
         })
     }
 
-    fn text(&self, file: &[u8], at: At, out: &mut [u8]) -> Result<usize, Refusal> {
+    fn text(&self, file: &[u8], at: At, out: &mut [u8]) -> Result<Copied, Refusal> {
         let answer = Plain.text(file, at, out);
+        let told = |length, owner| Ok(Copied { length, owner });
         match (self.0, answer, Plain.value(file, at)) {
-            (QuotesStay, Ok(length), Ok(Value::Text { span, .. })) => {
+            (QuotesStay, Ok(Copied { length, owner }), Ok(Value::Text { span, .. })) => {
                 let stored = span.of(file);
                 if stored.len() <= out.len() && stored.len() > length {
                     out[..stored.len()].copy_from_slice(stored);
-                    return Ok(stored.len());
+                    return told(stored.len(), owner);
                 }
                 answer
             }
@@ -200,7 +202,10 @@ impl Library for Bent {
                 }
                 answer
             }
-            (TextOfNumber, Err(refusal), _) if refusal.number == number::NOT_A_TEXT => Ok(0),
+            (TextOfNumber, Err(refusal), _) if refusal.number == number::NOT_A_TEXT => {
+                told(0, Owner::Operator)
+            }
+            (OperatorsText, Ok(text), _) => told(text.length, Owner::Operator),
             _ => answer,
         }
     }

@@ -4,7 +4,7 @@
 use compare::locality::{hold, replace_lines, Replaced};
 use compare::{Library, Plain};
 use samples::Random;
-use vdv::{At, Header, Refusal, Row, Value};
+use vdv::{At, Copied, Header, Refusal, Row, Value};
 
 /// Drawn files, sound and damaged, each with a run replaced.
 fn replaced(library: &dyn Library, count: u64) -> Vec<(Vec<u8>, Replaced)> {
@@ -83,7 +83,7 @@ impl Library for LosesTheRest {
         Plain.value(file, at)
     }
 
-    fn text(&self, file: &[u8], at: At, out: &mut [u8]) -> Result<usize, Refusal> {
+    fn text(&self, file: &[u8], at: At, out: &mut [u8]) -> Result<Copied, Refusal> {
         Plain.text(file, at, out)
     }
 

@@ -125,6 +125,16 @@ typedef struct vdv_length_answer {
     size_t length;
 } vdv_length_answer;
 
+/* How much was written of a text, and whose it is: `owner` is VDV_OPERATOR or
+ * VDV_SUGGESTION. */
+typedef struct vdv_text_answer {
+    uint32_t number;
+    size_t section;
+    size_t line;
+    size_t length;
+    uint32_t owner;
+} vdv_text_answer;
+
 /* The file's answer: number 0 is sound. */
 vdv_refusal vdv_check(const uint8_t *file, size_t length);
 
@@ -142,11 +152,11 @@ vdv_refusal vdv_list(const uint8_t *file, size_t length, vdv_row *rows, size_t r
  * verdict, 24 for the record or field. */
 vdv_value_answer vdv_value(const uint8_t *file, size_t length, size_t section, size_t record, size_t field);
 
-/* A text's own bytes, doubled quotes undone: refused as its value is, then 11
- * for a number, then 21. A refused call leaves what is lent as it was; so it is
- * for every call below. */
-vdv_length_answer vdv_text(const uint8_t *file, size_t length, size_t section, size_t record, size_t field,
-                           uint8_t *out, size_t room);
+/* A text's own bytes, doubled quotes undone, and whose it is: refused as its
+ * value is, then 11 for a number, then 21. A refused call leaves what is lent as
+ * it was; so it is for every call below. */
+vdv_text_answer vdv_text(const uint8_t *file, size_t length, size_t section, size_t record, size_t field,
+                         uint8_t *out, size_t room);
 
 /* Every value of a section into lent cells, three a value in the order of the
  * records: its kind as in enum vdv_kind, then a number's amount and 0, or a

@@ -8,7 +8,7 @@ void *module_vdv_section(vdv_row_answer *answer, const uint8_t *file, size_t len
 void *module_vdv_list(vdv_refusal *answer, const uint8_t *file, size_t length, vdv_row *rows, size_t room);
 void *module_vdv_value(vdv_value_answer *answer, const uint8_t *file, size_t length, size_t section, size_t record,
                        size_t field);
-void *module_vdv_text(vdv_length_answer *answer, const uint8_t *file, size_t length, size_t section, size_t record,
+void *module_vdv_text(vdv_text_answer *answer, const uint8_t *file, size_t length, size_t section, size_t record,
                       size_t field, uint8_t *out, size_t room);
 void *module_vdv_table(vdv_length_answer *answer, const uint8_t *file, size_t length, size_t section, uint64_t *cells,
                        size_t room);
@@ -52,10 +52,10 @@ vdv_value_answer vdv_value(const uint8_t *file, size_t length, size_t section, s
     return answer;
 }
 
-vdv_length_answer vdv_text(const uint8_t *file, size_t length, size_t section, size_t record, size_t field,
-                           uint8_t *out, size_t room)
+vdv_text_answer vdv_text(const uint8_t *file, size_t length, size_t section, size_t record, size_t field,
+                         uint8_t *out, size_t room)
 {
-    vdv_length_answer answer;
+    vdv_text_answer answer;
     module_vdv_text(&answer, file, length, section, record, field, out, room);
     return answer;
 }

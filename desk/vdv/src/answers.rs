@@ -191,6 +191,13 @@ impl Value {
     }
 }
 
+/// A text's own bytes in lent room: how many they are, and whose the text is.
+#[derive(Clone, Copy, Debug, PartialEq, Eq)]
+pub struct Copied {
+    pub length: usize,
+    pub owner: Owner,
+}
+
 /// The value that three cells stand for.
 pub fn value_in(cells: &[u64]) -> Option<Value> {
     let &[kind, from, to] = cells else {

@@ -53,6 +53,14 @@ pub struct LengthAnswer {
     pub length: usize,
 }
 
+#[repr(C)]
+#[derive(Clone, Copy)]
+pub struct TextAnswer {
+    pub refusal: Refusal,
+    pub length: usize,
+    pub owner: u32,
+}
+
 extern "C" {
     pub fn vdv_check(file: *const u8, length: usize) -> Refusal;
     pub fn vdv_header(file: *const u8, length: usize) -> HeaderAnswer;
@@ -73,7 +81,7 @@ extern "C" {
         field: usize,
         out: *mut u8,
         room: usize,
-    ) -> LengthAnswer;
+    ) -> TextAnswer;
     pub fn vdv_table(
         file: *const u8,
         length: usize,
@@ -115,6 +123,8 @@ mod tests {
         assert_eq!(size_of::<RowAnswer>(), 72);
         assert_eq!(offset_of!(RowAnswer, row), 24);
         assert_eq!(size_of::<LengthAnswer>(), 32);
+        assert_eq!(size_of::<TextAnswer>(), 40);
+        assert_eq!(offset_of!(TextAnswer, owner), 32);
         assert_eq!(size_of::<ValueAnswer>(), 56);
         assert_eq!(offset_of!(ValueAnswer, amount), 32);
     }

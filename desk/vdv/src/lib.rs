@@ -30,7 +30,8 @@ pub mod tables;
 
 pub use ample::{all_rows, cells_of, form_of, listing_of, table_cells, width_of, Listing};
 pub use answers::{
-    own_bytes, value_in, At, Date, Header, Owner, Refusal, Row, Span, Time, Value, CELLS, LIMIT,
+    own_bytes, value_in, At, Copied, Date, Header, Owner, Refusal, Row, Span, Time, Value, CELLS,
+    LIMIT,
 };
 
 use boundary::{HeaderAnswer, ValueAnswer};
@@ -123,9 +124,9 @@ pub fn value(file: &[u8], at: At) -> Result<Value, Refusal> {
     unless_refused(value_of(&answer), answer.refusal)
 }
 
-/// A text's own bytes into lent room, doubled quotes undone: refused as its
-/// value is, then 11 for a number, then 21. A refused call leaves lent room as
-/// it was; so it is for every call below.
+/// A text's own bytes into lent room, doubled quotes undone, and whose it is:
+/// refused as its value is, then 11 for a number, then 21. A refused call
+/// leaves lent room as it was; so it is for every call below.
 ///
 /// ```
 /// let file = b"mod; DD.MM.YYYY; HH:MM:SS; free\n\
@@ -134,15 +135,17 @@ pub fn value(file: &[u8], at: At) -> Result<Value, Refusal> {
 ///     tbl; MENGE_BASIS_VERSIONEN\n\
 ///     atr; BASIS_VERSION; BASIS_VERSION_TEXT\n\
 ///     frm; num[9.0]; char[40]\n\
+///     com; \"SUGGESTED 2\"\n\
 ///     rec; 7; \"Bake \"\"1\"\"\"\n\
 ///     end; 1\n";
 /// let mut out = [0; 40];
-/// let length = vdv::text(file, vdv::At::new(1, 1, 2), &mut out).unwrap();
-/// assert_eq!(&out[..length], b"Bake \"1\"");
+/// let text = vdv::text(file, vdv::At::new(1, 1, 2), &mut out).unwrap();
+/// assert_eq!(&out[..text.length], b"Bake \"1\"");
+/// assert_eq!(text.owner, vdv::Owner::Suggestion);
 /// let refusal = vdv::text(file, vdv::At::new(1, 1, 1), &mut out).unwrap_err();
 /// assert_eq!(refusal.number, vdv::number::NOT_A_TEXT);
 /// ```
-pub fn text(file: &[u8], at: At, out: &mut [u8]) -> Result<usize, Refusal> {
+pub fn text(file: &[u8], at: At, out: &mut [u8]) -> Result<Copied, Refusal> {
     // SAFETY: as in `check`; `out` is borrowed alone.
     let answer = unsafe {
         boundary::vdv_text(
@@ -155,7 +158,11 @@ pub fn text(file: &[u8], at: At, out: &mut [u8]) -> Result<usize, Refusal> {
             out.len(),
         )
     };
-    unless_refused(answer.length, answer.refusal)
+    let text = Copied {
+        length: answer.length,
+        owner: owner_of(answer.owner),
+    };
+    unless_refused(text, answer.refusal)
 }
 
 /// Every value of a section into lent cells, [`CELLS`] a value in the order of
@@ -306,16 +313,21 @@ fn header_of(answer: &HeaderAnswer) -> Header {
 /// Kind 0 is a number, 1 the operator's text, 2 a suggestion; there is no
 /// other.
 fn value_of(answer: &ValueAnswer) -> Value {
-    let text = |owner| Value::Text {
-        span: Span {
-            from: answer.from,
-            to: answer.to,
-        },
-        owner,
-    };
     match answer.kind {
         0 => Value::Number(answer.amount),
-        1 => text(Owner::Operator),
-        _ => text(Owner::Suggestion),
+        kind => Value::Text {
+            span: Span {
+                from: answer.from,
+                to: answer.to,
+            },
+            owner: owner_of(kind),
+        },
+    }
+}
+
+fn owner_of(kind: u32) -> Owner {
+    match kind {
+        1 => Owner::Operator,
+        _ => Owner::Suggestion,
     }
 }

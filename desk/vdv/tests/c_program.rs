@@ -62,7 +62,7 @@ fn c_is_told_the_same() {
     let mark = "com; \"SUGGESTED 2\"\n";
     let told = format!(
         "check;sound\nheader;0;2024;59;1;1;0;1;plain\nsection;0;485;{table};1\nlist;0;485;1;9\n\
-         value;0;0;7;\nvalue;0;2;0;Winter\nvalue;24;0;0;\ntext;0;Winter\n\
+         value;0;0;7;\nvalue;0;2;0;Winter\nvalue;24;0;0;\ntext;0;2;Winter\n\
          table;0;6;0;7;0;2;{text};{};9\n",
         text + b"Winter".len()
     );
@@ -85,7 +85,7 @@ fn c_is_told_the_same() {
 fn c_is_told_a_refusal() {
     let program = compiled("refused");
     let told = "check;header;0\nheader;2;0;0;0;0;0;0;\nsection;2;0;0;0\nlist;2;0;0;9\n\
-         value;2;0;0;\nvalue;2;0;0;\nvalue;2;0;0;\ntext;2;\ntable;2;0;0;0;0;0;0;0;9\n\
+         value;2;0;0;\nvalue;2;0;0;\nvalue;2;0;0;\ntext;2;0;\ntable;2;0;0;0;0;0;0;0;9\n\
          write;2\nstrip;2\nfill;2\n";
     assert_eq!(String::from_utf8(said(&program, b"")).unwrap(), told);
 }

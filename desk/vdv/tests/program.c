@@ -12,6 +12,7 @@ _Static_assert(offsetof(vdv_header_answer, dve) == 128 && offsetof(vdv_header_an
 _Static_assert(sizeof(vdv_row_answer) == 72 && offsetof(vdv_row_answer, row) == 24, "row answer");
 _Static_assert(sizeof(vdv_value_answer) == 56 && offsetof(vdv_value_answer, amount) == 32, "value");
 _Static_assert(sizeof(vdv_length_answer) == 32 && offsetof(vdv_length_answer, length) == 24, "length");
+_Static_assert(sizeof(vdv_text_answer) == 40 && offsetof(vdv_text_answer, owner) == 32, "text");
 
 _Static_assert(VDV_SOUND == 0 && VDV_NO_SUCH == 24, "numbers");
 
@@ -28,8 +29,8 @@ static void say_value(size_t length, size_t field)
 
 static void say_text(size_t length)
 {
-    vdv_length_answer text = vdv_text(file, length, 1, 1, 2, out, sizeof out);
-    printf("text;%u;%.*s\n", (unsigned)text.number, (int)text.length, (const char *)out);
+    vdv_text_answer text = vdv_text(file, length, 1, 1, 2, out, sizeof out);
+    printf("text;%u;%u;%.*s\n", (unsigned)text.number, (unsigned)text.owner, (int)text.length, (const char *)out);
 }
 
 static void say_table(size_t length)
