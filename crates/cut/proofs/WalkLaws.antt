@@ -95,12 +95,6 @@ module _ (s : Bytes) (at : ℕ) (h : at < length s) where
       let e = at + line-size (drop at s) in
       (omega (arith, line-in s at e h refl, size-from s at e h refl), size-within s at e h refl)
 
-  pub first-begins : Settled s at → begins-table (take (line-size (drop at s)) (drop at s)) ≡ true
-  first-begins z =
-      let e = at + line-size (drop at s) in
-      let k : line-size (drop at s) ≡ e - at = omega arith in
-      rw k (settled-begins s at e h refl z)
-
   pub walk-here : Settled s at → sections-from s at ≡ section-from s at ∷ sections-from s (at + section-size (drop at s))
   walk-here z =
       let e = at + line-size (drop at s) in

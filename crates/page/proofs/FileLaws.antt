@@ -12,7 +12,6 @@ use lib.ListN.{length, getD, take, drop}
 use lib.Seq.{drop-cons, drop-length}
 use Rattle.page.specs.declared.Column.{Column}
 use Rattle.page.specs.declared.Refusal.{Refusal}
-use Rattle.page.specs.declared.Row.{Row}
 use Rattle.page.specs.Bytes.{bytes, pick}
 use Rattle.page.specs.Tables.{Reference, table-named}
 use Rattle.page.specs.Cut.{Section}
@@ -219,6 +218,3 @@ module _ (latin : Bool) (e : Filed) (r : Reference) where
       ∙ rw (meets-other i x (λ z. a 0 (suc k) (omega arith) (omega arith) (z ∙ sym q)), n) (meets-in (suc i) xs k (omega arith) (apart-tail x xs a) q)
 
 -- 17: where no table is refused, no two rows are of one table
-
-abbrev pub no-row : Row
-no-row = record { table = 0; place = 0; length = 0; records = 0; verdict = 0; line = 0 }

@@ -119,13 +119,6 @@ pub quoted-text : (t : Bytes) → textOf (quoted t) ≡ some t
 unfolding textOf quoted
 quoted-text t = doubled-body t
 
-pub record Exactly (f t : Bytes) : Type 0 where
-  pub to : textOf f ≡ some t → f ≡ quoted t
-  pub from : f ≡ quoted t → textOf f ≡ some t
-
-pub text-exactly : (f t : Bytes) → Exactly f t
-text-exactly f t = record { to = text-quoted f t; from = λ (e : f ≡ quoted t). rw e (quoted-text t) }
-
 pub empty-text : textOf (34 ∷ 34 ∷ []) ≡ some []
 unfolding textOf bodyOf
 empty-text = refl

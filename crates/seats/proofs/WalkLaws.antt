@@ -10,23 +10,20 @@ use lib.Dec.{eqb}
 use lib.ListN.{length, getD, take, drop, length-drop}
 use lib.Seq.{length-take-le}
 use Rattle.page.specs.Bytes.{Bytes, pick}
-use Rattle.page.specs.Lines.{lines, content, rest}
-use Rattle.page.specs.Fields.{fields}
-use Rattle.page.specs.Tables.{table-named}
-use Rattle.page.specs.Cut.{Section, sections, begins-table, cut}
+use Rattle.page.specs.Lines.{lines}
+use Rattle.page.specs.Cut.{Section, sections}
 use Rattle.page.specs.Head.{latinOf}
 use Rattle.page.specs.Section.{outcome}
-use Rattle.page.specs.Records.{table-of}
 use Rattle.page.specs.Rules.{Every, one-more}
 use Rattle.page.specs.Answers.{refusal, sound}
 use Rattle.page.specs.File.{row-of, rowOf, rowsOf, first-unsound}
 use Rattle.page.specs.declared.Row.{Row}
 use Rattle.page.specs.declared.Refusal.{Refusal}
-use Rattle.page.proofs.LineLaws.{line-size, joined-lines}
-use Rattle.page.proofs.CutLaws.{no-section, sections-from, sections-table, sections-end}
+use Rattle.page.proofs.LineLaws.{joined-lines}
+use Rattle.page.proofs.CutLaws.{no-section, sections-from, sections-end}
 use Rattle.laws.proofs.Sections.{sections-begin}
 use Rattle.cut.specs.Walk.{section-size, section-from, Settled}
-use Rattle.cut.proofs.WalkLaws.{section-within, walk-here, first-begins}
+use Rattle.cut.proofs.WalkLaws.{section-within, walk-here}
 use Rattle.keys.proofs.SoundLaws.{Sound, sound-section}
 
 -- the first unsound section, at a section's place
@@ -110,13 +107,3 @@ module _ (s : Bytes) (at : ℕ) (h : at < length s) (z : Settled s at) where
   among n e =
       let r = drop-head no-section (sections s) n (section-from s at) (sections-from s (at + section-size (drop at s))) (sym (walk-here s at h z) ∙ e) in
       record { within = r .0; is = r .1; rest = r .2 }
-
-  -- its first line
-  pub first-table : (e : ℕ) → e ≡ at + line-size (drop at s) → table-of (section-from s at .lines) ≡ table-named (getD (fields (rest (content (take (e - at) (drop at s))))) 0 [])
-  unfolding table-of
-  first-table e q =
-      let k : line-size (drop at s) ≡ e - at = omega arith in
-      let b : begins-table (take (e - at) (drop at s)) ≡ true = rw k at (first-begins s at h z) in
-      let x = sym (walk-here s at h z) ∙ sections-table s at e h q b in
-      let y : section-from s at ≡ record { place = at; lines = take (e - at) (drop at s) ∷ cut (lines (drop e s)) .front } = cc in
-      rw y
