@@ -4,7 +4,7 @@ mod common;
 
 use std::fs;
 use std::io::{pipe, PipeWriter};
-use std::os::unix::process::ExitStatusExt;
+use std::os::unix::process::{CommandExt, ExitStatusExt};
 use std::process::Command;
 
 use common::meanwhile::meanwhile;
@@ -78,6 +78,23 @@ fn a_file_over_the_systems_limit_leaves_nothing() {
     assert_eq!(folder.names(), ["a.x10"]);
 }
 
+extern "C" {
+    fn signal(signal: i32, handler: usize) -> usize;
+}
+
+/// What is ignored where the tests are run, as under nohup, would be ignored by
+/// the tool too; here the signal does by default what it does.
+fn heed(command: &mut Command, number: i32) {
+    const BY_DEFAULT: usize = 0;
+    let reset = move || {
+        // SAFETY: nothing handles this signal.
+        unsafe { signal(number, BY_DEFAULT) };
+        Ok(())
+    };
+    // SAFETY: `signal` may be called between fork and exec.
+    unsafe { command.pre_exec(reset) };
+}
+
 /// A signal waits for the short time in which the new file has a name of its
 /// own, and then ends the tool.
 #[test]
@@ -88,7 +105,9 @@ fn a_signal_leaves_no_file_behind() {
             folder.put("a.x10", SMALL.replace("; ", ";"));
             let line = format!("ls .{name}.new-* > seen; kill -{signal} $PPID");
             let arguments = [&["write", "a.x10"], place].concat();
-            let status = meanwhile(&folder, &arguments, &line).status().unwrap();
+            let mut command = meanwhile(&folder, &arguments, &line);
+            heed(&mut command, number);
+            let status = command.status().unwrap();
             assert_eq!(status.signal(), Some(number), "{signal}");
             assert!(folder.get("seen").starts_with(b"."));
             assert_eq!(folder.get(name), SMALL.as_bytes());
