@@ -12,12 +12,13 @@ impl Repository {
     fn new(name: &str) -> Repository {
         let root = Path::new(env!("CARGO_TARGET_TMPDIR")).join(name);
         let _ = fs::remove_dir_all(&root);
-        for folder in ["crates/page/src", "desk/vdv"] {
+        for folder in ["crates/page/src", "crates/vdv/src", "desk/vdv"] {
             fs::create_dir_all(root.join(folder)).unwrap();
         }
         let repository = Repository(root);
         repository.put("crates.txt", "page:\nvdv: page\n");
         repository.put("crates/page/src/lib.rt", "fine\n");
+        repository.put("crates/vdv/src/lib.rt", "");
         let prove = Path::new(env!("CARGO_MANIFEST_DIR")).join("prove");
         symlink(prove, repository.0.join("desk/vdv/prove")).unwrap();
         repository
@@ -87,6 +88,7 @@ fn what_changes_meanwhile_is_proved_the_next_time() {
 #[test]
 fn what_is_proved_is_told() {
     let told = String::from_utf8(Repository::new("told").prove().stderr).unwrap();
+    assert!(told.contains("vdv: proving page (1 of 1)\n"), "{told}");
     assert!(told.contains("rt: page proved (1 s)\n"), "{told}");
     assert!(!told.contains("looked at"), "{told}");
 }
