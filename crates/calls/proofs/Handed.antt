@@ -9,26 +9,31 @@ use native.Mathlib.Omega.{arith}
 use lib.Dec.{eqb, ltb}
 use lib.ListN.{length, getD, take, drop, length-append, take-append-drop}
 use lib.Seq.{take-append-seam, drop-append-le, drop-append-add}
-use borrow.Author.Tests.{eqb-true, eq-eqb, ltb-true, ltb-false}
+use borrow.Author.Tests.{eqb-true, eq-eqb, le-leb, ltb-true, ltb-false}
 use Rattle.page.specs.Bytes.{Bytes, pick, until, moved, part}
 use Rattle.page.specs.Lines.{lines, joined, content-size, content, command, rest, semicolon, Tbl, Atr, Frm, Rec}
-use Rattle.page.specs.Fields.{fields, textOf}
-use Rattle.page.specs.Tables.{Named, no-column, column-at, width, standing}
+use Rattle.page.specs.Fields.{fields, textOf, numberOf}
+use Rattle.page.specs.Tables.{Named, no-column, column-at, width}
+use Rattle.page.specs.Order.{Order, listed-order, arranged, by-column, column-in}
 use Rattle.page.specs.Cut.{Section, sections}
 use Rattle.page.specs.Head.{latinOf}
-use Rattle.page.specs.Section.{record-text, amount-at, outcome}
-use Rattle.page.specs.Records.{Datum, number, words, Record, own-bytes, waits, recordsOf, table-of}
-use Rattle.page.specs.Places.{Standing, field-span, unquoted, stands, record-at, this-or}
+use Rattle.page.specs.Section.{record-text, text-field, number-field, fieldOf, outcome}
+use Rattle.page.specs.Records.{Datum, number, words, Record, waits, recordsOf, table-of, order-in}
+use Rattle.page.specs.Places.{Standing, field-span, stands, record-at, this-or}
 use Rattle.page.specs.Model.{Content, contentOf, modelOf, datum-at}
 use Rattle.page.specs.File.{row-of, rowOf}
 use Rattle.page.specs.Form.{doubled}
 use Rattle.page.specs.Answers.{refuse-if, got, written}
-use Rattle.page.specs.Reading.{no-section, section-at, row-at, words-in, value-in, record-of, value-refusal, value-at, valueOf}
+use Rattle.page.specs.Reading.{no-section, section-at, row-at, later-field, field-at, valued, value-in, record-of, value-refusal, value-at, valueOf}
 use Rattle.page.specs.Writing.{put-refusal, putOf}
-use Rattle.page.specs.Handing.{text-refusal, own-text, text-owner, copied, textOut}
+use Rattle.page.specs.Handing.{text-refusal, place-of, own-text, text-owner, copied, textOut}
 use Rattle.page.specs.Grammar as Grammar
-use Rattle.page.specs.Grammar.{owner-by, Holds, Values, no-field, a-field, Then, found, skip, Records, pause, a-mark, a-record, the-end, Denotes}
+use Rattle.page.specs.Grammar.{owner-by, Holds, Values, no-field, a-field, Reads, Then, found, skip, Records, pause, a-mark, a-record, the-end, Denotes}
 use Rattle.page.specs.Rules.{Every, none-left, one-more}
+use Rattle.page.specs.declared.Column.{Column}
+use Rattle.page.specs.declared.Field.{Field}
+use Rattle.page.specs.declared.Field.the-variants as F
+use Rattle.page.specs.declared.Number.the-variants as N
 use Rattle.page.specs.declared.Refusal.{Refusal}
 use Rattle.page.specs.declared.Span.{Span}
 use Rattle.page.specs.declared.Text.{Text}
@@ -43,11 +48,11 @@ use Rattle.page.proofs.ContentLaws.{rest-none}
 use Rattle.page.proofs.CutLaws.{section-stands}
 use Rattle.page.proofs.ScanLaws.{part-length, part-moved}
 use Rattle.page.proofs.FieldLaws.{field-span-in, field-span-part}
-use Rattle.page.proofs.TextLaws.{text-long, text-between}
+use Rattle.page.proofs.OrderLaws.{arranged-long, place-in, by-column-at, listed-arranged}
+use Rattle.page.proofs.TextLaws.{text-long, text-between, record-text-is, worded-some}
 use Rattle.laws.specs.Begins.{begins}
 use Rattle.grammar.specs.Marks.{marks-at}
 use Rattle.calls.specs.Handed.{StandsFor, a-number, a-text}
-use Rattle.grammar.proofs.Values.{values-length}
 use Rattle.grammar.proofs.Readings.{handed-denoted}
 use Rattle.grammar.proofs.Counts.{count-handed}
 use Rattle.laws.proofs.Sections.{sections-begin}
@@ -108,9 +113,13 @@ section-lies s i r p h =
     let l = record-lies (r - 1) 0 (joined (t .before)) (x .lines) (joined (t .after)) in
     rw (← e, ← t .place) at l
 
--- what stands between a text's quotes: its own bytes, a quote doubled
+-- what stands between the quotes of a field
+abbrev between : Bytes → Span
+between f = record { from = 1; to = length f - 1 }
+
+-- of a text: its own bytes, a quote doubled
 span-bytes : (s : Bytes) (x : Standing) → Lies s x → (k : ℕ) → k < length (fields (x .rest)) → (u : Bytes) → textOf (getD (fields (x .rest)) k []) ≡ some u →
-    part (moved (x .at) (unquoted (field-span (x .rest) k))) s ≡ doubled u
+    part (moved (x .at) (moved (field-span (x .rest) k .from) (between (getD (fields (x .rest)) k [])))) s ≡ doubled u
 span-bytes s x lies k h u e =
     let i = field-span-in (x .rest) k h in
     let p = field-span-part (x .rest) k h in
@@ -118,17 +127,17 @@ span-bytes s x lies k h u e =
     part-length (field-span (x .rest) k .from) (field-span (x .rest) k .to) (x .rest) (i .1) in
     let l : 2 ≤ length (getD (fields (x .rest)) k []) = text-long (getD (fields (x .rest)) k []) u e in
     let m : length (getD (fields (x .rest)) k []) ≡ field-span (x .rest) k .to - field-span (x .rest) k .from = sym (ap length p) ∙ n in
-    let a : part (unquoted (field-span (x .rest) k)) (take (length (x .rest)) (drop (x .at) s)) ≡ part (moved (x .at) (unquoted (field-span (x .rest) k))) s =
-    part-moved (unquoted (field-span (x .rest) k)) (x .at) (length (x .rest)) s (omega arith) (omega arith) in
-    sym a ∙ (ap (part (unquoted (field-span (x .rest) k))) lies ∙ inner (field-span (x .rest) k) (x .rest) (getD (fields (x .rest)) k []) u (i .0) p m l (text-between (getD (fields (x .rest)) k []) u e))
+    let sp : Span = moved (field-span (x .rest) k .from) (between (getD (fields (x .rest)) k [])) in
+    let a : part sp (take (length (x .rest)) (drop (x .at) s)) ≡ part (moved (x .at) sp) s = part-moved sp (x .at) (length (x .rest)) s (omega arith) (omega arith) in
+    sym a ∙ (ap (part sp) lies ∙ inner (field-span (x .rest) k) (x .rest) (getD (fields (x .rest)) k []) u p m l (text-between (getD (fields (x .rest)) k []) u e))
   where
-    inner : (sp : Span) (w f u : Bytes) → sp .from ≤ sp .to → part sp w ≡ f → length f ≡ sp .to - sp .from → 2 ≤ length f → take (length f - 2) (drop 1 f) ≡ doubled u → part (unquoted sp) w ≡ doubled u
-    inner sp w f u o p m l t =
-        let a : part (record { from = 1; to = length f - 1 }) (take (sp .to - sp .from) (drop (sp .from) w)) ≡ part (moved (sp .from) (record { from = 1; to = length f - 1 })) w =
-        part-moved (record { from = 1; to = length f - 1 }) (sp .from) (sp .to - sp .from) w (omega arith) (omega arith) in
-        let b : sp .from + (length f - 1) ≡ sp .to - 1 = omega arith in
+    inner : (sp : Span) (w f u : Bytes) → part sp w ≡ f → length f ≡ sp .to - sp .from → 2 ≤ length f → take (length f - 2) (drop 1 f) ≡ doubled u →
+        part (moved (sp .from) (between f)) w ≡ doubled u
+    inner sp w f u p m l t =
+        let a : part (between f) (take (sp .to - sp .from) (drop (sp .from) w)) ≡ part (moved (sp .from) (between f)) w =
+        part-moved (between f) (sp .from) (sp .to - sp .from) w (omega arith) (omega arith) in
         let c : length f - 1 - 1 ≡ length f - 2 = omega arith in
-        let d : part (record { from = 1; to = length f - 1 }) f ≡ part (unquoted sp) w = rw (p, b) at a in
+        let d : part (between f) f ≡ part (moved (sp .from) (between f)) w = rw p at a in
         sym d ∙ (rw c t)
 
 -- what a record's line holds: the record after r others of lines that denote records
@@ -137,12 +146,12 @@ stands-rest : (at : ℕ) (l : Bytes) (m : ℕ) → stands at l m .rest ≡ rest 
 unfolding stands
 stands-rest at l m = refl
 
-module _ (latin : Bool) (t : ℕ) where
+module _ (latin : Bool) (t : ℕ) (o : Order) where
   -- its fields are read as its values, after the marks that stand before it
   abbrev ReadsAs : ℕ → List ℕ → ℕ → ℕ → List Bytes → List Record → Type 0
-  ReadsAs r ms m at ls rs = Values (marks-at r ms ls) 1 (standing t) (fields (record-at r m at ls .rest)) (getD rs r [])
+  ReadsAs r ms m at ls rs = Reads t o (marks-at r ms ls) (fields (record-at r m at ls .rest)) (getD rs r [])
 
-  records-read : {n : ℕ} {ms : List ℕ} {ls : List Bytes} {rs : List Record} → Records latin t n ms ls rs → (r m at : ℕ) → r < length rs → ReadsAs r ms m at ls rs
+  records-read : {n : ℕ} {ms : List ℕ} {ls : List Bytes} {rs : List Record} → Records latin t o n ms ls rs → (r m at : ℕ) → r < length rs → ReadsAs r ms m at ls rs
   records-read {ms} (pause {l} {ls} q x) r m at h = rw (quiet-marks r ms l ls q, quiet-at r m at l ls q) (records-read x r m (at + length l) h)
   records-read {ms} (a-mark {i} {l} {ls} k x) r m at h =
       rw (mark-marks r ms i l ls (k .says .named) (k .reads), mark-at r m at i l ls (k .says .named) (k .reads)) (records-read x r i (at + length l) h)
@@ -157,12 +166,16 @@ module _ (latin : Bool) (t : ℕ) where
   past-read r at rs f (found {l} {ls} h x) = f l ls at h x
   past-read r at rs f (skip {l} {ls} h x) = rw (quiet-marks r [] l ls h, quiet-at r 0 at l ls h) (past-read r (at + length l) rs f x)
 
-  denoted-read : {ls : List Bytes} (rs : List Record) → Denotes latin ls t rs → (r at : ℕ) → r < length rs → ReadsAs r [] 0 at ls rs
-  denoted-read rs d r at h =
-      past-read r at rs (λ l xs a p x. rw (pass-marks r [] Tbl l xs (p .says .named) refl refl, pass-at r 0 a Tbl l xs (p .says .named) refl refl)
-      (past-read r (a + length l) rs (λ l ys b q y. rw (pass-marks r [] Atr l ys (q .says .named) refl refl, pass-at r 0 b Atr l ys (q .says .named) refl refl)
-      (past-read r (b + length l) rs (λ l zs c w z. rw (pass-marks r [] Frm l zs (w .says .named) refl refl, pass-at r 0 c Frm l zs (w .says .named) refl refl)
-      (records-read z r 0 (c + length l) h)) y)) x)) d
+denoted-read : (latin : Bool) {ls : List Bytes} (rs : List Record) → Denotes latin ls (table-of ls) rs → (r at : ℕ) → r < length rs →
+    ReadsAs latin (table-of ls) (order-in ls) r [] 0 at ls rs
+unfolding order-in
+denoted-read latin {ls} rs d r at h =
+    let t = table-of ls in
+    let o = listed-order t in
+    past-read latin t o r at rs (λ l xs a p x. rw (pass-marks r [] Tbl l xs (p .says .named) refl refl, pass-at r 0 a Tbl l xs (p .says .named) refl refl)
+    (past-read latin t o r (a + length l) rs (λ l ys b q y. rw (pass-marks r [] Atr l ys (q .says .named) refl refl, pass-at r 0 b Atr l ys (q .says .named) refl refl)
+    (past-read latin t o r (b + length l) rs (λ l zs c w z. rw (pass-marks r [] Frm l zs (w .says .named) refl refl, pass-at r 0 c Frm l zs (w .says .named) refl refl)
+    (records-read latin t o z r 0 (c + length l) h)) y)) x)) d
 
 -- one of its fields
 values-at : {ms : List ℕ} {i : ℕ} {cs : List Named} {fs : List Bytes} {vs : Record} → Values ms i cs fs vs → (k : ℕ) → k < length cs →
@@ -174,6 +187,16 @@ values-at {ms} {i} (a-field {c} {f} {v} x g) zero h =
 values-at {ms} {i} (a-field x g) (suc k) h =
     let z : i + suc k ≡ suc i + k = omega arith in
     rw z (values-at g k (omega arith))
+
+-- what a field that holds a value is read as
+
+number-read : (c : Column) (f : Bytes) (n : ℕ) → c .text ≡ false → numberOf f ≡ N.Plus n → c .lo ≤ n → n ≤ c .hi → fieldOf c f ≡ F.Number n
+unfolding fieldOf number-field
+number-read c f n t e l h = rw (t, e, le-leb (c .lo) n l, le-leb n (c .hi) h)
+
+text-read : (c : Column) (f u : Bytes) → c .text ≡ true → record-text f ≡ some u → length u ≤ c .hi → fieldOf c f ≡ F.Text (between f)
+unfolding fieldOf text-field
+text-read c f u t e h = rw (t, worded-some f u e, le-leb (length u) (c .hi) h)
 
 section-begins : (s : Bytes) (i : ℕ) → 0 < i → i ≤ length (sections s) → begins (section-at s i .lines) ≡ true
 unfolding section-at
@@ -190,6 +213,18 @@ module _ (s : Bytes) (i r f : ℕ) (g : Given s i r f) where
 
   abbrev the-fields : List Bytes
   the-fields = fields (record-of here r .rest)
+
+  abbrev the-table : ℕ
+  the-table = table-of (here .lines)
+
+  abbrev the-order : Order
+  the-order = order-in (here .lines)
+
+  abbrev the-field : Bytes
+  the-field = getD the-fields (place-of s i f) []
+
+  abbrev the-marks : List ℕ
+  the-marks = map (column-in the-order) (marks-at (r - 1) [] (here .lines))
 
   verdict-zero : outcome (latinOf s) (here .lines) .verdict ≡ 0
   unfolding row-at rowOf row-of
@@ -211,53 +246,86 @@ module _ (s : Bytes) (i r f : ℕ) (g : Given s i r f) where
       map-at h (x ∷ xs) zero l = refl
       map-at h (x ∷ xs) (suc k) l = map-at h xs k (omega arith)
 
-  reads : Values (marks-at (r - 1) [] (here .lines)) 1 (standing (table-of (here .lines))) the-fields (getD (recordsOf (latinOf s) (here .lines)) (r - 1) [])
+  reads : Reads the-table the-order (marks-at (r - 1) [] (here .lines)) the-fields (getD (recordsOf (latinOf s) (here .lines)) (r - 1) [])
   unfolding record-of
   reads =
-      denoted-read (latinOf s) (table-of (here .lines)) (recordsOf (latinOf s) (here .lines)) (handed-denoted (latinOf s) (here .lines) starts verdict-zero) (r - 1) (here .place)
+      denoted-read (latinOf s) (recordsOf (latinOf s) (here .lines)) (handed-denoted (latinOf s) (here .lines) starts verdict-zero) (r - 1) (here .place)
       (omega (arith, count, g .record-there))
 
+  -- each column stands once in the section's lines
+  arranged-here : arranged (width the-table) the-order ≡ true
+  unfolding order-in
+  arranged-here = listed-arranged the-table
+
+  -- column f is one of the table's, and stands in the record's line
+  column-there : f - 1 < width the-table
+  column-there = omega (arith, g .field-there)
+
+  stands-there : place-of s i f < length the-order
+  unfolding place-of
+  stands-there = place-in (width the-table) the-order arranged-here (f - 1) column-there .0
+
+  column-field : getD (by-column the-order the-fields) (f - 1) [] ≡ the-field
+  unfolding place-of
+  column-field = by-column-at the-order the-fields (f - 1) (omega (arith, column-there, arranged-long (width the-table) the-order arranged-here))
+
   -- the field of the record's line holds, in its column, the model's value there
-  pub field-holds : Holds (owner-by (marks-at (r - 1) [] (here .lines)) f) (column-at (table-of (here .lines)) (f - 1)) (getD the-fields (f - 1) []) (datum-at i r f (modelOf s))
-  unfolding column-at width standing
+  pub field-holds : Holds (owner-by the-marks f) (column-at the-table (f - 1)) the-field (datum-at i r f (modelOf s))
+  unfolding column-at width
   field-holds =
       let z : 1 + (f - 1) ≡ f = omega (arith, g .field-there) in
-      rw datum-is (rw z at (values-at reads (f - 1) (omega (arith, g .field-there))))
+      rw datum-is (rw (z, column-field) at (values-at (reads .values) (f - 1) column-there))
 
-  as-many : f - 1 < length the-fields
-  unfolding width standing
-  as-many = omega (arith, values-length reads, g .field-there)
+  as-many : place-of s i f < length the-fields
+  as-many = omega (arith, reads .many, stands-there)
 
-  owner-is : words-in (record-of here r) f .owner ≡ owner-by (marks-at (r - 1) [] (here .lines)) f
+  owner-is : text-owner s i r f ≡ owner-by the-marks f
+  unfolding text-owner place-of
   owner-is = owner-handed (latinOf s) here starts verdict-zero r f (g .record-there .0) (omega (arith, count, g .record-there)) (g .field-there .0)
 
-  words-span : (u : Bytes) → textOf (getD the-fields (f - 1) []) ≡ some u →
-      take (words-in (record-of here r) f .to - words-in (record-of here r) f .from) (drop (words-in (record-of here r) f .from) s) ≡ doubled u
-  unfolding words-in
-  words-span u e = span-bytes s (record-of here r) (section-lies s i r (g .section .0) (g .section .1)) (f - 1) as-many u e
+  -- a text, as it is handed out
+  abbrev the-text : Text
+  the-text =
+      record {
+        from = record-of here r .at + (field-span (record-of here r .rest) (place-of s i f) .from + 1);
+        to = record-of here r .at + (field-span (record-of here r .rest) (place-of s i f) .from + (length the-field - 1));
+        owner = text-owner s i r f;
+      }
+
+  text-span : (u : Bytes) → record-text the-field ≡ some u → take (the-text .to - the-text .from) (drop (the-text .from) s) ≡ doubled u
+  text-span u e =
+      span-bytes s (record-of here r) (section-lies s i r (g .section .0) (g .section .1)) (place-of s i f) as-many u (sym (record-text-is the-field) ∙ e)
+
+  value-reads : (x : Field) → fieldOf (column-at the-table (f - 1)) the-field ≡ x →
+      value-at here r f ≡ valued (text-owner s i r f) (later-field (record-of here r .at) (later-field (field-span (record-of here r .rest) (place-of s i f) .from) x))
+  unfolding value-at value-in field-at text-owner place-of
+  value-reads x e = rw e
 
   -- the value that is handed out stands for the model's value at that place, its owner included
   pub value-says : StandsFor s (value-at here r f) (datum-at i r f (modelOf s))
-  unfolding value-at value-in amount-at record-text
   value-says = by field-holds
     where
-      as-text : (u : Bytes) → textOf (getD the-fields (f - 1) []) ≡ some u → StandsFor s (Va.Words (words-in (record-of here r) f)) (words (words-in (record-of here r) f .owner) u)
-      as-text u e = a-text (words-span u e)
+      by : {d : Datum} → Holds (owner-by the-marks f) (column-at the-table (f - 1)) the-field d → StandsFor s (value-at here r f) d
+      by (Grammar.a-number {n} a b c e) = rw (value-reads (F.Number n) (number-read (column-at the-table (f - 1)) the-field n a b c e)) a-number
+      by (Grammar.a-text {t} a b c) =
+          rw (value-reads (F.Text (between the-field)) (text-read (column-at the-table (f - 1)) the-field t a b c), ← owner-is) (a-text {x = the-text} (text-span t b))
 
-      by : {d : Datum} → Holds (owner-by (marks-at (r - 1) [] (here .lines)) f) (column-at (table-of (here .lines)) (f - 1)) (getD the-fields (f - 1) []) d →
-          StandsFor s (value-in (table-of (here .lines)) (record-of here r) f) d
-      by (Grammar.a-number a b c e) = rw (a, b) a-number
-      by (Grammar.a-text {t} a b c) = rw (a, ← owner-is) (as-text t b)
+  -- a text's value: its own bytes are the model's, and its owner is the one that is handed out
+  pub record TextSays : Type 0 where
+    pub datum : datum-at i r f (modelOf s) ≡ words (text-owner s i r f) (own-text s i r f)
+    pub value : value-at here r f ≡ Va.Words the-text
 
-  -- the own bytes of a text are the model's
-  pub text-says : column-at (table-of (here .lines)) (f - 1) .text ≡ true → datum-at i r f (modelOf s) ≡ words (words-in (record-of here r) f .owner) (own-text s i r f)
+  pub text-says : column-at the-table (f - 1) .text ≡ true → TextSays
   unfolding own-text
-  text-says h = by field-holds
+  text-says h = by (datum-at i r f (modelOf s)) refl field-holds
     where
-      by : {d : Datum} → Holds (owner-by (marks-at (r - 1) [] (here .lines)) f) (column-at (table-of (here .lines)) (f - 1)) (getD the-fields (f - 1) []) d →
-          d ≡ words (words-in (record-of here r) f .owner) (own-bytes (record-text (getD the-fields (f - 1) [])))
-      by (Grammar.a-number a b c e) = absurd (false≢true (sym a ∙ h))
-      by (Grammar.a-text a b c) = rw (b, owner-is)
+      by : (d : Datum) → datum-at i r f (modelOf s) ≡ d → Holds (owner-by the-marks f) (column-at the-table (f - 1)) the-field d → TextSays
+      by d e (Grammar.a-number a b c k) = absurd (false≢true (sym a ∙ h))
+      by d e (Grammar.a-text {t} a b c) =
+          record {
+            datum = e ∙ rw (b, owner-is);
+            value = value-reads (F.Text (between the-field)) (text-read (column-at the-table (f - 1)) the-field t a b c);
+          }
 
 -- the same of the calls' answers
 
@@ -295,19 +363,22 @@ module _ (s : Bytes) (i r f room : ℕ) (x : Copied) (e : textOut s i r f room �
       let b = earlier-none (value-refusal s i r f) _ a in
       (b .0, if-text (column-at (table-of (section-at s i .lines)) (f - 1) .text) (b .1))
 
-  owner-told : words-in (record-of (section-at s i) r) f .owner ≡ x .owner
-  unfolding textOut text-owner
+  owner-told : text-owner s i r f ≡ x .owner
+  unfolding textOut
   owner-told =
       ap (λ (t : Copied). t .owner)
       (handed-is (put-refusal (text-refusal s i r f) (own-text s i r f) room) (copied (own-text s i r f) (text-owner s i r f)) x e)
 
+  says : TextSays s i r f (value-given s i r f .0 (a-text-there .0))
+  says = text-says s i r f (value-given s i r f .0 (a-text-there .0)) (a-text-there .1)
+
   -- the bytes that are handed out, with the owner that is told, are the model's text
   pub text-handed : datum-at i r f (modelOf s) ≡ words (x .owner) (own-text s i r f)
-  text-handed = rw (← owner-told) (text-says s i r f (value-given s i r f .0 (a-text-there .0)) (a-text-there .1))
+  text-handed = rw (← owner-told) (says .datum)
 
   -- and the owner is the one that `value` tells
   pub text-whose : (t : Text) × ((valueOf s i r f ≡ G.Is (Va.Words t)) × (t .owner ≡ x .owner))
-  unfolding valueOf value-at value-in got
+  unfolding valueOf got
   text-whose =
       let z : eqb (value-refusal s i r f .number) 0 ≡ true = eq-eqb (value-refusal s i r f .number) 0 (a-text-there .0) in
-      (words-in (record-of (section-at s i) r) f, (rw (z, a-text-there .1), owner-told))
+      (the-text s i r f (value-given s i r f .0 (a-text-there .0)), (rw (z, says .value), owner-told))

@@ -1,4 +1,4 @@
--- All values of a table, handed out at once: those that `value` hands out one by one, record by record and field by field. Assumes nothing.
+-- All values of a table, handed out at once: those that `value` hands out one by one, record by record and column by column. Assumes nothing.
 use mathlib.Core.Path.{_≡_, refl, ap, sym, _∙_}
 use mathlib.Core.Bool.{Bool, true, false}
 use mathlib.Core.List.{List, [], _∷_, _++_, append-assoc}
@@ -10,9 +10,10 @@ use lib.ListN.{length, drop, length-append}
 use Rattle.page.specs.Bytes.{Bytes, pick}
 use Rattle.page.specs.Lines.{content, command, Rec}
 use Rattle.page.specs.Tables.{width}
+use Rattle.page.specs.Order.{Order}
 use Rattle.page.specs.Cut.{Section}
 use Rattle.page.specs.Head.{latinOf}
-use Rattle.page.specs.Records.{waits, table-of}
+use Rattle.page.specs.Records.{waits, table-of, order-in}
 use Rattle.page.specs.Places.{Standing, stands, record-at, this-or}
 use Rattle.page.specs.Rules.{times}
 use Rattle.page.specs.Reading.{section-at, row-at, find-refusal, verdict-of, record-of, value-at}
@@ -26,49 +27,49 @@ use Rattle.calls.proofs.CallNumbers.{none-exactly, verdict-open, Given}
 use Rattle.calls.proofs.PromisesHanding.{table-done}
 
 -- the cells of n records that stand so
-unfoldable all-cells : ℕ → (ℕ → Standing) → ℕ → List ℕ
-all-cells t g zero = []
-all-cells t g (suc n) = record-cells t (g 0) 1 (width t) ++ all-cells t (λ q. g (suc q)) n
+unfoldable all-cells : ℕ → Order → (ℕ → Standing) → ℕ → List ℕ
+all-cells t o g zero = []
+all-cells t o g (suc n) = record-cells t o (g 0) 1 (width t) ++ all-cells t o (λ q. g (suc q)) n
 
-all-alike : (t : ℕ) (g h : ℕ → Standing) → ((q : ℕ) → g q ≡ h q) → (n : ℕ) → all-cells t g n ≡ all-cells t h n
+all-alike : (t : ℕ) (o : Order) (g h : ℕ → Standing) → ((q : ℕ) → g q ≡ h q) → (n : ℕ) → all-cells t o g n ≡ all-cells t o h n
 unfolding all-cells
-all-alike t g h e zero = refl
-all-alike t g h e (suc n) = rw (e 0, all-alike t (λ q. g (suc q)) (λ q. h (suc q)) (λ q. e (suc q)) n)
+all-alike t o g h e zero = refl
+all-alike t o g h e (suc n) = rw (e 0, all-alike t o (λ q. g (suc q)) (λ q. h (suc q)) (λ q. e (suc q)) n)
 
-cells-all : (t m at : ℕ) (ls : List Bytes) → cells-in t m at ls ≡ all-cells t (λ q. record-at q m at ls) (times Rec ls)
+cells-all : (t : ℕ) (o : Order) (m at : ℕ) (ls : List Bytes) → cells-in t o m at ls ≡ all-cells t o (λ q. record-at q m at ls) (times Rec ls)
 unfolding cells-in times record-at all-cells
-cells-all t m at [] = refl
-cells-all t m at (l ∷ ls) = by (eqb (command (content l)) Rec) (cells-all t 0 (at + length l) ls) (cells-all t (waits m (content l)) (at + length l) ls)
+cells-all t o m at [] = refl
+cells-all t o m at (l ∷ ls) = by (eqb (command (content l)) Rec) (cells-all t o 0 (at + length l) ls) (cells-all t o (waits m (content l)) (at + length l) ls)
   where
-    by : (b : Bool) → cells-in t 0 (at + length l) ls ≡ all-cells t (λ q. record-at q 0 (at + length l) ls) (times Rec ls) →
-        cells-in t (waits m (content l)) (at + length l) ls ≡ all-cells t (λ q. record-at q (waits m (content l)) (at + length l) ls) (times Rec ls) →
-        pick b (record-cells t (stands at l m) 1 (width t) ++ cells-in t 0 (at + length l) ls) (cells-in t (waits m (content l)) (at + length l) ls)
-        ≡ all-cells t (λ q. pick b (this-or q (stands at l m) (λ r. record-at r 0 (at + length l) ls)) (record-at q (waits m (content l)) (at + length l) ls)) (pick b 1 0 + times Rec ls)
+    by : (b : Bool) → cells-in t o 0 (at + length l) ls ≡ all-cells t o (λ q. record-at q 0 (at + length l) ls) (times Rec ls) →
+        cells-in t o (waits m (content l)) (at + length l) ls ≡ all-cells t o (λ q. record-at q (waits m (content l)) (at + length l) ls) (times Rec ls) →
+        pick b (record-cells t o (stands at l m) 1 (width t) ++ cells-in t o 0 (at + length l) ls) (cells-in t o (waits m (content l)) (at + length l) ls)
+        ≡ all-cells t o (λ q. pick b (this-or q (stands at l m) (λ r. record-at r 0 (at + length l) ls)) (record-at q (waits m (content l)) (at + length l) ls)) (pick b 1 0 + times Rec ls)
     by true x y = let z : 1 + times Rec ls ≡ suc (times Rec ls) = omega arith in rw (z, x)
     by false x y = let z : 0 + times Rec ls ≡ times Rec ls = omega arith in rw (z, y)
 
 module _ (x : Section) where
-  row-is : (r f n : ℕ) → row-cells x r f n ≡ record-cells (table-of (x .lines)) (record-of x r) f n
+  row-is : (r f n : ℕ) → row-cells x r f n ≡ record-cells (table-of (x .lines)) (order-in (x .lines)) (record-of x r) f n
   unfolding row-cells record-cells value-at
   row-is r f zero = refl
   row-is r f (suc n) = rw (row-is r (suc f) n)
 
-  table-is : (r n : ℕ) → table-cells x (suc r) n ≡ all-cells (table-of (x .lines)) (λ q. record-at (r + q) 0 (x .place) (x .lines)) n
+  table-is : (r n : ℕ) → table-cells x (suc r) n ≡ all-cells (table-of (x .lines)) (order-in (x .lines)) (λ q. record-at (r + q) 0 (x .place) (x .lines)) n
   unfolding table-cells all-cells record-of
   table-is r zero = refl
   table-is r (suc n) =
       let z : suc r - 1 ≡ r + 0 = omega arith in
       rw (row-is (suc r) 1 (width (table-of (x .lines))), z, table-is (suc r) n)
-      (ap (λ (w : List ℕ). record-cells (table-of (x .lines)) (record-at (r + 0) 0 (x .place) (x .lines)) 1 (width (table-of (x .lines))) ++ w)
-      (all-alike (table-of (x .lines)) (λ q. record-at (suc r + q) 0 (x .place) (x .lines)) (λ q. record-at (r + suc q) 0 (x .place) (x .lines))
+      (ap (λ (w : List ℕ). record-cells (table-of (x .lines)) (order-in (x .lines)) (record-at (r + 0) 0 (x .place) (x .lines)) 1 (width (table-of (x .lines))) ++ w)
+      (all-alike (table-of (x .lines)) (order-in (x .lines)) (λ q. record-at (suc r + q) 0 (x .place) (x .lines)) (λ q. record-at (r + suc q) 0 (x .place) (x .lines))
       (λ q. ap (λ (k : ℕ). record-at k 0 (x .place) (x .lines)) (let y : suc r + q ≡ r + suc q = omega arith in y)) n))
 
   -- the cells of a section are those of its values, one `rec` line after another
   pub cells-are : cellsOf x ≡ table-cells x 1 (times Rec (x .lines))
   unfolding cellsOf
   cells-are =
-      cells-all (table-of (x .lines)) 0 (x .place) (x .lines)
-      ∙ (all-alike (table-of (x .lines)) (λ q. record-at q 0 (x .place) (x .lines)) (λ q. record-at (0 + q) 0 (x .place) (x .lines))
+      cells-all (table-of (x .lines)) (order-in (x .lines)) 0 (x .place) (x .lines)
+      ∙ (all-alike (table-of (x .lines)) (order-in (x .lines)) (λ q. record-at q 0 (x .place) (x .lines)) (λ q. record-at (0 + q) 0 (x .place) (x .lines))
       (λ q. ap (λ (k : ℕ). record-at k 0 (x .place) (x .lines)) (let y : q ≡ 0 + q = omega arith in y)) (times Rec (x .lines))
       ∙ sym (table-is 0 (times Rec (x .lines))))
 
@@ -143,7 +144,7 @@ table-cell x r (suc n) (suc q) k h l =
           rw (length-append (row-cells x r 1 (width (table-of (x .lines)))) (c .before), row-length x r 1 (width (table-of (x .lines))), c .placed) (omega arith);
     })
 
--- record r and field f, from 1, of a sound section: three cells for each value before it
+-- record r and column f, from 1, of a sound section: three cells for each value before it
 pub cell-stands : (s : Bytes) (i r f : ℕ) → Given s i r f →
     CellAt (cellsOf (section-at s i)) ((r - 1) * (width (table-of (section-at s i .lines)) * 3) + (f - 1) * 3) (value-at (section-at s i) r f)
 cell-stands s i r f g =

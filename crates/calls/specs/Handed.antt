@@ -20,7 +20,7 @@ pub data StandsFor (s : Bytes) : Value → Datum → Type 0 where
   a-number : {n : ℕ} → StandsFor s (Va.Number n) (number n)
   a-text : {x : Text} {u : Bytes} → take (x .to - x .from) (drop (x .from) s) ≡ doubled u → StandsFor s (Va.Words x) (words (x .owner) u)
 
--- the values of n fields of record r, from field f, as cells; and those of n records, from record r
+-- the values of n columns of record r, from column f, as cells; and those of n records, from record r
 unfoldable pub row-cells : Section → ℕ → ℕ → ℕ → List ℕ
 row-cells x r f zero = []
 row-cells x r f (suc n) = cell-of (value-at x r f) ++ row-cells x r (suc f) n

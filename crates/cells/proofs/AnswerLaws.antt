@@ -2,18 +2,17 @@
 use mathlib.Core.Path.{_≡_, refl, ap, sym, _∙_}
 use mathlib.Core.Bool.{Bool, true, false}
 use mathlib.Core.List.{List, [], _∷_}
-use Prim.Native.Nat.{ℕ, suc, _+_, _*_, _<_, _≤_}
+use Prim.Native.Nat.{ℕ, suc, _+_, _*_, _≤_}
 use native.Mathlib.Nat.{mul-le-mul}
 use native.Mathlib.Omega.{arith}
-use borrow.Author.Tests.{eq-eqb, ne-eqb}
+use borrow.Author.Tests.{ne-eqb}
 use lib.Dec.{eqb, ltb}
 use lib.ListN.{length, take, drop, length-append}
 use Rattle.page.specs.Bytes.{Bytes, pick, until}
-use Rattle.page.specs.Lines.{lines, joined, content-size, content, command, rest, Rec}
-use Rattle.page.specs.Fields.{fields}
-use Rattle.page.specs.Tables.{width}
-use Rattle.page.specs.Records.{waits, table-of}
-use Rattle.page.specs.Places.{stands, record-at}
+use Rattle.page.specs.Lines.{lines, joined, content-size, content, command, Rec}
+use Rattle.page.specs.Tables.{WIDEST, width}
+use Rattle.page.specs.Order.{upto}
+use Rattle.page.specs.Records.{table-of, order-in}
 use Rattle.page.specs.Rules.{times}
 use Rattle.page.specs.Answers.{refusal, sound, earlier, refuse-if, written}
 use Rattle.page.specs.File.{limit, row-of, rowOf}
@@ -23,16 +22,16 @@ use Rattle.page.specs.Handing.{cells-in, cellsOf, table-refusal, cells-refusal,
 use Rattle.page.specs.declared.Row.{Row}
 use Rattle.page.specs.declared.Refusal.{Refusal}
 use Rattle.page.specs.declared.Written.the-variants as W
+use Rattle.tables.specs.Orders.{held}
+use Rattle.tables.proofs.OrderLaws.{listed-held}
 use Rattle.grammar.proofs.Own.{row-count}
 use Rattle.calls.proofs.HandedCells.{cells-count}
 use Rattle.cut.specs.Walk.{section-from}
 use Rattle.sections.specs.Located.{Begins}
 use Rattle.values.specs.Values.{row-from}
-use Rattle.machine.proofs.SoundLaws.{passed-width}
-use Rattle.values.proofs.ValueLaws.{prefix-lines, passed-from}
+use Rattle.values.proofs.ValueLaws.{prefix-lines}
 use Rattle.output.specs.Put.{Put}
 use Rattle.output.proofs.WriteLaws.{put-front}
-use Rattle.cells.specs.Cells.{whole}
 
 -- refused, or given
 
@@ -69,27 +68,6 @@ few-records : (ls : List Bytes) → times Rec ls ≤ length (joined ls)
 unfolding times joined
 few-records [] = omega arith
 few-records (l ∷ ls) = omega (arith, some-bytes l, few-records ls, length-append l (joined ls))
-
--- each has a field for each column where it passed
-
-all-whole : (t m at : ℕ) (ls : List Bytes) → ((r : ℕ) → r < times Rec ls → length (fields (record-at r m at ls .rest)) ≡ width t) → whole t ls ≡ true
-unfolding whole times record-at stands
-all-whole t m at [] f = refl
-all-whole t m at (l ∷ ls) f =
-    by (eqb (command (content l)) Rec) refl (all-whole t 0 (at + length l) ls) (all-whole t (waits m (content l)) (at + length l) ls) f
-  where
-    by : (b : Bool) → eqb (command (content l)) Rec ≡ b
-        → (((r : ℕ) → r < times Rec ls → length (fields (record-at r 0 (at + length l) ls .rest)) ≡ width t) → whole t ls ≡ true)
-        → (((r : ℕ) → r < times Rec ls → length (fields (record-at r (waits m (content l)) (at + length l) ls .rest)) ≡ width t) → whole t ls ≡ true)
-        → ((r : ℕ) → r < times Rec (l ∷ ls) → length (fields (record-at r m at (l ∷ ls) .rest)) ≡ width t)
-        → whole t (l ∷ ls) ≡ true
-    by true e p q f =
-        let z : length (fields (rest (content l))) ≡ width t = rw e at (f 0 (rw e (omega arith))) in
-        let k = p (λ (r : ℕ) (h : r < times Rec ls). rw e at (f (suc r) (rw e (omega arith)))) in
-        rw (e, eq-eqb (length (fields (rest (content l)))) (width t) z, k)
-    by false e p q f =
-        let k = q (λ (r : ℕ) (h : r < times Rec ls). rw e at (f r (rw e (omega arith)))) in
-        rw (e, k)
 
 -- the section that stands at a place, with its row
 module _ (s : Bytes) (i at : ℕ) (b : Begins s i at) (x : Row) (q : x ≡ row-from s at) where
@@ -133,14 +111,6 @@ module _ (s : Bytes) (i at : ℕ) (b : Begins s i at) (x : Row) (q : x ≡ row-f
       pub cells-counted : (n : ℕ) → n ≡ width t * 3 → length (cellsOf (section-at s i)) ≡ x .records * n
       cells-counted n h = cells-count s i verdict-at ∙ rw (row-here, b .is, h, g)
 
-      pub cells-all : cells-in t 0 at (lines (drop at (take e s))) ≡ cellsOf (section-at s i)
-      unfolding cellsOf section-from
-      cells-all = rw (b .is, end-within .2, g)
-
-      pub table-whole : whole t (lines (drop at (take e s))) ≡ true
-      table-whole =
-          rw (end-within .2, g)
-          (all-whole (table-of (section-from s at .lines)) 0 at (section-from s at .lines)
-          (λ (r : ℕ) (h : r < times Rec (section-from s at .lines)).
-          passed-width (table-of (section-from s at .lines)) (record-at r 0 at (section-from s at .lines) .mark) (fields (record-at r 0 at (section-from s at .lines) .rest))
-          (passed-from s at (b .inside) (b .settled) verdict-from r (rw q at (let y : r < x .records = omega (arith, record-count) in y)))))
+      pub cells-all : (a : List ℕ) → a ≡ upto 0 WIDEST → cells-in t (held t a) 0 at (lines (drop at (take e s))) ≡ cellsOf (section-at s i)
+      unfolding cellsOf section-from order-in
+      cells-all a o = rw (b .is, end-within .2, g, o, listed-held)

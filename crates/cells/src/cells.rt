@@ -1,21 +1,21 @@
 // The values of one record, three numbers each.
 ghost use mathlib.Core.Path.{_≡_};
-ghost use mathlib.Core.Bool.{false};
 ghost use mathlib.Core.List.{[], _∷_};
-ghost use Prim.Native.Nat.{_+_, _<_, _≤_};
-ghost use lib.ListN.{length, drop};
-ghost use Rattle.page.specs.Fields.{field-size, fields};
+ghost use Prim.Native.Nat.{_+_, _≤_};
+ghost use lib.ListN.{length};
 ghost use Rattle.page.specs.Tables.{width};
-ghost use Rattle.page.specs.Places.{field-place};
 ghost use Rattle.page.specs.File.{limit};
-ghost use Rattle.page.specs.Reading.{value-in};
 ghost use Rattle.page.specs.Handing.{owner-cell, cell-of, record-cells};
+ghost use Rattle.tables.specs.Orders.{held, Stands};
 ghost use Rattle.output.specs.Put.{Put};
+use judging::find_starts;
 use page::Owner;
-use page::Text;
 use page::Value;
-use tables::find_kinds;
+use tables::WIDEST;
+use tables::find_column;
+use tables::find_place;
 use tables::find_width;
+use values::read_value;
 
 fn put_three(cells: &mut [u64], o: usize, kind: u64, a: u64, b: u64) -> usize
     requires { ⌜ o + 3 ≤ length (now cells) ⌝ }
@@ -50,46 +50,34 @@ fn put_value(cells: &mut [u64], o: usize, v: Value) -> usize
     }
 }
 
-// Field k, from 0, of the record whose fields are w and stand at a place of the file: from p to e, with the spaces around it.
-fn read_value(w: &[u8], p: usize, e: usize, at: usize, m: u64, t: usize, k: usize) -> Value
-    requires { ⌜ (p ≡ field-place k 0 (now w))
-        × (e ≡ p + field-size false (drop p (now w)))
-        × (length (fields (now w)) ≡ width t)
-        × (k < width t)
-        × (at + length (now w) ≤ limit) ⌝ }
-    ensures { λ r. ⌜ r ≡ value-in t (record { at = at; rest = now (w .entry); mark = m }) (k + 1) ⌝ }
-{
-    let sp = lines::trim_in(w, p, e);
-    let a = sp.from;
-    let b = sp.to;
-    let kinds = find_kinds(t);
-    if kinds[k] {
-        return Value::Words(Text {
-            from: at + (a + 1),
-            to: at + lines::one_less(b),
-            owner: values::owner_of(m, k + 1),
-        });
-    }
-    Value::Number(fields::amount_of(&w[a..b]))
-}
-
-// The values of a record of table t, from the left.
-pub fn put_values(cells: &mut [u64], from: usize, w: &[u8], at: usize, m: u64, t: usize) -> usize
-    requires { ⌜ (length (fields (now w)) ≡ width t)
+// The values of a record of table t, by column.
+pub fn put_values(
+    cells: &mut [u64],
+    from: usize,
+    w: &[u8],
+    at: usize,
+    m: u64,
+    t: usize,
+    o: &[u8; WIDEST],
+) -> usize
+    requires { ⌜ Stands t (now o)
         × (at + length (now w) ≤ limit)
-        × (from + length (record-cells t (record { at = at; rest = now w; mark = m }) 1 (width t)) ≤ length (now cells)) ⌝ }
+        × (from + length (record-cells t (held t (now o)) (record { at = at; rest = now w; mark = m }) 1 (width t)) ≤ length (now cells)) ⌝ }
     ensures { λ r.
-        ⌜ Put (now (cells .entry)) from (record-cells t (record { at = at; rest = now (w .entry); mark = m }) 1 (width t)) (now (cells .exit)) r ⌝ }
+        ⌜ Put (now (cells .entry)) from (record-cells t (held t (now (o .entry))) (record { at = at; rest = now (w .entry); mark = m }) 1 (width t)) (now (cells .exit)) r ⌝ }
 {
     let n = find_width(t);
-    let mut o = from;
-    let mut p = 0;
-    let mut k = 0;
-    while k < n {
-        let e = commands::field_end(w, p);
-        o = put_value(cells, o, read_value(w, p, e, at, m, t, k));
-        p = e + 1;
-        k += 1;
+    let starts = find_starts(w, t);
+    let mut i = from;
+    let mut c = 0;
+    while c < n {
+        let p = find_place(o, t, c);
+        i = put_value(
+            cells,
+            i,
+            read_value(w, at, m, p, starts[p], find_column(t, c)),
+        );
+        c += 1;
     }
-    o
+    i
 }

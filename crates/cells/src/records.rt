@@ -1,32 +1,32 @@
 // All values of one table.
 ghost use mathlib.Core.Path.{_≡_};
-ghost use mathlib.Core.Bool.{true};
 ghost use Prim.Native.Nat.{_≤_};
 ghost use lib.ListN.{length, drop};
 ghost use Rattle.page.specs.Lines.{lines};
 ghost use Rattle.page.specs.File.{limit};
 ghost use Rattle.page.specs.Handing.{cells-in, tableOf, cells-after};
+ghost use Rattle.tables.specs.Orders.{held, Stands};
 ghost use Rattle.sections.specs.Located.{Begins};
 ghost use Rattle.output.specs.Put.{Put};
-ghost use Rattle.cells.specs.Cells.{whole};
 use crate::cells::put_values;
 use lines::Cursor;
 use page::Refusal;
 use page::Written;
 use sections::Located;
+use tables::WIDEST;
 use tables::find_width;
 
-// The records of the lines from a place on; each has a field for each column.
-fn put_records(cells: &mut [u64], s: &[u8], from: usize, t: usize) -> usize
+// The records of the lines from a place on, in the order o.
+fn put_records(cells: &mut [u64], s: &[u8], from: usize, t: usize, o: &[u8; WIDEST]) -> usize
     requires { ⌜ (from ≤ length (now s))
         × (length (now s) ≤ limit)
-        × (whole t (lines (drop from (now s))) ≡ true)
-        × (length (cells-in t 0 from (lines (drop from (now s)))) ≤ length (now cells)) ⌝ }
-    ensures { λ r. ⌜ Put (now (cells .entry)) 0 (cells-in t 0 from (lines (drop from (now (s .entry))))) (now (cells .exit)) r ⌝ }
+        × Stands t (now o)
+        × (length (cells-in t (held t (now o)) 0 from (lines (drop from (now s)))) ≤ length (now cells)) ⌝ }
+    ensures { λ r. ⌜ Put (now (cells .entry)) 0 (cells-in t (held t (now (o .entry))) 0 from (lines (drop from (now (s .entry))))) (now (cells .exit)) r ⌝ }
 {
     let mut c = Cursor { at: from };
     let mut m: u64 = 0;
-    let mut o: usize = 0;
+    let mut i: usize = 0;
     while c.at < s.len() {
         let at = c.at;
         let l = c.line(s);
@@ -36,16 +36,16 @@ fn put_records(cells: &mut [u64], s: &[u8], from: usize, t: usize) -> usize
             let p = values::place_fields(s, at, e, m);
             let a = p.from;
             let b = p.to;
-            o = put_values(cells, o, &s[a..b], a, p.mark, t);
+            i = put_values(cells, i, &s[a..b], a, p.mark, t, o);
             m = 0;
         } else {
             m = values::wait_on(&s[at..e], m);
         }
     }
-    o
+    i
 }
 
-// The section at a place: "the section's verdict", then 21 for too little room; three numbers for each field of each record.
+// The section at a place: "the section's verdict", then 21 for too little room; three numbers for each column of each record.
 fn hand_table(file: &[u8], section: usize, at: usize, cells: &mut [u64]) -> Written
     requires { ⌜ Begins (now file) section at ⌝ }
     ensures { λ r.
@@ -67,10 +67,11 @@ fn hand_table(file: &[u8], section: usize, at: usize, cells: &mut [u64]) -> Writ
         return Written::Refused(sections::refuse_with(21));
     }
     let e = at + row.length;
-    Written::Length(put_records(cells, &file[..e], at, t))
+    let o = tables::list_columns();
+    Written::Length(put_records(cells, &file[..e], at, t, &o))
 }
 
-// All values of section i, from 1, record by record and field by field.
+// All values of section i, from 1, record by record and column by column.
 pub fn table(file: &[u8], section: usize, cells: &mut [u64]) -> Written
     ensures { λ r.
         ⌜ (r ≡ tableOf (now (file .entry)) section (length (now (cells .entry))))

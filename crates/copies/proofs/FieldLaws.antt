@@ -1,33 +1,32 @@
 -- What is put for one field and one mark of a record, and how the marks and fields go on column by column. Assumes nothing.
 use mathlib.Core.Path.{_≡_, refl, ap, sym, _∙_}
-use mathlib.Core.Bool.{Bool, true, false, not, _&&_, _||_}
+use mathlib.Core.Bool.{Bool, true, false, not, _&&_, _||_, false≢true}
 use mathlib.Core.List.{List, [], _∷_, _++_}
-use mathlib.Core.Option.{Option, none, some}
-use Prim.Native.Nat.{ℕ, suc, _+_, _-_, _*_, _<_, _≤_}
+use Prim.Native.Nat.{ℕ, suc, _+_, _<_, _≤_}
 use native.Mathlib.Numerals.{add-one}
 use native.Mathlib.Omega.{arith}
-use borrow.Author.Tests.{eq-eqb, ne-eqb, eqb-true, eqb-false, leb-true}
+use borrow.Author.Tests.{eq-eqb, ne-eqb, leb-true}
 use lib.Dec.{eqb, leb}
 use lib.ListN.{length, getD, drop, drop-of-length-le}
 use lib.Seq.{drop-cons}
 use Rattle.page.specs.Bytes.{Bytes, bytes, pick}
 use Rattle.page.specs.Fields.{numberOf}
-use Rattle.page.specs.Tables.{Named, all-tables, no-column, standing, column-at, width}
+use Rattle.page.specs.Tables.{Named, all-tables, no-column, columns, column-at, width}
+use Rattle.page.specs.Order.{Order, arranged, standing, place, by-column}
 use Rattle.page.specs.Marks.{owner-of}
-use Rattle.page.specs.Section.{record-text, text-field, fieldOf, field-number, first-wrong, amount}
+use Rattle.page.specs.Section.{record-text, fieldOf, field-number, first-wrong, amount}
 use Rattle.page.specs.Records.{number, words, own-bytes, datumOf}
 use Rattle.page.specs.Model.{strip-datum}
 use Rattle.page.specs.Form.{doubled, quoted, decimal, datum-text, mark-line}
+use Rattle.page.specs.declared.LineEnd.{LineEnd}
 use Rattle.page.specs.declared.Owner.the-variants as O
 use Rattle.page.specs.declared.Column.{Column}
-use Rattle.page.proofs.TextLaws.{text-quoted}
-use Rattle.page.proofs.TableLaws.{each, column-test, standing-width, standing-column}
-use Rattle.output.proofs.FormLaws.{quoted-length}
-use Rattle.judging.proofs.RecordLaws.{wrong-hit, wrong-more}
+use Rattle.page.proofs.TableLaws.{each, column-test}
+use Rattle.page.proofs.OrderLaws.{arranged-long, place-in, standing-length, standing-column, by-column-length, by-column-at, none-wrong}
 use Rattle.copies.specs.Changed.{changed-datum}
 use Rattle.copies.specs.Parts.{marked-by, mark-by, marks-form, datum-by, fields-form}
 
--- is a field marked?
+-- is a column marked?
 
 module _ (strip : Bool) (f m i : ℕ) (c : Column) where
   pub marked-filled : f ≡ i → true ≡ marked-by strip f m i c
@@ -47,37 +46,15 @@ module _ (strip : Bool) (f m i : ℕ) (c : Column) where
     unfolding marked-by
     marked-waiting e d = rw (ne-eqb f i n, e, eq-eqb m i d)
 
-  pub mark-put : (b : Bool) → b ≡ marked-by strip f m i c → b ≡ true → mark-line i ≡ mark-by strip f m i c
+  pub mark-put : (ends : LineEnd) (b : Bool) → b ≡ marked-by strip f m i c → b ≡ true → mark-line ends i ≡ mark-by ends strip f m i c
   unfolding mark-by
-  mark-put b x y = rw (sym x ∙ y)
+  mark-put ends b x y = rw (sym x ∙ y)
 
-  pub mark-left : (b : Bool) → b ≡ marked-by strip f m i c → b ≡ false → [] ≡ mark-by strip f m i c
+  pub mark-left : (ends : LineEnd) (b : Bool) → b ≡ marked-by strip f m i c → b ≡ false → [] ≡ mark-by ends strip f m i c
   unfolding mark-by
-  mark-left b x y = rw (sym x ∙ y)
+  mark-left ends b x y = rw (sym x ∙ y)
 
--- a text field that is read without refusal is closed, and no longer than its column asks
-pub data Closed (size : ℕ) (w : Bytes) : Type 0 where
-  closed : (u : Bytes) → record-text w ≡ some u → length u ≤ size → Closed size w
-
-pub closed-of : (c : Column) (w : Bytes) → c .text ≡ true → field-number (fieldOf c w) ≡ 0 → Closed (c .hi) w
-unfolding fieldOf text-field field-number
-closed-of c w x e = by (record-text w) refl (rw x at e)
-  where
-    size : (u : Bytes) (b : Bool) → leb (length u) (c .hi) ≡ b → field-number (text-field (c .hi) w (some u)) ≡ 0 → length u ≤ c .hi
-    size u true q z = leb-true (length u) (c .hi) q
-    size u false q z = absurd (let y : _≡_ {A = ℕ} 13 0 = rw q at z in omega arith)
-
-    by : (o : Option Bytes) → record-text w ≡ o → field-number (text-field (c .hi) w (record-text w)) ≡ 0 → Closed (c .hi) w
-    by none q z = absurd (let y : _≡_ {A = ℕ} 11 0 = rw q at z in omega arith)
-    by (some u) q z = closed u q (size u (leb (length u) (c .hi)) refl (rw q at z))
-
-pub closed-is : {size : ℕ} {w : Bytes} → Closed size w → w ≡ quoted (own-bytes (record-text w))
-unfolding record-text
-closed-is {size} {w} (closed u e h) = text-quoted w u e ∙ sym (ap (λ (o : Option Bytes). quoted (own-bytes o)) e)
-
-pub closed-short : {size : ℕ} {w : Bytes} → Closed size w → length w ≤ 2 * size + 2
-unfolding record-text
-closed-short {size} {w} (closed u e h) = rw (text-quoted w u e) (omega (arith, quoted-length u))
+-- how wide a column of texts may be
 
 abbrev narrow : Column → Bool
 narrow c = not (c .text) || leb (c .hi) 40
@@ -105,7 +82,7 @@ module _ (strip : Bool) (f m i : ℕ) (t : Bytes) (c : Column) (w : Bytes) where
         by true = refl
         by false = refl
 
-    pub field-stripped : c .text ≡ true → (b : Bool) → b ≡ (strip && eqb m i) → b ≡ true → 34 ∷ 34 ∷ [] ≡ datum-text (datum-by strip f t m i c w)
+    field-stripped : c .text ≡ true → (b : Bool) → b ≡ (strip && eqb m i) → b ≡ true → 34 ∷ 34 ∷ [] ≡ datum-text (datum-by strip f t m i c w)
     unfolding datum-by changed-datum datum-text datumOf strip-datum owner-of quoted doubled
     field-stripped x b e y = rw (ne-eqb f i n, x) (by strip (eqb m i) (sym e ∙ y))
       where
@@ -115,60 +92,94 @@ module _ (strip : Bool) (f m i : ℕ) (t : Bytes) (c : Column) (w : Bytes) where
         by true false z = absurd (let q : _≡_ {A = ℕ} 0 1 = cc in omega arith)
         by false d z = absurd (let q : _≡_ {A = ℕ} 0 1 = cc in omega arith)
 
+    pub datum-kept : (b : Bool) → b ≡ (strip && eqb m i) → b ≡ false → datumOf (owner-of m i) c w ≡ datum-by strip f t m i c w
+    unfolding datum-by changed-datum datumOf strip-datum owner-of
+    datum-kept b e y = rw (ne-eqb f i n) (by strip (eqb m i) (c .text) (sym e ∙ y))
+      where
+        u : Bytes
+        u = own-bytes (record-text w)
+
+        a : ℕ
+        a = amount (numberOf w)
+
+        by : (s d x : Bool) → (s && d) ≡ false
+            → pick x (words (pick d O.Suggestion O.Operator) u) (number a)
+            ≡ pick s (strip-datum (pick x (words (pick d O.Suggestion O.Operator) u) (number a))) (pick x (words (pick d O.Suggestion O.Operator) u) (number a))
+        by true true x z = absurd (false≢true (sym z))
+        by true false true z = refl
+        by true false false z = refl
+        by false d x z = refl
+
+    field-words : c .text ≡ true → (b : Bool) → b ≡ (strip && eqb m i) → b ≡ false → quoted (own-bytes (record-text w)) ≡ datum-text (datum-by strip f t m i c w)
+    unfolding datum-text datumOf
+    field-words x b e y =
+        let z : quoted (own-bytes (record-text w)) ≡ datum-text (datumOf (owner-of m i) c w) = rw x in
+        z ∙ ap datum-text (datum-kept b e y)
+
+    pub field-text : c .text ≡ true → (raw : Bytes) → raw ≡ quoted (own-bytes (record-text w)) → (b : Bool) → b ≡ (strip && eqb m i)
+        → pick b (34 ∷ 34 ∷ []) raw ≡ datum-text (datum-by strip f t m i c w)
+    field-text x raw r true e = field-stripped x true e refl
+    field-text x raw r false e = r ∙ field-words x false e refl
+
 -- column by column
 
-standing-cons : (t k : ℕ) → k < width t → drop k (standing t) ≡ getD (standing t) k no-column ∷ drop (k + 1) (standing t)
-standing-cons t k h =
-    let n : k < length (standing t) = omega (arith, standing-width t) in
-    rw (add-one, drop-cons (standing t) k no-column n)
+columns-cons : (t k : ℕ) → k < width t → drop k (columns t) ≡ getD (columns t) k no-column ∷ drop (k + 1) (columns t)
+unfolding width
+columns-cons t k h = rw (add-one, drop-cons (columns t) k no-column h)
 
-marks-step : (strip : Bool) (f m i j : ℕ) (cs rest : List Named) (c : Named) (d : Column) → cs ≡ c ∷ rest → j ≡ suc i → c .column ≡ d
-    → marks-form strip f m i cs ≡ mark-by strip f m i d ++ marks-form strip f m j rest
+columns-done : (t k : ℕ) → width t ≤ k → drop k (columns t) ≡ []
+unfolding width
+columns-done t k h = drop-of-length-le (columns t) h
+
+marks-step : (ends : LineEnd) (strip : Bool) (f m i j : ℕ) (cs rest : List Named) (c : Named) → cs ≡ c ∷ rest → j ≡ suc i
+    → marks-form ends strip f m i cs ≡ mark-by ends strip f m i (c .column) ++ marks-form ends strip f m j rest
 unfolding marks-form
-marks-step strip f m i j cs rest c d e n q = rw (e, n, q)
+marks-step ends strip f m i j cs rest c e n = rw (e, n)
 
-module _ (strip : Bool) (f m t k : ℕ) where
-  pub marks-more : k < width t → marks-form strip f m (k + 1) (drop k (standing t))
-      ≡ mark-by strip f m (k + 1) (column-at t k) ++ marks-form strip f m (k + 1 + 1) (drop (k + 1) (standing t))
+module _ (ends : LineEnd) (strip : Bool) (f m t k : ℕ) where
+  pub marks-more : k < width t → marks-form ends strip f m (k + 1) (drop k (columns t))
+      ≡ mark-by ends strip f m (k + 1) (column-at t k) ++ marks-form ends strip f m (k + 1 + 1) (drop (k + 1) (columns t))
+  unfolding column-at
   marks-more h =
-      marks-step strip f m (k + 1) (k + 1 + 1) (drop k (standing t)) (drop (k + 1) (standing t)) (getD (standing t) k no-column) (column-at t k) (standing-cons t k h)
-      (omega arith) (standing-column t k)
+      marks-step ends strip f m (k + 1) (k + 1 + 1) (drop k (columns t)) (drop (k + 1) (columns t)) (getD (columns t) k no-column) (columns-cons t k h) (omega arith)
 
-  pub marks-end : width t ≤ k → marks-form strip f m (k + 1) (drop k (standing t)) ≡ []
+  pub marks-end : width t ≤ k → marks-form ends strip f m (k + 1) (drop k (columns t)) ≡ []
   unfolding marks-form
-  marks-end h =
-      let n : length (standing t) ≤ k = omega (arith, standing-width t) in
-      rw (drop-of-length-le (standing t) n)
+  marks-end h = rw (columns-done t k h)
 
-fields-step : (strip : Bool) (f : ℕ) (x : Bytes) (m i j : ℕ) (cs rest : List Named) (c : Named) (d : Column) (ws r : List Bytes) (w : Bytes)
-    → cs ≡ c ∷ rest → ws ≡ w ∷ r → j ≡ suc i → c .column ≡ d
-    → fields-form strip f x m i cs ws ≡ (bytes "; " ++ datum-text (datum-by strip f x m i d w)) ++ fields-form strip f x m j rest r
+-- the fields by column, where the column at each place is one of the order's
+
+fields-cons : (o : Order) (ws : List Bytes) (k : ℕ) → k < length o → drop k (by-column o ws) ≡ getD ws (place k o) [] ∷ drop (k + 1) (by-column o ws)
+fields-cons o ws k h =
+    let n : k < length (by-column o ws) = omega (arith, by-column-length o ws) in
+    rw (add-one, drop-cons (by-column o ws) k [] n, by-column-at o ws k h)
+
+fields-step : (strip : Bool) (f : ℕ) (x : Bytes) (m i j : ℕ) (cs rest : List Named) (c : Named) (ws r : List Bytes) (w : Bytes)
+    → cs ≡ c ∷ rest → ws ≡ w ∷ r → j ≡ suc i
+    → fields-form strip f x m i cs ws ≡ (bytes "; " ++ datum-text (datum-by strip f x m i (c .column) w)) ++ fields-form strip f x m j rest r
 unfolding fields-form
-fields-step strip f x m i j cs rest c d ws r w e v n q = rw (e, v, n, q)
+fields-step strip f x m i j cs rest c ws r w e v n = rw (e, v, n)
 
-module _ (strip : Bool) (f : ℕ) (x : Bytes) (m t k : ℕ) (ws : List Bytes) where
-  pub fields-more : k < width t → (w : Bytes) (r : List Bytes) → ws ≡ w ∷ r
-      → fields-form strip f x m (k + 1) (drop k (standing t)) ws
-      ≡ (bytes "; " ++ datum-text (datum-by strip f x m (k + 1) (column-at t k) w)) ++ fields-form strip f x m (k + 1 + 1) (drop (k + 1) (standing t)) r
-  fields-more h w r e =
-      fields-step strip f x m (k + 1) (k + 1 + 1) (drop k (standing t)) (drop (k + 1) (standing t)) (getD (standing t) k no-column) (column-at t k) ws r w
-      (standing-cons t k h) e (omega arith) (standing-column t k)
+module _ (strip : Bool) (f : ℕ) (x : Bytes) (m t k : ℕ) (o : Order) (ws : List Bytes) where
+  pub fields-more : k < width t → k < length o → (w : Bytes) → w ≡ getD ws (place k o) []
+      → fields-form strip f x m (k + 1) (drop k (columns t)) (drop k (by-column o ws))
+      ≡ (bytes "; " ++ datum-text (datum-by strip f x m (k + 1) (column-at t k) w)) ++ fields-form strip f x m (k + 1 + 1) (drop (k + 1) (columns t)) (drop (k + 1) (by-column o ws))
+  unfolding column-at
+  fields-more h l w e =
+      fields-step strip f x m (k + 1) (k + 1 + 1) (drop k (columns t)) (drop (k + 1) (columns t)) (getD (columns t) k no-column)
+      (drop k (by-column o ws)) (drop (k + 1) (by-column o ws)) w
+      (columns-cons t k h) (fields-cons o ws k l ∙ ap (λ (y : Bytes). y ∷ drop (k + 1) (by-column o ws)) (sym e)) (omega arith)
 
-  pub fields-end : width t ≤ k → fields-form strip f x m (k + 1) (drop k (standing t)) ws ≡ []
+  pub fields-end : width t ≤ k → fields-form strip f x m (k + 1) (drop k (columns t)) (drop k (by-column o ws)) ≡ []
   unfolding fields-form
-  fields-end h =
-      let n : length (standing t) ≤ k = omega (arith, standing-width t) in
-      rw (drop-of-length-le (standing t) n)
+  fields-end h = rw (columns-done t k h)
 
--- no field of a record that passed is wrong
+-- no field of a record that passed is wrong for the column that stands there
 
-pub none-wrong : (t k : ℕ) → k < width t → (w : Bytes) (r ws : List Bytes) → ws ≡ w ∷ r → first-wrong (drop k (standing t)) ws ≡ 0
-    → (field-number (fieldOf (column-at t k) w) ≡ 0) × (first-wrong (drop (k + 1) (standing t)) r ≡ 0)
-none-wrong t k h w r ws e z = by (eqb (field-number (fieldOf (column-at t k) w)) 0) refl
-  where
-    v : ℕ
-    v = field-number (fieldOf (column-at t k) w)
-
-    by : (b : Bool) → eqb v 0 ≡ b → (v ≡ 0) × (first-wrong (drop (k + 1) (standing t)) r ≡ 0)
-    by true q = let n = eqb-true v 0 q in (n, sym (wrong-more t k h w r ws e v refl n) ∙ z)
-    by false q = let n = eqb-false v 0 q in absurd (n (sym (wrong-hit t k h w r ws e v refl n) ∙ z))
+pub column-sound : (t : ℕ) (o : Order) (ws : List Bytes) → arranged (width t) o ≡ true → length ws ≡ width t → first-wrong (standing t o) ws ≡ 0
+    → (k : ℕ) → k < width t → field-number (fieldOf (column-at t k) (getD ws (place k o) [])) ≡ 0
+column-sound t o ws a n e k h =
+    let l = place-in (width t) o a k h in
+    let m = arranged-long (width t) o a in
+    let x = none-wrong (standing t o) ws e (place k o) (omega (arith, standing-length t o)) (omega arith) in
+    rw (standing-column t o (place k o) (l .0), l .1) at x

@@ -15,6 +15,7 @@ use Rattle.page.specs.Section.{record-text, amount}
 use Rattle.page.specs.Records.{number, words, Record, own-bytes, datumOf, valuesOf}
 use Rattle.page.specs.Model.{strip-datum}
 use Rattle.page.specs.Form.{separated, line, line-end, datum-text, mark-line, mark-of, marks, record-form}
+use Rattle.page.specs.declared.LineEnd.{LineEnd}
 use Rattle.page.specs.declared.Owner.the-variants as O
 use Rattle.page.specs.declared.Column.{Column}
 use Rattle.copies.specs.Changed.{changed-datum, changed-values}
@@ -28,34 +29,28 @@ counted-down f k = by (eqb f (suc k)) refl
     by true e = let h : f ≡ suc k = eqb-true f (suc k) e in rw e (eq-eqb (f - k) 1 (omega arith))
     by false e = let h : f ≡ suc k → ⊥ = eqb-false f (suc k) e in rw e (ne-eqb (f - k) 1 (λ (z : f - k ≡ 1). h (omega arith)))
 
-pub named : (r n a : ℕ) → r ≡ n + 1 → a ≡ pick (eqb (r - n) 1) a 0
-named r n a e = rw (eq-eqb (r - n) 1 (omega arith))
-
-pub unnamed : (r n a : ℕ) → (r ≡ n + 1 → ⊥) → 0 ≡ pick (eqb (r - n) 1) a 0
-unnamed r n a e = rw (ne-eqb (r - n) 1 (λ (z : r - n ≡ 1). e (omega arith)))
-
 pub one-further : (f k : ℕ) → f - k - 1 ≡ f - suc k
 one-further f k = omega arith
 
 -- a value's mark
-value-mark : (here strip text own : Bool) (i : ℕ) (t u : Bytes) (n : ℕ)
-    → mark-of i (changed-datum here strip t (pick text (words (pick own O.Suggestion O.Operator) u) (number n)))
-    ≡ pick (here || (not strip && (own && text))) (mark-line i) []
+value-mark : (ends : LineEnd) (here strip text own : Bool) (i : ℕ) (t u : Bytes) (n : ℕ)
+    → mark-of ends i (changed-datum here strip t (pick text (words (pick own O.Suggestion O.Operator) u) (number n)))
+    ≡ pick (here || (not strip && (own && text))) (mark-line ends i) []
 unfolding mark-of changed-datum strip-datum
-value-mark true strip text own i t u n = refl
-value-mark false true true true i t u n = refl
-value-mark false true true false i t u n = refl
-value-mark false true false own i t u n = refl
-value-mark false false true true i t u n = refl
-value-mark false false true false i t u n = refl
-value-mark false false false true i t u n = refl
-value-mark false false false false i t u n = refl
+value-mark ends true strip text own i t u n = refl
+value-mark ends false true true true i t u n = refl
+value-mark ends false true true false i t u n = refl
+value-mark ends false true false own i t u n = refl
+value-mark ends false false true true i t u n = refl
+value-mark ends false false true false i t u n = refl
+value-mark ends false false false true i t u n = refl
+value-mark ends false false false false i t u n = refl
 
-mark-is : (strip : Bool) (f m i : ℕ) (t : Bytes) (c : Column) (w : Bytes) → mark-of i (datum-by strip f t m i c w) ≡ mark-by strip f m i c
+mark-is : (ends : LineEnd) (strip : Bool) (f m i : ℕ) (t : Bytes) (c : Column) (w : Bytes) → mark-of ends i (datum-by strip f t m i c w) ≡ mark-by ends strip f m i c
 unfolding mark-by marked-by datum-by datumOf owner-of
-mark-is strip f m i t c w = value-mark (eqb f i) strip (c .text) (eqb m i) i t (own-bytes (record-text w)) (amount (numberOf w))
+mark-is ends strip f m i t c w = value-mark ends (eqb f i) strip (c .text) (eqb m i) i t (own-bytes (record-text w)) (amount (numberOf w))
 
-module _ (strip : Bool) (f m : ℕ) (t : Bytes) where
+module _ (ends : LineEnd) (strip : Bool) (f m : ℕ) (t : Bytes) where
   abbrev values : ℕ → List Named → List Bytes → Record
   values k cs ws = changed-values strip (f - k) t (valuesOf m (suc k) cs ws)
 
@@ -64,14 +59,14 @@ module _ (strip : Bool) (f m : ℕ) (t : Bytes) where
   unfolding valuesOf changed-values datum-by
   values-cons k c cs w ws = rw (counted-down f k, one-further f k)
 
-  marks-are : (k : ℕ) (cs : List Named) (ws : List Bytes) → length ws ≡ length cs → marks (suc k) (values k cs ws) ≡ marks-form strip f m (suc k) cs
+  marks-are : (k : ℕ) (cs : List Named) (ws : List Bytes) → length ws ≡ length cs → marks ends (suc k) (values k cs ws) ≡ marks-form ends strip f m (suc k) cs
   unfolding marks marks-form valuesOf changed-values
   marks-are k [] ws e = refl
   marks-are k (c ∷ cs) [] e = absurd (omega arith)
   marks-are k (c ∷ cs) (w ∷ ws) e =
       let n : length ws ≡ length cs = omega arith in
-      ap (marks (suc k)) (values-cons k c cs w ws)
-      ∙ rw (mark-is strip f m (suc k) t (c .column) w, marks-are (suc k) cs ws n)
+      ap (marks ends (suc k)) (values-cons k c cs w ws)
+      ∙ rw (mark-is ends strip f m (suc k) t (c .column) w, marks-are (suc k) cs ws n)
 
   fields-are : (k : ℕ) (cs : List Named) (ws : List Bytes) → separated (map datum-text (values k cs ws)) ≡ fields-form strip f t m (suc k) cs ws
   unfolding separated fields-form valuesOf changed-values
@@ -82,16 +77,16 @@ module _ (strip : Bool) (f m : ℕ) (t : Bytes) where
       ∙ rw (fields-are (suc k) cs ws, append-assoc)
 
   pub record-is : (cs : List Named) (ws : List Bytes) → length ws ≡ length cs
-      → marks-form strip f m 1 cs ++ (bytes "rec" ++ (fields-form strip f t m 1 cs ws ++ line-end))
-      ≡ record-form (changed-values strip f t (valuesOf m 1 cs ws))
+      → marks-form ends strip f m 1 cs ++ (bytes "rec" ++ (fields-form strip f t m 1 cs ws ++ line-end ends))
+      ≡ record-form ends (changed-values strip f t (valuesOf m 1 cs ws))
   unfolding record-form line
   record-is cs ws e =
       let z : f - 0 ≡ f = omega arith in
-      let a : marks 1 (changed-values strip f t (valuesOf m 1 cs ws)) ≡ marks-form strip f m 1 cs = rw z at (marks-are 0 cs ws e) in
+      let a : marks ends 1 (changed-values strip f t (valuesOf m 1 cs ws)) ≡ marks-form ends strip f m 1 cs = rw z at (marks-are 0 cs ws e) in
       let b : separated (map datum-text (changed-values strip f t (valuesOf m 1 cs ws))) ≡ fields-form strip f t m 1 cs ws = rw z at (fields-are 0 cs ws) in
       rw (a, b)
 
   pub record-length : (cs : List Named) (ws : List Bytes) → length ws ≡ length cs
-      → length (marks-form strip f m 1 cs) + (3 + length (fields-form strip f t m 1 cs ws)) ≤ length (record-form (changed-values strip f t (valuesOf m 1 cs ws)))
+      → length (marks-form ends strip f m 1 cs) + (3 + length (fields-form strip f t m 1 cs ws)) ≤ length (record-form ends (changed-values strip f t (valuesOf m 1 cs ws)))
   unfolding bytes
   record-length cs ws e = rw (sym (record-is cs ws e)) (simp length-append (omega arith))

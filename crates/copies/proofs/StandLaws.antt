@@ -1,6 +1,6 @@
 -- What stands in a record as it is written is copied: "Numbers without leading zeros, texts quoted". Assumes nothing.
 use mathlib.Core.Path.{_≡_, refl, ap, sym, _∙_}
-use mathlib.Core.Bool.{Bool, true, false, _&&_, _||_, false≢true}
+use mathlib.Core.Bool.{Bool, true, false, _&&_, false≢true}
 use mathlib.Core.List.{List, [], _∷_, _++_, append-nil, append-assoc}
 use Prim.Native.Nat.{ℕ, suc, _+_, _-_, _*_, _/_, _%_, _<_, _≤_}
 use native.Mathlib.Nat.{add-zero}
@@ -12,23 +12,23 @@ use lib.ListN.{length, getD, take, drop, take-append-drop, length-append, length
 use lib.Seq.{drop-cons, drop-drop, getD-drop, getD-take, length-take-le, take-all}
 use Rattle.page.specs.Bytes.{Bytes, bytes, pick, all, until, keep, space, no-space, trim}
 use Rattle.page.specs.Fields.{parts-here, inside-after, field-size, fields, digit, digits, value, numberOf}
-use Rattle.page.specs.Tables.{Named, column-at}
+use Rattle.page.specs.Tables.{Named}
 use Rattle.page.specs.Marks.{owner-of}
-use Rattle.page.specs.Section.{record-text, number-field, fieldOf, field-number, first-of, first-wrong, amount}
-use Rattle.page.specs.Records.{number, words, own-bytes, datumOf, valuesOf}
-use Rattle.page.specs.Model.{strip-datum}
-use Rattle.page.specs.Form.{line-end, separated, decimal-in, decimal, doubled, quoted, datum-text, record-form}
+use Rattle.page.specs.Section.{number-field, fieldOf, field-number, first-of, first-wrong, amount}
+use Rattle.page.specs.Records.{datumOf, valuesOf}
+use Rattle.page.specs.Form.{line-end, separated, decimal-in, decimal, datum-text, record-form}
+use Rattle.page.specs.declared.LineEnd.{LineEnd}
 use Rattle.page.specs.declared.Owner.{Owner}
-use Rattle.page.specs.declared.Owner.the-variants as O
 use Rattle.page.specs.declared.Column.{Column}
 use Rattle.page.proofs.TestLaws.{and-left, and-right}
 use Rattle.page.proofs.ScanLaws.{until-hit, until-more, keep-stop}
 use Rattle.page.proofs.FieldLaws.{field-more, field-le, from, from-more, from-end, from-all}
-use Rattle.output.proofs.FormLaws.{decimal-few, decimal-length}
-use Rattle.copies.specs.Changed.{changed-datum, changed-values}
-use Rattle.copies.specs.Parts.{marked-by, mark-by, marks-form, datum-by, fields-form, bare, stands, all-stand, Spaced, Ends, Whole}
+use Rattle.output.proofs.FormLaws.{decimal-few}
+use Rattle.copies.specs.Changed.{changed-values}
+use Rattle.copies.specs.Parts.{marked-by, mark-by, marks-form, datum-by, fields-form, stands, all-stand, Spaced, Ends, Whole}
 use Rattle.copies.proofs.PartLaws.{record-is}
-use Rattle.copies.proofs.FieldLaws.{closed-of, closed-is, closed-short, text-narrow, field-amount}
+use Rattle.copies.proofs.FieldLaws.{datum-kept}
+use Rattle.copies.proofs.ReadLaws.{text-whole}
 
 -- digits without a leading zero are what is written of their value
 
@@ -66,79 +66,6 @@ decimal-one k b l u =
     let e : 48 + (0 * 10 + (b - 48)) ≡ b = omega arith in
     sym (decimal-few k (0 * 10 + (b - 48)) (omega arith)) ∙ ap (λ (x : ℕ). x ∷ []) e
 
--- without leading zeros
-
-bare-other : (b : ℕ) (ds : Bytes) → (b ≡ 48 → ⊥) → (b ≡ 45 → ⊥) → bare (b ∷ ds) ≡ b ∷ ds
-unfolding bare
-bare-other b [] x y = refl
-bare-other b (c ∷ ds) x y = rw (ne-eqb b 48 x, ne-eqb b 45 y)
-
-bare-skip : (b c : ℕ) (ds : Bytes) → (eqb b 48 || eqb b 45) ≡ true → bare (b ∷ c ∷ ds) ≡ bare (c ∷ ds)
-unfolding bare
-bare-skip b c ds e = rw e
-
-bare-short : (w : Bytes) → length w ≤ 1 → bare w ≡ w
-unfolding bare
-bare-short [] h = refl
-bare-short (b ∷ []) h = refl
-bare-short (b ∷ c ∷ ds) h = absurd (omega arith)
-
-empty-zero : (b : ℕ) → b ≡ 48 → (eqb b 48 || eqb b 45) ≡ true
-empty-zero b e = rw (eq-eqb b 48 e)
-
-empty-minus : (b : ℕ) → b ≡ 45 → (eqb b 48 || eqb b 45) ≡ true
-empty-minus b e = rw (ne-eqb b 48 (λ (z : b ≡ 48). omega arith), eq-eqb b 45 e)
-
--- at a place
-module _ (w : Bytes) (i : ℕ) where
-  pub bare-here : i < length w → (eqb (getD w i 0) 48 || eqb (getD w i 0) 45) ≡ false → bare (drop i w) ≡ drop i w
-  bare-here h e =
-      let d = drop-cons w i 0 h in
-      let x : getD w i 0 ≡ 48 → ⊥ = λ (z : getD w i 0 ≡ 48). false≢true (sym e ∙ empty-zero (getD w i 0) z) in
-      let y : getD w i 0 ≡ 45 → ⊥ = λ (z : getD w i 0 ≡ 45). false≢true (sym e ∙ empty-minus (getD w i 0) z) in
-      ap bare d ∙ bare-other (getD w i 0) (drop (suc i) w) x y ∙ sym d
-
-  pub bare-next : i + 1 < length w → (eqb (getD w i 0) 48 || eqb (getD w i 0) 45) ≡ true → bare (drop i w) ≡ bare (drop (i + 1) w)
-  bare-next h e =
-      let d = drop-cons w i 0 (omega arith) in
-      let n = drop-cons w (suc i) 0 (omega arith) in
-      rw add-one
-      (ap bare d ∙ ap (λ (l : Bytes). bare (getD w i 0 ∷ l)) n ∙ bare-skip (getD w i 0) (getD w (suc i) 0) (drop (suc (suc i)) w) e ∙ ap bare (sym n))
-
-  pub bare-last : length w ≤ i + 1 → bare (drop i w) ≡ drop i w
-  bare-last h = bare-short (drop i w) (simp length-drop (omega arith))
-
-digits-bare : (w : Bytes) → 1 ≤ length w → length w ≤ 18 → all digit w ≡ true → decimal-in 19 (value 0 w) ≡ bare w
-unfolding all value bare
-digits-bare [] h u e = absurd (omega arith)
-digits-bare (b ∷ []) h u e =
-    let d : digit b ≡ true = and-left (digit b) true e in
-    decimal-one 19 b (digit-low b d) (digit-high b d)
-digits-bare (b ∷ c ∷ ds) h u e =
-    let d : digit b ≡ true = and-left (digit b) (all digit (c ∷ ds)) e in
-    let r : all digit (c ∷ ds) ≡ true = and-right (digit b) (all digit (c ∷ ds)) e in
-    by (eqb b 48) refl (digit-low b d) (digit-high b d) r (digits-bare (c ∷ ds) (omega arith) (omega arith) r)
-  where
-    positive : 48 ≤ b → (b ≡ 48 → ⊥) → 1 ≤ 0 * 10 + (b - 48)
-    positive l z = omega arith
-
-    k : ℕ
-    k = 18 - length ds
-
-    by : (q : Bool) → eqb b 48 ≡ q → 48 ≤ b → b ≤ 57 → all digit (c ∷ ds) ≡ true → decimal-in 19 (value 0 (c ∷ ds)) ≡ bare (c ∷ ds)
-        → decimal-in 19 (value (0 * 10 + (b - 48)) (c ∷ ds)) ≡ bare (b ∷ c ∷ ds)
-    by true x l m r ih =
-        let y : b ≡ 48 = eqb-true b 48 x in
-        let n : 0 * 10 + (b - 48) ≡ 0 = omega arith in
-        ap (λ (v : ℕ). decimal-in 19 (value v (c ∷ ds))) n ∙ ih ∙ sym (bare-skip b c ds (empty-zero b y))
-    by false x l m r ih =
-        let z : b ≡ 48 → ⊥ = eqb-false b 48 x in
-        let j : 19 ≡ k + length (c ∷ ds) = omega arith in
-        ap (λ (i : ℕ). decimal-in i (value (0 * 10 + (b - 48)) (c ∷ ds))) j
-        ∙ decimal-on k (0 * 10 + (b - 48)) (c ∷ ds) (positive l z) r
-        ∙ ap (λ (x : Bytes). x ++ (c ∷ ds)) (decimal-one k b l m)
-        ∙ sym (bare-other b (c ∷ ds) z (λ (y : b ≡ 45). omega arith))
-
 -- 1 to 18 digits
 digits-are : (w : Bytes) → digits w ≡ true → (1 ≤ length w) × (length w ≤ 18) × (all digit w ≡ true)
 unfolding digits
@@ -147,77 +74,7 @@ digits-are w e =
     let a = and-left (leb 1 n && leb n 18) (all digit w) e in
     (leb-true 1 n (and-left (leb 1 n) (leb n 18) a), leb-true n 18 (and-right (leb 1 n) (leb n 18) a), and-right (leb 1 n && leb n 18) (all digit w) e)
 
-number-written : (w : Bytes) → digits w ≡ true → bare w ≡ decimal (value 0 w)
-unfolding decimal
-number-written w e = let a = digits-are w e in sym (digits-bare w (a .0) (a .1) (a .2))
-
--- "`-0` being 0"
-minus-written : (b : ℕ) (ds : Bytes) → b ≡ 45 → digits ds ≡ true → value 0 ds ≡ 0 → bare (b ∷ ds) ≡ decimal 0
-minus-written b [] x e v = absurd (let a = digits-are [] e .0 in omega arith)
-minus-written b (c ∷ ds) x e v = bare-skip b c ds (empty-minus b x) ∙ number-written (c ∷ ds) e ∙ ap decimal v
-
--- a field that passed its column's rules
-
-module _ (lo hi : ℕ) where
-  unsigned : (w : Bytes) → eqb (getD w 0 0) 45 ≡ false → field-number (number-field lo hi (numberOf w)) ≡ 0 → bare w ≡ decimal (amount (numberOf w))
-  unfolding number-field field-number numberOf
-  unsigned w x z = by (digits w) refl
-    where
-      by : (d : Bool) → digits w ≡ d → bare w ≡ decimal (amount (numberOf w))
-      by true e = rw (x, e) (number-written w e)
-      by false e = absurd (let q : _≡_ {A = ℕ} 12 0 = rw (x, e) at z in omega arith)
-
-  signed : (b : ℕ) (ds : Bytes) → eqb b 45 ≡ true → field-number (number-field lo hi (numberOf (b ∷ ds))) ≡ 0
-      → bare (b ∷ ds) ≡ decimal (amount (numberOf (b ∷ ds)))
-  unfolding number-field field-number numberOf
-  signed b ds x z = by (digits ds) (eqb (value 0 ds) 0) refl refl
-    where
-      by : (d v : Bool) → digits ds ≡ d → eqb (value 0 ds) 0 ≡ v → bare (b ∷ ds) ≡ decimal (amount (numberOf (b ∷ ds)))
-      by true true e y = rw (x, e, y) (minus-written b ds (eqb-true b 45 x) e (eqb-true (value 0 ds) 0 y))
-      by true false e y = absurd (let q : _≡_ {A = ℕ} 13 0 = rw (x, e, y) at z in omega arith)
-      by false v e y = absurd (let q : _≡_ {A = ℕ} 12 0 = rw (x, e) at z in omega arith)
-
-  number-bare : (w : Bytes) → field-number (number-field lo hi (numberOf w)) ≡ 0 → bare w ≡ decimal (amount (numberOf w))
-  number-bare [] z = unsigned [] refl z
-  number-bare (b ∷ ds) z = by (eqb b 45) refl
-    where
-      by : (q : Bool) → eqb b 45 ≡ q → bare (b ∷ ds) ≡ decimal (amount (numberOf (b ∷ ds)))
-      by true x = signed b ds x z
-      by false x = unsigned (b ∷ ds) x z
-
-module _ (c : Column) (w : Bytes) (ok : field-number (fieldOf c w) ≡ 0) where
-  amount-bare : c .text ≡ false → bare w ≡ decimal (amount (numberOf w))
-  unfolding fieldOf
-  amount-bare x =
-      let z : field-number (number-field (c .lo) (c .hi) (numberOf w)) ≡ 0 = rw x at ok in
-      number-bare (c .lo) (c .hi) w z
-
-  text-bare : c .text ≡ true → bare w ≡ quoted (own-bytes (record-text w))
-  unfolding quoted
-  text-bare x =
-      ap bare (closed-is (closed-of c w x ok))
-      ∙ bare-other 34 (doubled (own-bytes (record-text w)) ++ (34 ∷ [])) (λ (e : 34 ≡ 48). omega arith) (λ (e : 34 ≡ 45). omega arith)
-
-  pub field-bare : (o : Owner) → bare w ≡ datum-text (datumOf o c w)
-  unfolding datum-text datumOf
-  field-bare o = by (c .text) refl
-    where
-      by : (q : Bool) → c .text ≡ q → bare w ≡ datum-text (datumOf o c w)
-      by true x = text-bare x ∙ rw x
-      by false x = amount-bare x ∙ rw x
-
-pub bare-length : (t k : ℕ) (w : Bytes) → field-number (fieldOf (column-at t k) w) ≡ 0 → length (bare w) ≤ 82
-bare-length t k w ok = by (column-at t k .text) refl
-  where
-    by : (q : Bool) → column-at t k .text ≡ q → length (bare w) ≤ 82
-    by true x =
-        let n = text-narrow t k x in
-        let h = closed-of (column-at t k) w x ok in
-        rw (text-bare (column-at t k) w ok x ∙ sym (closed-is h)) (omega (arith, closed-short h))
-    by false x = rw (amount-bare (column-at t k) w ok x) (omega (arith, decimal-length (amount (numberOf w))))
-
--- what stands without a minus and a leading zero is bare
-
+-- without a leading zero
 lead-none : (b c : ℕ) (ds : Bytes) → stands (b ∷ c ∷ ds) ≡ true → b ≡ 48 → ⊥
 unfolding stands
 lead-none b c ds e q =
@@ -225,57 +82,63 @@ lead-none b c ds e q =
     let y : eqb (suc (suc (length ds))) 1 ≡ false = ne-eqb (suc (suc (length ds))) 1 (λ (z : suc (suc (length ds)) ≡ 1). omega arith) in
     false≢true (rw (x, eq-eqb b 48 q, y) at e)
 
-minus-none : (w : Bytes) → stands w ≡ true → getD w 0 0 ≡ 45 → ⊥
+digits-written : (w : Bytes) → 1 ≤ length w → length w ≤ 18 → all digit w ≡ true → stands w ≡ true → w ≡ decimal (value 0 w)
+unfolding all value decimal
+digits-written [] h u e s = absurd (omega arith)
+digits-written (b ∷ []) h u e s =
+    let d : digit b ≡ true = and-left (digit b) true e in
+    sym (decimal-one 19 b (digit-low b d) (digit-high b d))
+digits-written (b ∷ c ∷ ds) h u e s =
+    let d : digit b ≡ true = and-left (digit b) (all digit (c ∷ ds)) e in
+    let r : all digit (c ∷ ds) ≡ true = and-right (digit b) (all digit (c ∷ ds)) e in
+    let l = digit-low b d in
+    let z : b ≡ 48 → ⊥ = lead-none b c ds s in
+    let j : 19 ≡ 18 - length ds + length (c ∷ ds) = omega arith in
+    sym
+    (ap (λ (i : ℕ). decimal-in i (value (0 * 10 + (b - 48)) (c ∷ ds))) j
+    ∙ decimal-on (18 - length ds) (0 * 10 + (b - 48)) (c ∷ ds) (omega arith) r
+    ∙ ap (λ (x : Bytes). x ++ (c ∷ ds)) (decimal-one (18 - length ds) b l (digit-high b d)))
+
+-- a field that passed its column's rules
+
+minus-none : (w : Bytes) → stands w ≡ true → eqb (getD w 0 0) 45 ≡ false
 unfolding stands
-minus-none w e q = false≢true (rw (eq-eqb (getD w 0 0) 45 q) at e)
+minus-none w e = ne-eqb (getD w 0 0) 45 (λ (q : getD w 0 0 ≡ 45). false≢true (rw (eq-eqb (getD w 0 0) 45 q) at e))
 
-stands-bare : (w : Bytes) → stands w ≡ true → bare w ≡ w
-stands-bare [] s = bare-short [] (omega arith)
-stands-bare (b ∷ []) s = bare-short (b ∷ []) (omega arith)
-stands-bare (b ∷ c ∷ ds) s = bare-other b (c ∷ ds) (lead-none b c ds s) (minus-none (b ∷ c ∷ ds) s)
+number-stands : (lo hi : ℕ) (w : Bytes) → field-number (number-field lo hi (numberOf w)) ≡ 0 → stands w ≡ true → w ≡ decimal (amount (numberOf w))
+unfolding number-field field-number numberOf
+number-stands lo hi w z s = by (digits w) refl
+  where
+    x : eqb (getD w 0 0) 45 ≡ false
+    x = minus-none w s
 
--- a value that is neither filled nor stripped
-module _ (strip : Bool) (f m i : ℕ) (t : Bytes) (c : Column) (w : Bytes) (n : f ≡ i → ⊥) where
-  datum-kept : (b : Bool) → b ≡ (strip && eqb m i) → b ≡ false → datumOf (owner-of m i) c w ≡ datum-by strip f t m i c w
-  unfolding datum-by changed-datum datumOf strip-datum owner-of
-  datum-kept b e y = rw (ne-eqb f i n) (by strip (eqb m i) (c .text) (sym e ∙ y))
+    by : (d : Bool) → digits w ≡ d → w ≡ decimal (amount (numberOf w))
+    by true e = let a = digits-are w e in rw (x, e) (digits-written w (a .0) (a .1) (a .2) s)
+    by false e = absurd (let q : _≡_ {A = ℕ} 12 0 = rw (x, e) at z in omega arith)
+
+module _ (c : Column) (w : Bytes) (ok : field-number (fieldOf c w) ≡ 0) (s : stands w ≡ true) where
+  field-stands : (o : Owner) → w ≡ datum-text (datumOf o c w)
+  unfolding fieldOf datum-text datumOf
+  field-stands o = by (c .text) refl
     where
-      u : Bytes
-      u = own-bytes (record-text w)
-
-      a : ℕ
-      a = amount (numberOf w)
-
-      by : (s d x : Bool) → (s && d) ≡ false
-          → pick x (words (pick d O.Suggestion O.Operator) u) (number a)
-          ≡ pick s (strip-datum (pick x (words (pick d O.Suggestion O.Operator) u) (number a))) (pick x (words (pick d O.Suggestion O.Operator) u) (number a))
-      by true true x z = absurd (false≢true (sym z))
-      by true false true z = refl
-      by true false false z = refl
-      by false d x z = refl
-
-  pub field-kept : field-number (fieldOf c w) ≡ 0 → (b : Bool) → b ≡ (strip && eqb m i) → b ≡ false
-      → bare w ≡ datum-text (datum-by strip f t m i c w)
-  field-kept ok b e y = field-bare c w ok (owner-of m i) ∙ ap datum-text (datum-kept b e y)
-
-  -- a number is not stripped
-  pub number-kept : field-number (fieldOf c w) ≡ 0 → c .text ≡ false → bare w ≡ datum-text (datum-by strip f t m i c w)
-  number-kept ok x = amount-bare c w ok x ∙ field-amount strip f m i t c w n x (amount (numberOf w)) refl
+      by : (q : Bool) → c .text ≡ q → w ≡ datum-text (datumOf o c w)
+      by true x = rw x (text-whole c w x ok)
+      by false x = rw x (number-stands (c .lo) (c .hi) w (rw x at ok) s)
 
 -- nothing is marked where no mark waits and no field is filled
 
-marks-none : (strip : Bool) (i : ℕ) (cs : List Named) → marks-form strip 0 0 (suc i) cs ≡ []
+marks-none : (ends : LineEnd) (strip : Bool) (i : ℕ) (cs : List Named) → marks-form ends strip 0 0 (suc i) cs ≡ []
 unfolding marks-form mark-by marked-by
-marks-none strip i [] = refl
-marks-none true i (c ∷ cs) = rw (ne-eqb 0 (suc i) (λ (e : 0 ≡ suc i). omega arith)) (marks-none true (suc i) cs)
-marks-none false i (c ∷ cs) = rw (ne-eqb 0 (suc i) (λ (e : 0 ≡ suc i). omega arith)) (marks-none false (suc i) cs)
+marks-none ends strip i [] = refl
+marks-none ends true i (c ∷ cs) = rw (ne-eqb 0 (suc i) (λ (e : 0 ≡ suc i). omega arith)) (marks-none ends true (suc i) cs)
+marks-none ends false i (c ∷ cs) = rw (ne-eqb 0 (suc i) (λ (e : 0 ≡ suc i). omega arith)) (marks-none ends false (suc i) cs)
 
-pub marks-plain : (strip : Bool) (f m : ℕ) (cs : List Named) (b : Bool) → b ≡ (eqb m 0 && eqb f 0) → b ≡ true → [] ≡ marks-form strip f m 1 cs
-marks-plain strip f m cs b e y =
+pub marks-plain : (ends : LineEnd) (strip : Bool) (f m : ℕ) (cs : List Named) (b : Bool) → b ≡ (eqb m 0 && eqb f 0) → b ≡ true → [] ≡ marks-form ends strip f m 1 cs
+marks-plain ends strip f m cs b e y =
     let z : (eqb m 0 && eqb f 0) ≡ true = sym e ∙ y in
     let p : m ≡ 0 = eqb-true m 0 (and-left (eqb m 0) (eqb f 0) z) in
     let q : f ≡ 0 = eqb-true f 0 (and-right (eqb m 0) (eqb f 0) z) in
-    rw (p, q) (sym (marks-none strip 0 cs))
+    rw (p, q) (sym (marks-none ends strip 0 cs))
 
 -- one space, and a field
 
@@ -443,7 +306,7 @@ module _ (strip : Bool) (x : Bytes) where
   value-kept : (i : ℕ) (c : Column) (w : Bytes) → field-number (fieldOf c w) ≡ 0 → stands w ≡ true → w ≡ datum-text (datum-by strip 0 x 0 (suc i) c w)
   value-kept i c w ok s =
       let n : 0 ≡ suc i → ⊥ = λ (e : 0 ≡ suc i). omega arith in
-      sym (stands-bare w s) ∙ field-kept strip 0 0 (suc i) x c w n ok false (none strip (ne-eqb 0 (suc i) n)) refl
+      field-stands c w ok s (owner-of 0 (suc i)) ∙ ap datum-text (datum-kept strip 0 0 (suc i) x c w n false (none strip (ne-eqb 0 (suc i) n)) refl)
     where
       none : (b : Bool) → eqb 0 (suc i) ≡ false → false ≡ (b && eqb 0 (suc i))
       none true e = sym e
@@ -463,20 +326,20 @@ module _ (strip : Bool) (x : Bytes) where
       ∙ ap (λ (y : Bytes). bytes "; " ++ (y ++ fields-form strip 0 x 0 (suc (suc i)) cs ws)) v
       ∙ sym (append-assoc (bytes "; ") (datum-text (datum-by strip 0 x 0 (suc i) (c .column) w)) (fields-form strip 0 x 0 (suc (suc i)) cs ws))
 
-  pub record-kept : (f m : ℕ) (cs : List Named) (w : Bytes) → length (fields w) ≡ length cs → first-wrong cs (fields w) ≡ 0
+  pub record-kept : (ends : LineEnd) (f m : ℕ) (cs : List Named) (w : Bytes) → length (fields w) ≡ length cs → first-wrong cs (fields w) ≡ 0
       → (m ≡ 0) × (f ≡ 0) × Whole w
-      → bytes "rec;" ++ (w ++ line-end) ≡ record-form (changed-values strip f x (valuesOf m 1 cs (fields w)))
+      → bytes "rec;" ++ (w ++ line-end ends) ≡ record-form ends (changed-values strip f x (valuesOf m 1 cs (fields w)))
   unfolding bytes
-  record-kept f m cs w n e k =
-      let a : [] ≡ marks-form strip 0 0 1 cs = sym (marks-none strip 0 cs) in
+  record-kept ends f m cs w n e k =
+      let a : [] ≡ marks-form ends strip 0 0 1 cs = sym (marks-none ends strip 0 cs) in
       let b : 59 ∷ w ≡ fields-form strip 0 x 0 1 cs (fields w) = sym (k .2 .is) ∙ fields-kept 0 cs (fields w) n e (k .2 .each) in
       rw (k .0, k .1)
-      (ap (λ (y : Bytes). bytes "rec" ++ (y ++ line-end)) b
-      ∙ ap (λ (y : Bytes). y ++ (bytes "rec" ++ (fields-form strip 0 x 0 1 cs (fields w) ++ line-end))) a
-      ∙ record-is strip 0 0 x cs (fields w) n)
+      (ap (λ (y : Bytes). bytes "rec" ++ (y ++ line-end ends)) b
+      ∙ ap (λ (y : Bytes). y ++ (bytes "rec" ++ (fields-form strip 0 x 0 1 cs (fields w) ++ line-end ends))) a
+      ∙ record-is ends strip 0 0 x cs (fields w) n)
 
-  pub kept-length : (f m : ℕ) (cs : List Named) (w : Bytes) → length (fields w) ≡ length cs → first-wrong cs (fields w) ≡ 0
+  pub kept-length : (ends : LineEnd) (f m : ℕ) (cs : List Named) (w : Bytes) → length (fields w) ≡ length cs → first-wrong cs (fields w) ≡ 0
       → (m ≡ 0) × (f ≡ 0) × Whole w
-      → 4 + length w ≤ length (record-form (changed-values strip f x (valuesOf m 1 cs (fields w))))
+      → 4 + length w ≤ length (record-form ends (changed-values strip f x (valuesOf m 1 cs (fields w))))
   unfolding bytes
-  kept-length f m cs w n e k = rw (sym (record-kept f m cs w n e k)) (simp length-append (omega arith))
+  kept-length ends f m cs w n e k = rw (sym (record-kept ends f m cs w n e k)) (simp length-append (omega arith))

@@ -1,2 +1,3 @@
 pub mod Changed
+pub mod Planned
 pub mod Parts

@@ -1,4 +1,4 @@
--- The marks and the fields of one changed record, column by column; i counts them from 1.
+-- The marks and the fields of one changed record, column by column; i counts the columns from 1.
 use mathlib.Core.Path.{_≡_}
 use mathlib.Core.Bool.{Bool, true, false, not, _&&_, _||_}
 use mathlib.Core.List.{List, [], _∷_, _++_}
@@ -11,21 +11,22 @@ use Rattle.page.specs.Tables.{Named}
 use Rattle.page.specs.Marks.{owner-of}
 use Rattle.page.specs.Records.{Datum, datumOf}
 use Rattle.page.specs.Form.{separated, datum-text, mark-line}
+use Rattle.page.specs.declared.LineEnd.{LineEnd}
 use Rattle.page.specs.declared.Column.{Column}
 use Rattle.copies.specs.Changed.{changed-datum}
 
--- is field i marked in what is written, where a mark of field m waits and field f is filled?
+-- is column i marked in what is written, where a mark of column m waits and column f is filled?
 unfoldable pub marked-by : Bool → ℕ → ℕ → ℕ → Column → Bool
 marked-by strip f m i c = eqb f i || (not strip && (eqb m i && c .text))
 
-unfoldable pub mark-by : Bool → ℕ → ℕ → ℕ → Column → Bytes
-mark-by strip f m i c = pick (marked-by strip f m i c) (mark-line i) []
+unfoldable pub mark-by : LineEnd → Bool → ℕ → ℕ → ℕ → Column → Bytes
+mark-by ends strip f m i c = pick (marked-by strip f m i c) (mark-line ends i) []
 
-unfoldable pub marks-form : Bool → ℕ → ℕ → ℕ → List Named → Bytes
-marks-form strip f m i [] = []
-marks-form strip f m i (c ∷ cs) = mark-by strip f m i (c .column) ++ marks-form strip f m (suc i) cs
+unfoldable pub marks-form : LineEnd → Bool → ℕ → ℕ → ℕ → List Named → Bytes
+marks-form ends strip f m i [] = []
+marks-form ends strip f m i (c ∷ cs) = mark-by ends strip f m i (c .column) ++ marks-form ends strip f m (suc i) cs
 
--- the value of field i, whose bytes are w
+-- the value of column i, whose field is w
 unfoldable pub datum-by : Bool → ℕ → Bytes → ℕ → ℕ → Column → Bytes → Datum
 datum-by strip f t m i c w = changed-datum (eqb f i) strip t (datumOf (owner-of m i) c w)
 
@@ -34,12 +35,6 @@ fields-form strip f t m i [] ws = []
 fields-form strip f t m i (c ∷ cs) [] = []
 fields-form strip f t m i (c ∷ cs) (w ∷ ws) =
     (bytes "; " ++ datum-text (datum-by strip f t m i (c .column) w)) ++ fields-form strip f t m (suc i) cs ws
-
--- a number without its minus and its leading zeros, and a text whole
-unfoldable pub bare : Bytes → Bytes
-bare [] = []
-bare (b ∷ []) = b ∷ []
-bare (b ∷ c ∷ ds) = pick (eqb b 48 || eqb b 45) (bare (c ∷ ds)) (b ∷ c ∷ ds)
 
 -- does a field that passed its column's rules stand as it is written? A text does, and a number without a minus or a leading zero
 unfoldable pub stands : Bytes → Bool

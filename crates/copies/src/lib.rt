@@ -1,9 +1,9 @@
-// What of a record already stands as the form has it, and what is changed of it.
-mod change;
+// How a file is written, and what of a record already stands as the form has it.
+mod plan;
 mod standing;
 
-pub use change::Change;
-pub use change::change_record;
-pub use change::change_section;
+pub use plan::Plan;
+pub use plan::does_stay;
+pub use plan::plan_record;
+pub use plan::plan_section;
 pub use standing::all_written;
-pub use standing::skip_zeros;

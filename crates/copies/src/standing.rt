@@ -1,21 +1,10 @@
 // What stands in a record as it is written, so that it can be copied. A record's fields passed the rules of their columns.
 ghost use mathlib.Core.Path.{_≡_};
-ghost use mathlib.Core.Bool.{true, false, _||_};
+ghost use mathlib.Core.Bool.{true, false};
 ghost use Prim.Native.Nat.{_+_, _-_, _<_, _≤_};
-ghost use lib.Dec.{eqb};
 ghost use lib.ListN.{length, getD, drop};
 ghost use Rattle.page.specs.Fields.{field-size};
-ghost use Rattle.copies.specs.Parts.{bare, stands, Spaced, Ends, Whole};
-
-// A byte that is not written at the front of a number: "`-0` being 0", "without leading zeros".
-fn is_left_out(b: u8) -> bool
-    ensures { λ r. ⌜ r ≡ (eqb b 48 || eqb b 45) ⌝ }
-{
-    if b == 48 {
-        return true;
-    }
-    b == 45
-}
+ghost use Rattle.copies.specs.Parts.{stands, Spaced, Ends, Whole};
 
 // "Numbers without leading zeros": one with a minus is a zero.
 fn is_written(f: &[u8]) -> bool
@@ -32,20 +21,6 @@ fn is_written(f: &[u8]) -> bool
         return true;
     }
     f.len() == 1
-}
-
-// A field as it is written: of a number what follows its minus and its leading zeros, and a text whole.
-pub fn skip_zeros(f: &[u8]) -> &[u8]
-    ensures { λ r. ⌜ now r ≡ bare (now (f .entry)) ⌝ }
-{
-    let mut i = 0;
-    while i + 1 < f.len() {
-        if !is_left_out(f[i]) {
-            return &f[i..];
-        }
-        i += 1;
-    }
-    &f[i..]
 }
 
 // What stands between two `;`: "One space after each separating `;`, none elsewhere outside texts".

@@ -13,13 +13,15 @@ use Rattle.page.specs.Tables.{Named, no-column, columns, column-at, width}
 use Rattle.page.specs.Cut.{sections}
 use Rattle.page.specs.Head.{head-values, latinOf}
 use Rattle.page.specs.Records.{Datum, number, words, Record, table-of}
-use Rattle.page.specs.Model.{Content, Model, contentOf, modelOf, change, fill-record, fill-content, fill-model, datum-at}
+use Rattle.page.specs.Model.{Content, Model, contentOf, modelOf, change, fill-record, fill-content, fill-model, changed, kept, datum-at}
 use Rattle.page.specs.Answers.{sound, refuse-if}
 use Rattle.page.specs.File.{limit, row-of, rowOf, file-refusal}
 use Rattle.page.specs.Reading.{no-section, outside, section-at, row-at}
 use Rattle.page.specs.Form.{formOf}
-use Rattle.page.specs.Writing.{write-form, empty-datum, fill-place, fill-refusal, fill-form}
+use Rattle.page.specs.Writing.{form-by, write-form, empty-datum, fill-place, fill-refusal, fill-form}
 use Rattle.page.specs.Rules.{Every, none-left, one-more}
+use Rattle.page.specs.declared.LineEnd.{LineEnd}
+use Rattle.page.specs.declared.LineEnd.the-variants as E
 use Rattle.page.specs.declared.Owner.the-variants as O
 use Rattle.round.specs.Round.{a-suggestion, FitAll, no-value, a-value, SoundRecord, SoundContent, SoundModel}
 use Rattle.round.specs.RoundKeys.{KeysHold}
@@ -264,22 +266,30 @@ module _ (s : Bytes) (i r f : ℕ) (t : Bytes) (h : fill-refusal s i r f t .numb
   pub fill-put : datum-at i r f filled-model ≡ words O.Suggestion t
   fill-put = fill-here i r f t (modelOf s) (places .0) (omega (arith, tables-count, places)) (places .2) r-within (places .4) f-within
 
+  -- however the lines end
+  module _ (ends : LineEnd) (short : length (formOf ends filled-model) ≤ limit) where
+    pub any-fill-accepted : file-refusal (formOf ends filled-model) ≡ sound
+    any-fill-accepted = form-sound ends filled-model filled-sound short filled-keys
+
+    pub any-fill-model : modelOf (formOf ends filled-model) ≡ filled-model
+    any-fill-model = form-model ends filled-model filled-sound short
+
   module _ (short : length (fill-form s i r f t) ≤ limit) where
     pub fill-accepted : file-refusal (fill-form s i r f t) ≡ sound
-    unfolding fill-form
-    fill-accepted = form-sound filled-model filled-sound short filled-keys
+    unfolding fill-form form-by changed kept
+    fill-accepted = any-fill-accepted E.Lf short
 
     pub fill-model-back : modelOf (fill-form s i r f t) ≡ fill-model i r f t (modelOf s)
-    unfolding fill-form
-    fill-model-back = form-model filled-model filled-sound short
+    unfolding fill-form form-by changed kept
+    fill-model-back = any-fill-model E.Lf short
 
     -- read again, the field holds the given text, and a mark stands before its record
     pub fill-read : datum-at i r f (modelOf (fill-form s i r f t)) ≡ words O.Suggestion t
     fill-read = rw fill-model-back fill-put
 
     pub fill-written : write-form (fill-form s i r f t) ≡ fill-form s i r f t
-    unfolding fill-form write-form
-    fill-written = ap formOf fill-model-back
+    unfolding fill-form write-form form-by changed kept
+    fill-written = ap (formOf E.Lf) fill-model-back
 
     -- and every other value is as it was
     pub fill-else : (j q g : ℕ) → 0 < j → 0 < q → 0 < g → ¬ ((j ≡ i) × (q ≡ r) × (g ≡ f)) → datum-at j q g (modelOf (fill-form s i r f t)) ≡ datum-at j q g (modelOf s)

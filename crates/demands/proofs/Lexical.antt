@@ -26,7 +26,7 @@ use Rattle.laws.proofs.Tests.{same-d}
 use Rattle.laws.proofs.WrittenScans.{all-append}
 use Rattle.round.proofs.WrittenNumbers.{digit-of, value-last}
 use Rattle.round.proofs.WrittenTexts.{text-exactly}
-use Rattle.round.proofs.WrittenLines.{all-at}
+use Rattle.page.proofs.ScanLaws.{all-at}
 use Rattle.page.proofs.TestLaws.{and-left, and-right}
 
 -- digits and what they are worth

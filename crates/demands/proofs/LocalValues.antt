@@ -12,13 +12,18 @@ use Rattle.page.specs.Bytes.{Bytes, pick, until}
 use Rattle.page.specs.Lines.{lines, content, command, semicolon, Rec}
 use Rattle.page.specs.Cut.{Section, cut, sections}
 use Rattle.page.specs.Tables.{column-at}
+use Rattle.page.specs.Order.{Order, place}
 use Rattle.page.specs.Head.{latinOf}
+use Rattle.page.specs.Marks.{owner-of}
 use Rattle.page.specs.Section.{outcome}
 use Rattle.page.specs.Records as Records
-use Rattle.page.specs.Records.{entries, entriesOf, recordsOf, waits, table-of}
-use Rattle.page.specs.Places.{Standing, field-span, unquoted, stands, record-at, this-or}
+use Rattle.page.specs.Records.{entries, entriesOf, recordsOf, waits, table-of, order-in}
+use Rattle.page.specs.Places.{Standing, stands, record-at, this-or}
 use Rattle.page.specs.File.{too-long, header-refusal}
-use Rattle.page.specs.Reading.{headerOf, no-section, outside, section-at, find-refusal, sectionOf, value-refusal, words-in, value-in, record-of, value-at, valueOf}
+use Rattle.page.specs.Reading.{headerOf, no-section, outside, section-at, find-refusal, sectionOf, value-refusal, later-field, field-at, valued, value-in, record-of, value-at, valueOf}
+use Rattle.page.specs.declared.Field.{Field}
+use Rattle.page.specs.declared.Field.the-variants as F
+use Rattle.page.specs.declared.Owner.{Owner}
 use Rattle.page.specs.declared.Value.the-variants as Va
 use Rattle.page.proofs.LineLaws.{Whole}
 use Rattle.round.specs.Local.{Run, closed, later, reached, later-value}
@@ -32,19 +37,19 @@ stands-later : (k at : ℕ) (l : Bytes) (m : ℕ) → stands (k + at) l m ≡ la
 unfolding stands
 stands-later k at l m = let z : k + at + until semicolon (content l) + 1 ≡ k + (at + until semicolon (content l) + 1) = omega arith in rw z
 
--- t, n: the table and line of the entries, on which their number does not depend
-record-later : (k t n r m at : ℕ) (ls : List Bytes) → r < length (entries t m n ls) → record-at r m (k + at) ls ≡ later-standing k (record-at r m at ls)
+-- t, o, n: the table, order and line of the entries, on which their number does not depend
+record-later : (k t : ℕ) (o : Order) (n r m at : ℕ) (ls : List Bytes) → r < length (entries t o m n ls) → record-at r m (k + at) ls ≡ later-standing k (record-at r m at ls)
 unfolding record-at entries
-record-later k t n r m at [] h = absurd (omega arith)
-record-later k t n r m at (l ∷ ls) h =
-    by (λ q i. record-later k t (suc n) q i (at + length l) ls) (eqb (command (content l)) Rec) r h
+record-later k t o n r m at [] h = absurd (omega arith)
+record-later k t o n r m at (l ∷ ls) h =
+    by (λ q i. record-later k t o (suc n) q i (at + length l) ls) (eqb (command (content l)) Rec) r h
   where
     shift : k + at + length l ≡ k + (at + length l)
     shift = omega arith
 
-    by : ((q i : ℕ) → q < length (entries t i (suc n) ls) → record-at q i (k + (at + length l)) ls ≡ later-standing k (record-at q i (at + length l) ls)) →
+    by : ((q i : ℕ) → q < length (entries t o i (suc n) ls) → record-at q i (k + (at + length l)) ls ≡ later-standing k (record-at q i (at + length l) ls)) →
         (b : Bool) (r : ℕ) →
-        r < length (pick b (record { line = suc n; values = Records.record-in t m (content l) } ∷ entries t 0 (suc n) ls) (entries t (waits m (content l)) (suc n) ls)) →
+        r < length (pick b (record { line = suc n; values = Records.record-in t o m (content l) } ∷ entries t o 0 (suc n) ls) (entries t o (waits m (content l)) (suc n) ls)) →
         pick b (this-or r (stands (k + at) l m) (λ q. record-at q 0 (k + at + length l) ls)) (record-at r (waits m (content l)) (k + at + length l) ls)
         ≡ later-standing k (pick b (this-or r (stands at l m) (λ q. record-at q 0 (at + length l) ls)) (record-at r (waits m (content l)) (at + length l) ls))
     by ih true zero h = stands-later k at l m
@@ -54,21 +59,23 @@ record-later k t n r m at (l ∷ ls) h =
 add-three : (k a y : ℕ) → k + a + y ≡ k + (a + y)
 add-three k a y = omega arith
 
-value-later : (k t : ℕ) (x : Standing) (f : ℕ) → value-in t (later-standing k x) f ≡ later-value k (value-in t x f)
-unfolding value-in words-in later-value
-value-later k t x f = by (column-at t (f - 1) .text) refl
-  where
-    by : (b : Bool) → column-at t (f - 1) .text ≡ b → value-in t (later-standing k x) f ≡ later-value k (value-in t x f)
-    by true e =
-        rw e (ap Va.Words (rw (add-three k (x .at) (unquoted (field-span (x .rest) (f - 1)) .from), add-three k (x .at) (unquoted (field-span (x .rest) (f - 1)) .to))))
-    by false e = rw e
+field-later : (k at : ℕ) (w : Owner) (x : Field) → valued w (later-field (k + at) x) ≡ later-value k (valued w (later-field at x))
+unfolding later-value
+field-later k at w (F.Text sp) = ap Va.Words (rw (add-three k at (sp .from), add-three k at (sp .to)))
+field-later k at w (F.Number n) = refl
+field-later k at w (F.Refused v) = refl
+
+value-later : (k t : ℕ) (o : Order) (x : Standing) (f : ℕ) → value-in t o (later-standing k x) f ≡ later-value k (value-in t o x f)
+unfolding value-in
+value-later k t o x f =
+    field-later k (x .at) (owner-of (x .mark) (suc (place (f - 1) o))) (field-at (column-at t (f - 1)) (x .rest) (place (f - 1) o))
 
 -- a record that the section hands out
-within : (latin : Bool) (ls : List Bytes) (r : ℕ) → r < length (recordsOf latin ls) → r < length (entries (table-of ls) 0 0 ls)
+within : (latin : Bool) (ls : List Bytes) (r : ℕ) → r < length (recordsOf latin ls) → r < length (entries (table-of ls) (order-in ls) 0 0 ls)
 unfolding recordsOf entriesOf
 within latin ls r h = by (eqb (outcome latin ls .verdict) 0) (rw length-map at h)
   where
-    by : (b : Bool) → r < length (pick b (entries (table-of ls) 0 0 ls) []) → r < length (entries (table-of ls) 0 0 ls)
+    by : (b : Bool) → r < length (pick b (entries (table-of ls) (order-in ls) 0 0 ls) []) → r < length (entries (table-of ls) (order-in ls) 0 0 ls)
     by true h = h
     by false h = absurd (omega arith)
 
@@ -76,8 +83,8 @@ pub later-value-at : (latin : Bool) (k : ℕ) (x : Section) (r f : ℕ) → 0 < 
     value-at (later k x) r f ≡ later-value k (value-at x r f)
 unfolding value-at record-of later
 later-value-at latin k x r f p h =
-    rw (record-later k (table-of (x .lines)) 0 (r - 1) 0 (x .place) (x .lines) (within latin (x .lines) (r - 1) (omega arith)))
-    (value-later k (table-of (x .lines)) (record-at (r - 1) 0 (x .place) (x .lines)) f)
+    rw (record-later k (table-of (x .lines)) (order-in (x .lines)) 0 (r - 1) 0 (x .place) (x .lines) (within latin (x .lines) (r - 1) (omega arith)))
+    (value-later k (table-of (x .lines)) (order-in (x .lines)) (record-at (r - 1) 0 (x .place) (x .lines)) f)
 
 module _ (a m n b : Bytes) (wa : Whole a) (ha : 0 < length (cut (lines a) .pieces)) (r : Run m b) (q : Run n b) where
   -- a value of a section of b, in either file

@@ -8,12 +8,14 @@ use lib.ListN.{length}
 use Rattle.page.specs.Bytes.{Bytes, all}
 use Rattle.page.specs.Tables.{Named, columns}
 use Rattle.page.specs.Records.{number, Record}
-use Rattle.page.specs.Model.{Content, Model, modelOf, strip-datum, strip-content, strip-model}
+use Rattle.page.specs.Model.{Content, Model, modelOf, strip-datum, strip-content, strip-model, changed, kept}
 use Rattle.page.specs.Answers.{sound}
 use Rattle.page.specs.File.{limit, file-refusal}
 use Rattle.page.specs.Form.{formOf}
-use Rattle.page.specs.Writing.{write-form, strip-form}
+use Rattle.page.specs.Writing.{form-by, write-form, strip-form}
 use Rattle.page.specs.Rules.{Every, none-left, one-more}
+use Rattle.page.specs.declared.LineEnd.{LineEnd}
+use Rattle.page.specs.declared.LineEnd.the-variants as E
 use Rattle.round.specs.Round.{a-number, a-text, a-suggestion, FitAll, no-value, a-value, SoundRecord, SoundContent, SoundModel}
 use Rattle.round.specs.RoundKeys.{KeysHold}
 use Rattle.demands.specs.RoundAlike.{Pairs, no-pair, a-pair, Alike, alike-none, alike-same, alike-text, AlikeContent}
@@ -63,22 +65,30 @@ pub strip-keys : (m : Model) → SoundModel m → KeysHold (m .tables) → KeysH
 unfolding strip-model
 strip-keys m s k = keys-alike (tables-alike (m .head .latin) (s .tables)) k
 
--- "Stripping gives the written form with marked texts empty and no marks."
-module _ (s : Bytes) (h : file-refusal s .number ≡ 0) (short : length (strip-form s) ≤ limit) where
-  pub strip-accepted : file-refusal (strip-form s) ≡ sound
-  unfolding strip-form
-  strip-accepted =
-      form-sound (strip-model (modelOf s)) (strip-sound (modelOf s) (accepted-model s h)) short (strip-keys (modelOf s) (accepted-model s h) (accepted-keys s h))
+-- "Stripping gives the written form with marked texts empty and no marks.": however the lines end
+module _ (s : Bytes) (h : file-refusal s .number ≡ 0) where
+  module _ (ends : LineEnd) (short : length (formOf ends (strip-model (modelOf s))) ≤ limit) where
+    pub any-strip-accepted : file-refusal (formOf ends (strip-model (modelOf s))) ≡ sound
+    any-strip-accepted =
+        form-sound ends (strip-model (modelOf s)) (strip-sound (modelOf s) (accepted-model s h)) short (strip-keys (modelOf s) (accepted-model s h) (accepted-keys s h))
 
-  pub strip-model-back : modelOf (strip-form s) ≡ strip-model (modelOf s)
-  unfolding strip-form
-  strip-model-back = form-model (strip-model (modelOf s)) (strip-sound (modelOf s) (accepted-model s h)) short
+    pub any-strip-model : modelOf (formOf ends (strip-model (modelOf s))) ≡ strip-model (modelOf s)
+    any-strip-model = form-model ends (strip-model (modelOf s)) (strip-sound (modelOf s) (accepted-model s h)) short
 
-  -- stripped again, or written again, it is the same
-  pub strip-form-again : strip-form (strip-form s) ≡ strip-form s
-  unfolding strip-form
-  strip-form-again = ap (λ (m : Model). formOf (strip-model m)) strip-model-back ∙ ap formOf (strip-twice (modelOf s))
+  module _ (short : length (strip-form s) ≤ limit) where
+    pub strip-accepted : file-refusal (strip-form s) ≡ sound
+    unfolding strip-form form-by changed kept
+    strip-accepted = any-strip-accepted E.Lf short
 
-  pub strip-written : write-form (strip-form s) ≡ strip-form s
-  unfolding strip-form write-form
-  strip-written = ap formOf strip-model-back
+    pub strip-model-back : modelOf (strip-form s) ≡ strip-model (modelOf s)
+    unfolding strip-form form-by changed kept
+    strip-model-back = any-strip-model E.Lf short
+
+    -- stripped again, or written again, it is the same
+    pub strip-form-again : strip-form (strip-form s) ≡ strip-form s
+    unfolding strip-form form-by changed kept
+    strip-form-again = ap (λ (m : Model). formOf E.Lf (strip-model m)) strip-model-back ∙ ap (formOf E.Lf) (strip-twice (modelOf s))
+
+    pub strip-written : write-form (strip-form s) ≡ strip-form s
+    unfolding strip-form write-form form-by changed kept
+    strip-written = ap (formOf E.Lf) strip-model-back

@@ -11,7 +11,8 @@ use lib.Dec.{eqb, leb}
 use lib.ListN.{length, getD, length-append}
 use Rattle.page.specs.Bytes.{Bytes, bytes, pick}
 use Rattle.page.specs.Lines.{content, blank, command, clean, Rec}
-use Rattle.page.specs.Tables.{Named, Rule, points-differ, TABLES, table-at, columns, rules, standing, width}
+use Rattle.page.specs.Tables.{Named, Rule, points-differ, TABLES, table-at, columns, rules, width}
+use Rattle.page.specs.Order.{listed-order, standing, by-column}
 use Rattle.page.specs.Section.{choose, no-bytes, record-text, first-wrong, first-broken, empty-marked, rec-verdict, rec-step, line-step, content-step, step, continue, run, outcome, table-in, finish}
 use Rattle.page.specs.Records.{Record}
 use Rattle.page.specs.File.{any}
@@ -19,6 +20,7 @@ use Rattle.page.specs.Form.{line, decimal}
 use Rattle.page.specs.Open.{open-all}
 use Rattle.page.specs.Grammar.{fields-of, Denotes}
 use Rattle.page.specs.Refusals.{FirstBroken, laws, Leads, quiet, tbl, atr, frm, mark, record-line, end, Reaches, stay, move, is-ended, Refused, at-line, unfinished}
+use Rattle.page.specs.declared.LineEnd.the-variants as E
 use Rattle.page.specs.declared.Phase.{Phase}
 use Rattle.page.specs.declared.Phase.the-variants as P
 use Rattle.page.specs.declared.Step.{Step}
@@ -44,7 +46,7 @@ sample-fields rs k (c ∷ cs) =
     pick (c .column .text) (bytes "\"x\"") (decimal (pick (any (other k) rs) (c .column .hi) (c .column .lo))) ∷ sample-fields rs (suc k) cs
 
 unfoldable sample : ℕ → Bytes
-sample t = line "rec" (sample-fields (rules t) 0 (columns t))
+sample t = line E.Lf "rec" (sample-fields (rules t) 0 (columns t))
 
 -- no field is an empty text
 unfoldable full : List Bytes → Bool
@@ -66,9 +68,9 @@ record Sampled (latin : Bool) (t : ℕ) : Type 0 where
   clean : clean latin (content (sample t)) ≡ true
   shown : blank (content (sample t)) ≡ false
   named : command (content (sample t)) ≡ Rec
-  wide : eqb (length (fields-of (sample t))) (length (standing t)) ≡ true
-  right : first-wrong (standing t) (fields-of (sample t)) ≡ 0
-  kept : first-broken (rules t) (fields-of (sample t)) ≡ 0
+  wide : eqb (length (fields-of (sample t))) (width t) ≡ true
+  right : first-wrong (standing t (listed-order t)) (fields-of (sample t)) ≡ 0
+  kept : first-broken (rules t) (by-column (listed-order t) (fields-of (sample t))) ≡ 0
   filled : full (fields-of (sample t)) ≡ true
 
 sampled : (latin : Bool) (t : ℕ) → t < TABLES → Sampled latin t
@@ -78,15 +80,15 @@ sampled latin t h =
       clean = each-latin (λ l t. clean l (content (sample t))) (λ l t. true) refl refl latin t h;
       shown = each-table (λ t. blank (content (sample t))) (λ t. false) refl t h;
       named = each-table (λ t. command (content (sample t))) (λ t. Rec) refl t h;
-      wide = each-table (λ t. eqb (length (fields-of (sample t))) (length (standing t))) (λ t. true) refl t h;
-      right = each-table (λ t. first-wrong (standing t) (fields-of (sample t))) (λ t. 0) refl t h;
-      kept = each-table (λ t. first-broken (rules t) (fields-of (sample t))) (λ t. 0) refl t h;
+      wide = each-table (λ t. eqb (length (fields-of (sample t))) (width t)) (λ t. true) refl t h;
+      right = each-table (λ t. first-wrong (standing t (listed-order t)) (fields-of (sample t))) (λ t. 0) refl t h;
+      kept = each-table (λ t. first-broken (rules t) (by-column (listed-order t) (fields-of (sample t)))) (λ t. 0) refl t h;
       filled = each-table (λ t. full (fields-of (sample t))) (λ t. true) refl t h;
     }
 
 -- it is taken whatever mark waits
 sample-step : (latin : Bool) (t m n : ℕ) → t < TABLES → step latin (P.Rows t m n) (sample t) ≡ S.Go (P.Rows t 0 (suc n))
-unfolding step content-step choose line-step rec-step rec-verdict empty-marked width standing
+unfolding step content-step choose line-step rec-step rec-verdict empty-marked
 sample-step latin t m n h =
     let s = sampled latin t h in
     rw (s .clean, s .shown, s .named, s .wide, s .right, s .kept, full-at (fields-of (sample t)) (m - 1) (s .filled), add-one) (by (leb 1 m))
@@ -143,7 +145,7 @@ module _ (latin : Bool) where
   Ends p = (more : List Bytes) × (t : ℕ) × (n : ℕ) × Reaches latin p more (P.Ended t n)
 
   rows-end : (t n : ℕ) → n < 10 ^ 18 → Ends (P.Rows t 0 n)
-  rows-end t n h = (line "end" (decimal n ∷ []) ∷ [], t, n, move (one-step (line "end" (decimal n ∷ [])) (end-step-back latin t n h)) stay)
+  rows-end t n h = (line E.Lf "end" (decimal n ∷ []) ∷ [], t, n, move (one-step (line E.Lf "end" (decimal n ∷ [])) (end-step-back E.Lf latin t n h)) stay)
 
   -- every phase can be ended
   ending : (p : Phase) (k : ℕ) → Sane p k → k + 1 < 10 ^ 18 → Ends p
@@ -153,22 +155,22 @@ module _ (latin : Bool) where
       (sample t ∷ y .0, y .1, y .2, move (one-step (sample t) (sample-step latin t m n (x .0))) (y .3))
   ending (P.Frm t) k x h =
       let y = rows-end t 0 (omega arith) in
-      (frm-line (table-at t) ∷ y .0, y .1, y .2, move (one-step (frm-line (table-at t)) (heads latin t x .frm)) (y .3))
+      (frm-line E.Lf (table-at t) ∷ y .0, y .1, y .2, move (one-step (frm-line E.Lf (table-at t)) (heads E.Lf latin t x .frm)) (y .3))
   ending (P.Atr t) k x h =
       let y = rows-end t 0 (omega arith) in (
-        atr-line (table-at t) ∷ frm-line (table-at t) ∷ y .0,
+        atr-line E.Lf (table-at t) ∷ frm-line E.Lf (table-at t) ∷ y .0,
         y .1,
         y .2,
-        move (one-step (atr-line (table-at t)) (heads latin t x .atr)) (move (one-step (frm-line (table-at t)) (heads latin t x .frm)) (y .3)),
+        move (one-step (atr-line E.Lf (table-at t)) (heads E.Lf latin t x .atr)) (move (one-step (frm-line E.Lf (table-at t)) (heads E.Lf latin t x .frm)) (y .3)),
       )
   ending P.Tbl k x h =
       let y = rows-end 0 0 (omega arith) in
       let z : 0 < TABLES = omega arith in (
-        tbl-line (table-at 0) ∷ atr-line (table-at 0) ∷ frm-line (table-at 0) ∷ y .0,
+        tbl-line E.Lf (table-at 0) ∷ atr-line E.Lf (table-at 0) ∷ frm-line E.Lf (table-at 0) ∷ y .0,
         y .1,
         y .2,
-        move (one-step (tbl-line (table-at 0)) (heads latin 0 z .tbl))
-            (move (one-step (atr-line (table-at 0)) (heads latin 0 z .atr)) (move (one-step (frm-line (table-at 0)) (heads latin 0 z .frm)) (y .3))),
+        move (one-step (tbl-line E.Lf (table-at 0)) (heads E.Lf latin 0 z .tbl))
+            (move (one-step (atr-line E.Lf (table-at 0)) (heads E.Lf latin 0 z .atr)) (move (one-step (frm-line E.Lf (table-at 0)) (heads E.Lf latin 0 z .frm)) (y .3))),
       )
 
   -- lines that lead to an end denote something

@@ -16,11 +16,13 @@ use Rattle.page.specs.Tables.{columns, table-at, TABLES}
 use Rattle.page.specs.Head.{Head}
 use Rattle.page.specs.Marks.{owner-of}
 use Rattle.page.specs.Records.{Datum, number, words, Record}
-use Rattle.page.specs.Model.{Content, Model, modelOf, datum-at, fill-model, strip-datum, strip-content, strip-model}
+use Rattle.page.specs.Model.{Content, Model, modelOf, datum-at, fill-model, strip-datum, strip-content, strip-model, changed, kept}
 use Rattle.page.specs.File.{file-refusal}
 use Rattle.page.specs.Form.{decimal, quoted, datum-text, mark-line, formOf}
-use Rattle.page.specs.Writing.{write-form, strip-form, fill-refusal, fill-form}
+use Rattle.page.specs.Writing.{form-by, write-form, strip-form, fill-refusal, fill-form}
 use Rattle.page.specs.Rules.{Every, none-left, one-more}
+use Rattle.page.specs.declared.LineEnd.{LineEnd}
+use Rattle.page.specs.declared.LineEnd.the-variants as E
 use Rattle.page.specs.declared.Owner.the-variants as O
 use Rattle.round.specs.Round.{PrintedIf, SoundHead, SoundRecord, SoundContent, SoundModel}
 use Rattle.demands.specs.WrittenMarks.{rec-line, record-at, Directly, Suggests, MarkAndRecord, Behind}
@@ -125,31 +127,31 @@ no-comment s e = rw (s .named) e
 named-other : (l : Bytes) {k : ℕ} → command (content l) ≡ k → eqb k Com ≡ false → NoComment l
 named-other l h e = rw h e
 
-comment-if : {P : Bytes → Bytes → Type 0} (s : String) (d : Option Bytes) → ((t : Bytes) → PrintedIf (some t) → NoComment (text-line s t)) → PrintedIf d → Only P (lines-if s d)
+comment-if : (ends : LineEnd) {P : Bytes → Bytes → Type 0} (s : String) (d : Option Bytes) → ((t : Bytes) → PrintedIf (some t) → NoComment (text-line ends s t)) → PrintedIf d → Only P (lines-if ends s d)
 unfolding lines-if
-comment-if s none f p = over
-comment-if s (some t) f p = plain (f t p) over
+comment-if ends s none f p = over
+comment-if ends s (some t) f p = plain (f t p) over
 
-head-only : {P : Bytes → Bytes → Type 0} (h : Head) → SoundHead h → Only P (head-lines h)
+head-only : (ends : LineEnd) {P : Bytes → Bytes → Type 0} (h : Head) → SoundHead h → Only P (head-lines ends h)
 unfolding head-lines
-head-only h s =
-    plain (no-comment mod-seen refl) (plain (no-comment (src-seen h s) refl) (plain (no-comment (chs-seen h) refl)
-    (plain (no-comment (text-seen (commands .3) (h .ver) (s .ver)) refl) (plain (no-comment (text-seen (commands .4) (h .ifv) (s .ifv)) refl)
-    (only-append (comment-if "dve" (h .dve) (λ t p. no-comment (text-seen (commands .5) t p) refl) (s .dve))
-    (comment-if "fft" (h .fft) (λ t p. no-comment (text-seen (commands .6) t p) refl) (s .fft)))))))
+head-only ends h s =
+    plain (no-comment (mod-seen ends) refl) (plain (no-comment (src-seen ends h s) refl) (plain (no-comment (chs-seen ends h) refl)
+    (plain (no-comment (text-seen ends (commands .3) (h .ver) (s .ver)) refl) (plain (no-comment (text-seen ends (commands .4) (h .ifv) (s .ifv)) refl)
+    (only-append (comment-if ends "dve" (h .dve) (λ t p. no-comment (text-seen ends (commands .5) t p) refl) (s .dve))
+    (comment-if ends "fft" (h .fft) (λ t p. no-comment (text-seen ends (commands .6) t p) refl) (s .fft)))))))
 
 -- the lines of a record, of a section, of all of them
 
-module _ (latin : Bool) (t : ℕ) (known : t < TABLES) where
+module _ (ends : LineEnd) (latin : Bool) (t : ℕ) (known : t < TABLES) where
   no-record : SoundRecord latin t [] → ⊥
-  no-record r = omega (arith, width-back latin (r .fit), some-columns latin t known)
+  no-record r = omega (arith, width-back latin (r .fit), some-columns ends latin t known)
 
   -- a record with a suggestion: its mark, and its line
-  marked-lines : (vs : Record) → SoundRecord latin t vs → (f : ℕ) (u : Bytes) → 0 < f → getD vs (f - 1) (number 0) ≡ words O.Suggestion u → record-lines vs ≡ mark-line f ∷ rec-line vs ∷ []
+  marked-lines : (vs : Record) → SoundRecord latin t vs → (f : ℕ) (u : Bytes) → 0 < f → getD vs (f - 1) (number 0) ≡ words O.Suggestion u → record-lines ends vs ≡ mark-line ends f ∷ rec-line ends vs ∷ []
   unfolding record-lines
-  marked-lines vs r f u p e = by (marks-back latin 1 (omega arith) (r .fit) (tame t .lone))
+  marked-lines vs r f u p e = by (marks-back ends latin 1 (omega arith) (r .fit) (tame t .lone))
     where
-      by : (m : ℕ) × Marked 1 (columns t) vs m → mark-lines 1 vs ++ (rec-line vs ∷ []) ≡ mark-line f ∷ rec-line vs ∷ []
+      by : (m : ℕ) × Marked ends 1 (columns t) vs m → mark-lines ends 1 vs ++ (rec-line ends vs ∷ []) ≡ mark-line ends f ∷ rec-line ends vs ∷ []
       by (m, unmarked h o) = let z : 0 ≡ 1 + (f - 1) = owned-suggests o (f - 1) u e in absurd (let w : ⊥ = omega arith in w)
       by (m, marked j b w l y q h o) =
           let z : 1 + j ≡ 1 + (f - 1) = owned-suggests o (f - 1) u e in
@@ -157,17 +159,17 @@ module _ (latin : Bool) (t : ℕ) (known : t < TABLES) where
           rw (h, k)
 
   module _ (m : Model) (c : Content) (here : List·Memᴰ c (m .tables)) where
-    record-only : (vs : Record) → SoundRecord latin t vs → List·Memᴰ vs (c .records) → Only (MarkAndRecord m) (record-lines vs)
+    record-only : (vs : Record) → SoundRecord latin t vs → List·Memᴰ vs (c .records) → Only (MarkAndRecord ends m) (record-lines ends vs)
     unfolding record-lines
     record-only [] r there = absurd (no-record r)
-    record-only (v ∷ vs) r there = by (marks-back latin 1 (omega arith) (r .fit) (tame t .lone))
+    record-only (v ∷ vs) r there = by (marks-back ends latin 1 (omega arith) (r .fit) (tame t .lone))
       where
-        by : (k : ℕ) × Marked 1 (columns t) (v ∷ vs) k → Only (MarkAndRecord m) (mark-lines 1 (v ∷ vs) ++ (rec-line (v ∷ vs) ∷ []))
-        by (k, unmarked h o) = rw h (plain (no-comment (rec-seen latin t v vs r) refl) over)
+        by : (k : ℕ) × Marked ends 1 (columns t) (v ∷ vs) k → Only (MarkAndRecord ends m) (mark-lines ends 1 (v ∷ vs) ++ (rec-line ends (v ∷ vs) ∷ []))
+        by (k, unmarked h o) = rw h (plain (no-comment (rec-seen ends latin t v vs r) refl) over)
         by (k, marked j b u l y q h o) =
             let less : 1 + j - 1 ≡ j = omega arith in
             rw h
-            (two (no-comment (rec-seen latin t v vs r) refl)
+            (two (no-comment (rec-seen ends latin t v vs r) refl)
             (record {
               field = 1 + j;
               values = v ∷ vs;
@@ -176,103 +178,103 @@ module _ (latin : Bool) (t : ℕ) (known : t < TABLES) where
               suggests = record { table = c; here = here; there = there; counted = omega arith; text = b ∷ u; suggested = rw less (owned-at o j (b ∷ u) q refl) };
             }) over)
 
-    body-only : (n : ℕ) {rs : List Record} → Every (SoundRecord latin t) rs → ((vs : Record) → List·Memᴰ vs rs → List·Memᴰ vs (c .records)) → Only (MarkAndRecord m) (body-lines n rs)
+    body-only : (n : ℕ) {rs : List Record} → Every (SoundRecord latin t) rs → ((vs : Record) → List·Memᴰ vs rs → List·Memᴰ vs (c .records)) → Only (MarkAndRecord ends m) (body-lines ends n rs)
     unfolding body-lines
-    body-only n none-left f = plain (no-comment (end-seen latin t n) refl) over
+    body-only n none-left f = plain (no-comment (end-seen ends latin t n) refl) over
     body-only n (one-more {x} r rs) f = only-append (record-only x r (f x (List·Memᴰ·head refl))) (body-only n rs (λ vs h. f vs (List·Memᴰ·tail h)))
 
   body-directly : (n : ℕ) {rs : List Record} → Every (SoundRecord latin t) rs → (k f : ℕ) (u : Bytes) → 0 < f → getD (getD rs k []) (f - 1) (number 0) ≡ words O.Suggestion u →
-      Directly (body-lines n rs) (mark-line f) (rec-line (getD rs k []))
+      Directly (body-lines ends n rs) (mark-line ends f) (rec-line ends (getD rs k []))
   unfolding body-lines
   body-directly n none-left k f u p e = absurd (false≢true (cc))
-  body-directly n (one-more {x} {xs} r rs) zero f u p e = record { before = []; after = body-lines n xs; split = rw (marked-lines x r f u p e) }
+  body-directly n (one-more {x} {xs} r rs) zero f u p e = record { before = []; after = body-lines ends n xs; split = rw (marked-lines x r f u p e) }
   body-directly n (one-more {x} {xs} r rs) (suc k) f u p e =
       let d = body-directly n rs k f u p e in
-      record { before = record-lines x ++ d .before; after = d .after; split = rw (d .split) (sym (append-assoc (record-lines x) (d .before) _)) }
+      record { before = record-lines ends x ++ d .before; after = d .after; split = rw (d .split) (sym (append-assoc (record-lines ends x) (d .before) _)) }
 
-module _ (latin : Bool) where
-  content-only : (m : Model) (c : Content) → List·Memᴰ c (m .tables) → SoundContent latin c → Only (MarkAndRecord m) (content-lines c)
+module _ (ends : LineEnd) (latin : Bool) where
+  content-only : (m : Model) (c : Content) → List·Memᴰ c (m .tables) → SoundContent latin c → Only (MarkAndRecord ends m) (content-lines ends c)
   unfolding content-lines after-tbl
   content-only m c here s =
-      let h = heads latin (c .table) (s .known) in
-      plain (named-other (tbl-line (table-at (c .table))) (h .tbl-named) refl) (plain (named-other (atr-line (table-at (c .table))) (h .atr-named) refl) (plain (named-other (frm-line (table-at (c .table))) (h .frm-named) refl)
-      (body-only latin (c .table) (s .known) m c here (length (c .records)) (s .records) (λ vs x. x))))
+      let h = heads ends latin (c .table) (s .known) in
+      plain (named-other (tbl-line ends (table-at (c .table))) (h .tbl-named) refl) (plain (named-other (atr-line ends (table-at (c .table))) (h .atr-named) refl) (plain (named-other (frm-line ends (table-at (c .table))) (h .frm-named) refl)
+      (body-only ends latin (c .table) (s .known) m c here (length (c .records)) (s .records) (λ vs x. x))))
 
-  tables-only : (m : Model) {cs : List Content} → Every (SoundContent latin) cs → ((c : Content) → List·Memᴰ c cs → List·Memᴰ c (m .tables)) → Only (MarkAndRecord m) (tables-lines cs)
+  tables-only : (m : Model) {cs : List Content} → Every (SoundContent latin) cs → ((c : Content) → List·Memᴰ c cs → List·Memᴰ c (m .tables)) → Only (MarkAndRecord ends m) (tables-lines ends cs)
   unfolding tables-lines
   tables-only m none-left f = over
   tables-only m (one-more {x} s ss) f = only-append (content-only m x (f x (List·Memᴰ·head refl)) s) (tables-only m ss (λ c h. f c (List·Memᴰ·tail h)))
 
   content-directly : (c : Content) → SoundContent latin c → (k f : ℕ) (u : Bytes) → 0 < f → getD (getD (c .records) k []) (f - 1) (number 0) ≡ words O.Suggestion u →
-      Directly (content-lines c) (mark-line f) (rec-line (getD (c .records) k []))
+      Directly (content-lines ends c) (mark-line ends f) (rec-line ends (getD (c .records) k []))
   unfolding content-lines after-tbl
   content-directly c s k f u p e =
-      let d = body-directly latin (c .table) (s .known) (length (c .records)) (s .records) k f u p e in
-      record { before = tbl-line (table-at (c .table)) ∷ atr-line (table-at (c .table)) ∷ frm-line (table-at (c .table)) ∷ d .before; after = d .after; split = rw (d .split) }
+      let d = body-directly ends latin (c .table) (s .known) (length (c .records)) (s .records) k f u p e in
+      record { before = tbl-line ends (table-at (c .table)) ∷ atr-line ends (table-at (c .table)) ∷ frm-line ends (table-at (c .table)) ∷ d .before; after = d .after; split = rw (d .split) }
 
   tables-directly : {cs : List Content} → Every (SoundContent latin) cs → (n k f : ℕ) (u : Bytes) → 0 < f →
       getD (getD (getD cs n (record { table = 0; records = [] }) .records) k []) (f - 1) (number 0) ≡ words O.Suggestion u →
-      Directly (tables-lines cs) (mark-line f) (rec-line (getD (getD cs n (record { table = 0; records = [] }) .records) k []))
+      Directly (tables-lines ends cs) (mark-line ends f) (rec-line ends (getD (getD cs n (record { table = 0; records = [] }) .records) k []))
   unfolding tables-lines
   tables-directly none-left n k f u p e = absurd (false≢true (cc))
   tables-directly (one-more {x} {xs} s ss) zero k f u p e =
       let d = content-directly x s k f u p e in
-      record { before = d .before; after = d .after ++ tables-lines xs; split = rw (d .split) (append-assoc (d .before) _ (tables-lines xs)) }
+      record { before = d .before; after = d .after ++ tables-lines ends xs; split = rw (d .split) (append-assoc (d .before) _ (tables-lines ends xs)) }
   tables-directly (one-more {x} {xs} s ss) (suc n) k f u p e =
       let d = tables-directly ss n k f u p e in
-      record { before = content-lines x ++ d .before; after = d .after; split = rw (d .split) (sym (append-assoc (content-lines x) (d .before) _)) }
+      record { before = content-lines ends x ++ d .before; after = d .after; split = rw (d .split) (sym (append-assoc (content-lines ends x) (d .before) _)) }
 
-module _ (m : Model) (s : SoundModel m) where
-  form-only : Only (MarkAndRecord m) (lines (formOf m))
+module _ (ends : LineEnd) (m : Model) (s : SoundModel m) where
+  form-only : Only (MarkAndRecord ends m) (lines (formOf ends m))
   unfolding form-lines
   form-only =
-      rw (lines-form m s)
-      (only-append (head-only (m .head) (s .head))
-      (only-append (tables-only (m .head .latin) m (s .tables) (λ c h. h)) (plain (no-comment (eof-seen (length (m .tables))) refl) over)))
+      rw (lines-form ends m s)
+      (only-append (head-only ends (m .head) (s .head))
+      (only-append (tables-only ends (m .head .latin) m (s .tables) (λ c h. h)) (plain (no-comment (eof-seen ends (length (m .tables))) refl) over)))
 
   -- field f of record r of table i is a suggestion: its mark stands directly before the record's line
-  pub mark-stands : (i r f : ℕ) (u : Bytes) → 0 < f → datum-at i r f m ≡ words O.Suggestion u → Directly (lines (formOf m)) (mark-line f) (rec-line (record-at i r m))
+  pub mark-stands : (i r f : ℕ) (u : Bytes) → 0 < f → datum-at i r f m ≡ words O.Suggestion u → Directly (lines (formOf ends m)) (mark-line ends f) (rec-line ends (record-at i r m))
   unfolding datum-at form-lines
   mark-stands i r f u p e =
-      let d = tables-directly (m .head .latin) (s .tables) (i - 1) (r - 1) f u p e in
+      let d = tables-directly ends (m .head .latin) (s .tables) (i - 1) (r - 1) f u p e in
       record {
-        before = head-lines (m .head) ++ d .before;
-        after = d .after ++ (eof-line (length (m .tables)) ∷ []);
-        split = rw (lines-form m s, d .split) (simp append-assoc);
+        before = head-lines ends (m .head) ++ d .before;
+        after = d .after ++ (eof-line ends (length (m .tables)) ∷ []);
+        split = rw (lines-form ends m s, d .split) (simp append-assoc);
       }
 
   -- every `com` line of the form is a mark of a suggestion, directly before its record's line
-  pub only-marks : (before after : List Bytes) (x : Bytes) → lines (formOf m) ≡ before ++ (x ∷ after) → command (content x) ≡ Com → Behind (MarkAndRecord m) x after
+  pub only-marks : (before after : List Bytes) (x : Bytes) → lines (formOf ends m) ≡ before ++ (x ∷ after) → command (content x) ≡ Com → Behind (MarkAndRecord ends m) x after
   only-marks before after x e k = only-behind form-only before after x e k
 
 -- the same of what is written for an accepted file
 
 module _ (s : Bytes) (ok : file-refusal s .number ≡ 0) where
   pub write-marks : (i r f : ℕ) (u : Bytes) → 0 < f → datum-at i r f (modelOf s) ≡ words O.Suggestion u →
-      Directly (lines (write-form s)) (mark-line f) (rec-line (record-at i r (modelOf s)))
-  unfolding write-form
-  write-marks i r f u p e = mark-stands (modelOf s) (accepted-model s ok) i r f u p e
+      Directly (lines (write-form s)) (mark-line E.Lf f) (rec-line E.Lf (record-at i r (modelOf s)))
+  unfolding write-form form-by changed kept
+  write-marks i r f u p e = mark-stands E.Lf (modelOf s) (accepted-model s ok) i r f u p e
 
-  pub write-only-marks : (before after : List Bytes) (x : Bytes) → lines (write-form s) ≡ before ++ (x ∷ after) → command (content x) ≡ Com → Behind (MarkAndRecord (modelOf s)) x after
-  unfolding write-form
-  write-only-marks before after x e k = only-marks (modelOf s) (accepted-model s ok) before after x e k
+  pub write-only-marks : (before after : List Bytes) (x : Bytes) → lines (write-form s) ≡ before ++ (x ∷ after) → command (content x) ≡ Com → Behind (MarkAndRecord E.Lf (modelOf s)) x after
+  unfolding write-form form-by changed kept
+  write-only-marks before after x e k = only-marks E.Lf (modelOf s) (accepted-model s ok) before after x e k
 
 -- and of a fill that succeeded: the new mark, and all others
 
 module _ (s : Bytes) (i r f : ℕ) (t : Bytes) (ok : fill-refusal s i r f t .number ≡ 0) where
-  pub fill-mark : Directly (lines (fill-form s i r f t)) (mark-line f) (rec-line (record-at i r (fill-model i r f t (modelOf s))))
-  unfolding fill-form
-  fill-mark = mark-stands (fill-model i r f t (modelOf s)) (filled-sound s i r f t ok) i r f t (fill-field s i r f t ok) (fill-put s i r f t ok)
+  pub fill-mark : Directly (lines (fill-form s i r f t)) (mark-line E.Lf f) (rec-line E.Lf (record-at i r (fill-model i r f t (modelOf s))))
+  unfolding fill-form form-by changed kept
+  fill-mark = mark-stands E.Lf (fill-model i r f t (modelOf s)) (filled-sound s i r f t ok) i r f t (fill-field s i r f t ok) (fill-put s i r f t ok)
 
   pub fill-marks : (j q g : ℕ) (u : Bytes) → 0 < g → datum-at j q g (fill-model i r f t (modelOf s)) ≡ words O.Suggestion u →
-      Directly (lines (fill-form s i r f t)) (mark-line g) (rec-line (record-at j q (fill-model i r f t (modelOf s))))
-  unfolding fill-form
-  fill-marks j q g u p e = mark-stands (fill-model i r f t (modelOf s)) (filled-sound s i r f t ok) j q g u p e
+      Directly (lines (fill-form s i r f t)) (mark-line E.Lf g) (rec-line E.Lf (record-at j q (fill-model i r f t (modelOf s))))
+  unfolding fill-form form-by changed kept
+  fill-marks j q g u p e = mark-stands E.Lf (fill-model i r f t (modelOf s)) (filled-sound s i r f t ok) j q g u p e
 
   pub fill-only-marks : (before after : List Bytes) (x : Bytes) → lines (fill-form s i r f t) ≡ before ++ (x ∷ after) → command (content x) ≡ Com →
-      Behind (MarkAndRecord (fill-model i r f t (modelOf s))) x after
-  unfolding fill-form
-  fill-only-marks before after x e k = only-marks (fill-model i r f t (modelOf s)) (filled-sound s i r f t ok) before after x e k
+      Behind (MarkAndRecord E.Lf (fill-model i r f t (modelOf s))) x after
+  unfolding fill-form form-by changed kept
+  fill-only-marks before after x e k = only-marks E.Lf (fill-model i r f t (modelOf s)) (filled-sound s i r f t ok) before after x e k
 
 -- a stripped file has no `com` line at all
 
@@ -290,7 +292,7 @@ stripped-none m f vs g =
     strip-none (getD (v .0) (f - 1) (number 0)) (g .text) (sym (getD-map strip-datum (v .0) (f - 1) (strip-number 0)) ∙ (ap (λ (w : Record). getD w (f - 1) (number 0)) (v .2) ∙ g .suggested))
 
 pub strip-no-marks : (s : Bytes) → file-refusal s .number ≡ 0 → (before after : List Bytes) (x : Bytes) → lines (strip-form s) ≡ before ++ (x ∷ after) → ¬ (command (content x) ≡ Com)
-unfolding strip-form
+unfolding strip-form form-by changed kept
 strip-no-marks s ok before after x e k =
-    let b = only-marks (strip-model (modelOf s)) (strip-sound (modelOf s) (accepted-model s ok)) before after x e k in
+    let b = only-marks E.Lf (strip-model (modelOf s)) (strip-sound (modelOf s) (accepted-model s ok)) before after x e k in
     stripped-none (modelOf s) (b .holds .field) (b .holds .values) (b .holds .suggests)

@@ -7,11 +7,12 @@ use Rattle.page.specs.Bytes.{Bytes}
 use Rattle.page.specs.Records.{number, words, Record}
 use Rattle.page.specs.Model.{Content, Model}
 use Rattle.page.specs.Form.{line, datum-text, mark-line}
+use Rattle.page.specs.declared.LineEnd.{LineEnd}
 use Rattle.page.specs.declared.Owner.the-variants as O
 
 -- a record's written line
-abbrev pub rec-line : Record → Bytes
-rec-line vs = line "rec" (map datum-text vs)
+abbrev pub rec-line : LineEnd → Record → Bytes
+rec-line ends vs = line ends "rec" (map datum-text vs)
 
 -- record r of table i, both from 1
 abbrev pub record-at : ℕ → ℕ → Model → Record
@@ -33,11 +34,11 @@ pub record Suggests (m : Model) (f : ℕ) (vs : Record) : Type 0 where
   pub suggested : getD vs (f - 1) (number 0) ≡ words O.Suggestion text
 
 -- a `com` line x of a written file, and the line y behind it: a mark, and the record whose field is suggested
-pub record MarkAndRecord (m : Model) (x y : Bytes) : Type 0 where
+pub record MarkAndRecord (ends : LineEnd) (m : Model) (x y : Bytes) : Type 0 where
   pub field : ℕ
   pub values : Record
-  pub mark : x ≡ mark-line field
-  pub behind : y ≡ rec-line values
+  pub mark : x ≡ mark-line ends field
+  pub behind : y ≡ rec-line ends values
   pub suggests : Suggests m field values
 
 -- what stands directly behind line x

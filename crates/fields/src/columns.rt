@@ -1,13 +1,14 @@
 // A field of a record, read as its column asks: a text with its span, a number with its value, or a refusal with its number.
 ghost use mathlib.Core.Path.{_≡_};
 ghost use mathlib.Core.Bool.{false};
-ghost use Prim.Native.Nat.{_+_, _≤_};
-ghost use lib.ListN.{length, drop};
+ghost use Prim.Native.Nat.{_+_, _-_, _≤_};
+ghost use lib.ListN.{length, take, drop};
 ghost use Rattle.page.specs.Fields.{field-size, numberOf};
-ghost use Rattle.page.specs.Section.{record-text, text-field, number-field, fieldOf, amount};
+ghost use Rattle.page.specs.Section.{wordsOf, text-field, number-field, fieldOf, amount};
+ghost use Rattle.page.specs.Places.{span-from};
+ghost use Rattle.page.specs.Reading.{later-field};
 ghost use Rattle.digits.specs.Runs.{field-from};
 use digits::number_at;
-use digits::read_number;
 use page::Column;
 use page::Field;
 use page::Number;
@@ -21,18 +22,19 @@ pub struct Reading {
     pub end: usize,
 }
 
-// 11, then 13.
-pub fn read_text_field(f: &[u8], size: u64) -> Field
-    ensures { λ r. ⌜ r ≡ text-field size (now (f .entry)) (record-text (now (f .entry))) ⌝ }
+// 11, then 13: the field is the part of w from one place to another.
+fn read_text_field(w: &[u8], from: usize, to: usize, size: u64) -> Field
+    requires { ⌜ (from ≤ to) × (to ≤ length (now w)) ⌝ }
+    ensures { λ r. ⌜ r ≡ later-field from (text-field size (wordsOf (take (to - from) (drop from (now (w .entry)))))) ⌝ }
 {
-    match text_size(f) {
+    match text_size(&w[from..to]) {
         Size::Is(n) => {
             if size < n as u64 {
                 return Field::Refused(13);
             }
             Field::Text(Span {
-                from: 1,
-                to: f.len() - 1,
+                from: from + 1,
+                to: to - 1,
             })
         }
         Size::Nothing => Field::Refused(11),
@@ -61,10 +63,11 @@ fn judge_number(number: Number, lo: u64, hi: u64) -> Field
 fn text_from(w: &[u8], at: usize, size: u64) -> Reading
     requires { ⌜ at ≤ length (now w) ⌝ }
     ensures { λ r. ⌜ (r .end ≡ at + field-size false (drop at (now (w .entry))))
-        × (r .field ≡ text-field size (field-from (now (w .entry)) at) (record-text (field-from (now (w .entry)) at))) ⌝ }
+        × (r .field ≡ later-field (span-from (now (w .entry)) at .from) (text-field size (wordsOf (field-from (now (w .entry)) at)))) ⌝ }
 {
     let e = commands::field_end(w, at);
-    let f = read_text_field(lines::trimmed(&w[at..e]), size);
+    let sp = lines::trim_in(w, at, e);
+    let f = read_text_field(w, sp.from, sp.to, size);
     Reading { field: f, end: e }
 }
 
@@ -79,11 +82,11 @@ fn number_from(w: &[u8], at: usize, lo: u64, hi: u64) -> Reading
     Reading { field: f, end: e }
 }
 
-// The field that begins at a place of w, which is what stands after its line's first `;`.
+// The field that begins at a place of w, which is what stands after its line's first `;`: a text's span is where it stands in w.
 pub fn read_field(w: &[u8], at: usize, column: Column) -> Reading
     requires { ⌜ at ≤ length (now w) ⌝ }
     ensures { λ r. ⌜ (r .end ≡ at + field-size false (drop at (now (w .entry))))
-        × (r .field ≡ fieldOf column (field-from (now (w .entry)) at)) ⌝ }
+        × (r .field ≡ later-field (span-from (now (w .entry)) at .from) (fieldOf column (field-from (now (w .entry)) at))) ⌝ }
 {
     let lo = column.lo;
     let hi = column.hi;
@@ -102,10 +105,4 @@ pub fn worth(number: Number) -> u64
         Number::Minus(_) => 0,
         Number::Nothing => 0,
     }
-}
-
-pub fn amount_of(f: &[u8]) -> u64
-    ensures { λ r. ⌜ r ≡ amount (numberOf (now (f .entry))) ⌝ }
-{
-    worth(read_number(f))
 }

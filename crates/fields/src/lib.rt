@@ -1,7 +1,6 @@
-// One field of a line: a slice that is trimmed already, read as document 01 says.
+// One field of a record, read as document 01 says.
 mod columns;
 
 pub use columns::Reading;
-pub use columns::amount_of;
 pub use columns::read_field;
 pub use columns::worth;

@@ -12,18 +12,20 @@ use Rattle.page.specs.Lines.{allowed}
 use Rattle.page.specs.Cut.{sections}
 use Rattle.page.specs.Head.{latinOf}
 use Rattle.page.specs.Records.{table-of}
-use Rattle.page.specs.Model.{modelOf, datum-at, fill-model}
+use Rattle.page.specs.Model.{modelOf, datum-at, fill}
 use Rattle.page.specs.Answers.{earlier, refuse-if}
 use Rattle.page.specs.Reading.{outside, section-at, row-at}
 use Rattle.page.specs.File.{file-refusal}
 use Rattle.page.specs.Form.{formOf}
 use Rattle.page.specs.Writing.{empty-datum, fill-place, fill-refusal, fill-form, fillOf, fill-after}
+use Rattle.page.specs.declared.LineEnd.the-variants as E
 use Rattle.page.specs.declared.Refusal.{Refusal}
+use Rattle.page.specs.declared.Stays.the-variants as St
 use Rattle.page.specs.declared.Written.{Written}
 use Rattle.output.specs.Put.{Wrote}
 use Rattle.copies.specs.Changed.{changed-model}
-use Rattle.forms.proofs.ModelLaws.{one-filled}
-use Rattle.forms.proofs.FormLaws.{wrote-as}
+use Rattle.forms.proofs.ModelLaws.{coded, Beside}
+use Rattle.forms.proofs.FormLaws.{wrote-by}
 use Rattle.page.proofs.TestLaws.{neither}
 use Rattle.laws.proofs.Earlier.{earlier-none}
 
@@ -87,14 +89,14 @@ module _ (s : Bytes) (i r f : ℕ) (t : Bytes) (q : Refusal) (e : q ≡ fill-ref
   pub fill-ready : q .number ≡ 0 → (file-refusal s .number ≡ 0) × (length t ≤ 40)
   fill-ready z = let x = fillable s i r f t (sym (ap (λ (y : Refusal). y .number) e) ∙ z) in (x .file, x .size)
 
-  filled : q .number ≡ 0 → formOf (changed-model (record { strip = false; section = i; rec = r; field = f }) t (modelOf s)) ≡ formOf (fill-model i r f t (modelOf s))
+  filled : q .number ≡ 0 → Beside (fill i r f t) t
   filled z =
       let k = fillable s i r f t (sym (ap (λ (y : Refusal). y .number) e) ∙ z) in
-      ap formOf (one-filled i r f t (modelOf s) (k .section) (k .entry) (k .field))
+      (refl, k .section, k .entry, k .field)
 
-  pub fill-done : (before after : Bytes) (w : Written) → Wrote q (formOf (changed-model (record { strip = false; section = i; rec = r; field = f }) t (modelOf s))) before after w
+  pub fill-done : (before after : Bytes) (w : Written) → Wrote q (formOf E.Lf (changed-model (coded E.Lf St.All (fill i r f t)) t (modelOf s))) before after w
       → (w ≡ fillOf s i r f t (length before)) × (after ≡ fill-after s i r f t before)
   unfolding fillOf fill-after fill-form
   fill-done before after w x =
-      let y = wrote-as {b = formOf (fill-model i r f t (modelOf s))} filled x in
+      let y = wrote-by s t E.Lf St.All (fill i r f t) filled x in
       (rw (sym e) (y .answer), rw (sym e) (y .left))

@@ -8,9 +8,13 @@ use borrow.Author.Tests.{ne-eqb}
 use lib.Dec.{eqb}
 use Rattle.page.specs.Bytes.{Bytes, pick}
 use Rattle.page.specs.Records.{words, Record}
-use Rattle.page.specs.Model.{Content, Model, change, fill-record, fill-content, fill-model, strip-datum, strip-content, strip-model}
+use Rattle.page.specs.Model.{Content, Model, change, fill-record, fill-content, fill-model, strip-datum, strip-content, strip-model, Changes, nothing as no-change, strip as no-marks, fill as one-text, changed, kept}
+use Rattle.page.specs.declared.LineEnd.{LineEnd}
 use Rattle.page.specs.declared.Owner.the-variants as O
-use Rattle.copies.specs.Changed.{changed-datum, changed-values, changed-records, changed-content, changed-tables, changed-model}
+use Rattle.page.specs.declared.Stays.{Stays}
+use Rattle.copies.specs.Changed.{kept-tables, changed-datum, changed-values, changed-records, changed-content, changed-tables, changed-model}
+use Rattle.copies.specs.declared.plan.Plan.{Plan}
+use Rattle.copies.proofs.KeptLaws.{kept-is}
 
 -- past what is named, and where nothing is, only marked texts change
 
@@ -56,14 +60,6 @@ unfolding changed-tables
 tables-strip r f t [] = refl
 tables-strip r f t (c ∷ cs) = rw (content-strip f t c, tables-strip r f t cs)
 
-pub nothing-changed : (t : Bytes) (m : Model) → changed-model (record { strip = false; section = 0; rec = 0; field = 0 }) t m ≡ m
-unfolding changed-model
-nothing-changed t m = rw (tables-none 0 0 t (m .tables))
-
-pub all-stripped : (t : Bytes) (m : Model) → changed-model (record { strip = true; section = 0; rec = 0; field = 0 }) t m ≡ strip-model m
-unfolding changed-model strip-model
-all-stripped t m = rw (tables-strip 0 0 t (m .tables))
-
 -- one field
 
 named-one : {A : Type 0} (k : ℕ) (a b : A) → pick (eqb (suc (suc k)) 1) a b ≡ b
@@ -104,8 +100,25 @@ tables-fill zero r f t (c ∷ cs) h g =
 tables-fill (suc k) r f t (c ∷ cs) h g =
     rw (named-one k r 0, less-one (suc k), content-none f t c) (ap (λ (x : List Content). c ∷ x) (tables-fill k r f t cs h g))
 
-pub one-filled : (i r f : ℕ) (t : Bytes) (m : Model) → 0 < i → 0 < r → 0 < f
-    → changed-model (record { strip = false; section = i; rec = r; field = f }) t m ≡ fill-model i r f t m
-unfolding changed-model fill-model
-one-filled zero r f t m a b c = absurd (omega arith)
-one-filled (suc k) r f t m a b c = rw (tables-fill k r f t (m .tables) b c, less-one k)
+tables-filled : (i r f : ℕ) (t : Bytes) (cs : List Content) → 0 < i → 0 < r → 0 < f → changed-tables false i r f t cs ≡ change (fill-content r f t) (i - 1) cs
+tables-filled zero r f t cs a b c = absurd (omega arith)
+tables-filled (suc k) r f t cs a b c = tables-fill k r f t cs b c ∙ rw (less-one k)
+
+-- The code's plan for what is changed, and the text beside it.
+
+abbrev pub coded : LineEnd → Stays → Changes → Plan
+coded e x no-change = record { ends = e; stays = x; strip = false; section = 0; rec = 0; field = 0 }
+coded e x no-marks = record { ends = e; stays = x; strip = true; section = 0; rec = 0; field = 0 }
+coded e x (one-text i r f t) = record { ends = e; stays = x; strip = false; section = i; rec = r; field = f }
+
+abbrev pub Beside : Changes → Bytes → Type 0
+Beside no-change t = Unit
+Beside no-marks t = Unit
+Beside (one-text i r f u) t = (t ≡ u) × (0 < i) × (0 < r) × (0 < f)
+
+pub planned : (e : LineEnd) (x : Stays) (c : Changes) (t : Bytes) (m : Model) → Beside c t → changed-model (coded e x c) t m ≡ changed c (kept x m)
+unfolding changed-model changed strip-model fill-model
+planned e x no-change t m b = rw (tables-none 0 0 t (kept-tables x (m .tables))) (kept-is x m)
+planned e x no-marks t m b = rw (tables-strip 0 0 t (kept-tables x (m .tables))) (ap strip-model (kept-is x m))
+planned e x (one-text i r f u) t m b =
+    rw (b .0, tables-filled i r f u (kept-tables x (m .tables)) (b .1) (b .2) (b .3)) (ap (fill-model i r f u) (kept-is x m))

@@ -11,7 +11,8 @@ use Rattle.page.specs.Lines.{lines, joined, content, command, Rec}
 use Rattle.page.specs.Tables.{Named, WIDEST, no-column, columns, width, column-at}
 use Rattle.page.specs.Cut.{begins-table, begins-end, Piece, a-table, a-trailer, placed, put, cut, Section, sections, header-lines}
 use Rattle.page.specs.Head.{latinOf, head-values}
-use Rattle.page.specs.Records.{Datum, number, words, Record, waits, record-in, table-of}
+use Rattle.page.specs.Order.{Order}
+use Rattle.page.specs.Records.{Datum, number, words, Record, waits, record-in, table-of, order-in}
 use Rattle.page.specs.Model.{Content, modelOf, strip-datum}
 use Rattle.page.specs.File.{limit, header-refusal, file-refusal, found}
 use Rattle.page.specs.Trailer.{trailerOf}
@@ -19,20 +20,26 @@ use Rattle.page.specs.Answers.{earlier}
 use Rattle.page.specs.File.{section-refusal}
 use Rattle.page.specs.Form.{doubled, quoted, decimal, separated, line, datum-text, mark-of, marks, record-form, records-form, content-form, tables-form}
 use Rattle.page.specs.Rules.{Every, none-left, one-more}
+use Rattle.page.specs.declared.LineEnd.{LineEnd}
 use Rattle.page.specs.declared.Owner.the-variants as O
 use Rattle.page.specs.declared.Column.{Column}
+use Rattle.page.specs.declared.Stays.{Stays}
 use Rattle.page.proofs.LimitLaws.{header-short}
+use Rattle.page.proofs.LineEndLaws.{line-end-length}
 use Rattle.page.proofs.LineLaws.{Laid, laid-lines, laid-some, laid-rest, joined-lines}
 use Rattle.page.proofs.CutLaws.{Stands, no-section, section-stands}
 use Rattle.page.proofs.TableLaws.{width-le}
 use Rattle.output.proofs.FormLaws.{decimal-length, quoted-length}
-use Rattle.frames.proofs.LineLaws.{line-end-length, one-field-length, line-with-is, mark-length}
+use Rattle.frames.proofs.LineLaws.{one-field-length, line-with-is, mark-length}
 use Rattle.frames.proofs.TitleLaws.{table-head-length}
 use Rattle.round.specs.Round.{Fits, a-number, a-text, a-suggestion, FitAll, no-value, a-value, SoundRecord, SoundContent}
 use Rattle.round.proofs.Round.{accepted-model}
 use Rattle.recording.specs.Said.{rows-of, said, said-in}
-use Rattle.copies.specs.Changed.{changed-datum, changed-values, changed-records, changed-content, changed-tables}
+use Rattle.copies.specs.Changed.{kept-content, kept-tables, changed-datum, changed-values, changed-records, changed-content, changed-tables}
+use Rattle.copies.specs.Planned.{tables-by}
+use Rattle.copies.specs.declared.plan.Plan.{Plan}
 use Rattle.copies.proofs.FieldLaws.{text-narrow}
+use Rattle.copies.proofs.KeptLaws.{kept-few, kept-every, kept-count}
 use Rattle.forms.proofs.SoundLaws.{accepted-said}
 use Rattle.laws.proofs.Earlier.{earlier-none}
 
@@ -89,58 +96,69 @@ unfolding changed-values
 values-few strip f t [] = refl
 values-few strip f t (v ∷ vs) = ap suc (values-few strip (f - 1) t vs)
 
-mark-short : (i : ℕ) (v : Datum) → length (mark-of i v) ≤ 39
+mark-short : (ends : LineEnd) (i : ℕ) (v : Datum) → length (mark-of ends i v) ≤ 39
 unfolding mark-of
-mark-short i (number n) = omega arith
-mark-short i (words O.Operator t) = omega arith
-mark-short i (words O.Suggestion t) = mark-length i
+mark-short ends i (number n) = omega arith
+mark-short ends i (words O.Operator t) = omega arith
+mark-short ends i (words O.Suggestion t) = mark-length ends i
 
-marks-short : (i : ℕ) (vs : Record) → length (marks i vs) ≤ 39 * length vs
+marks-short : (ends : LineEnd) (i : ℕ) (vs : Record) → length (marks ends i vs) ≤ 39 * length vs
 unfolding marks
-marks-short i [] = omega arith
-marks-short i (v ∷ vs) = simp length-append (omega (arith, mark-short i v, marks-short (suc i) vs))
+marks-short ends i [] = omega arith
+marks-short ends i (v ∷ vs) = simp length-append (omega (arith, mark-short ends i v, marks-short ends (suc i) vs))
 
 texts-short : {vs : Record} → Every Short vs → length (separated (map datum-text vs)) ≤ 86 * length vs
 unfolding separated bytes
 texts-short none-left = omega arith
 texts-short (one-more h hs) = simp length-append (omega (arith, texts-short hs))
 
-form-short : (vs : Record) → Good vs → length (record-form vs) ≤ 1024
+form-short : (ends : LineEnd) (vs : Record) → Good vs → length (record-form ends vs) ≤ 1024
 unfolding record-form line bytes
-form-short vs g = simp length-append (omega (arith, marks-short 1 vs, texts-short (g .short), g .few, line-end-length))
+form-short ends vs g = simp length-append (omega (arith, marks-short ends 1 vs, texts-short (g .short), g .few, line-end-length ends))
 
 changed-good : (strip : Bool) (f : ℕ) (t : Bytes) (vs : Record) → length t ≤ 40 → Good vs → Good (changed-values strip f t vs)
 changed-good strip f t vs l g = record { short = values-short strip f t l (g .short); few = omega (arith, values-few strip f t vs, g .few) }
 
 -- a section
 
-records-short : (strip : Bool) (r f : ℕ) (t : Bytes) {rs : List Record} → length t ≤ 40 → Every Good rs → length (records-form (changed-records strip r f t rs)) ≤ 1024 * length rs
+records-short : (ends : LineEnd) (strip : Bool) (r f : ℕ) (t : Bytes) {rs : List Record} → length t ≤ 40 → Every Good rs → length (records-form ends (changed-records strip r f t rs)) ≤ 1024 * length rs
 unfolding changed-records records-form
-records-short strip r f t l none-left = omega arith
-records-short strip r f t l (one-more {x} g gs) =
+records-short ends strip r f t l none-left = omega arith
+records-short ends strip r f t l (one-more {x} g gs) =
     simp length-append
-    (omega (arith, form-short (changed-values strip (pick (eqb r 1) f 0) t x) (changed-good strip (pick (eqb r 1) f 0) t x l g), records-short strip (r - 1) f t l gs))
+    (omega (arith, form-short ends (changed-values strip (pick (eqb r 1) f 0) t x) (changed-good strip (pick (eqb r 1) f 0) t x l g), records-short ends strip (r - 1) f t l gs))
 
 pub record Small (c : Content) : Type 0 where
   pub good : Every Good (c .records)
   pub few : length (c .records) ≤ limit
 
-content-short : (strip : Bool) (r f : ℕ) (t : Bytes) (c : Content) → length t ≤ 40 → Small c → length (content-form (changed-content strip r f t c)) ≤ 17179870000
+content-short : (ends : LineEnd) (strip : Bool) (r f : ℕ) (t : Bytes) (c : Content) → length t ≤ 40 → Small c → length (content-form ends (changed-content strip r f t c)) ≤ 17179870000
 unfolding content-form changed-content bytes
-content-short strip r f t c l g =
+content-short ends strip r f t c l g =
     let n = length (changed-records strip r f t (c .records)) in
-    let e = line-with-is "end" (decimal n ∷ []) in
-    let b = one-field-length (bytes "end") (decimal n) in
+    let e = line-with-is ends "end" (decimal n ∷ []) in
+    let b = one-field-length ends (bytes "end") (decimal n) in
     simp length-append
-    (omega (arith, table-head-length (c .table), records-short strip r f t l (g .good), g .few, ap length e, b, decimal-length n))
+    (omega (arith, table-head-length ends (c .table), records-short ends strip r f t l (g .good), g .few, ap length e, b, decimal-length n))
 
-tables-short : (strip : Bool) (i r f : ℕ) (t : Bytes) {cs : List Content} → length t ≤ 40 → Every Small cs
-    → length (tables-form (changed-tables strip i r f t cs)) ≤ 17179870000 * length cs
+tables-short : (ends : LineEnd) (strip : Bool) (i r f : ℕ) (t : Bytes) {cs : List Content} → length t ≤ 40 → Every Small cs
+    → length (tables-form ends (changed-tables strip i r f t cs)) ≤ 17179870000 * length cs
 unfolding changed-tables tables-form
-tables-short strip i r f t l none-left = omega arith
-tables-short strip i r f t l (one-more {x} g gs) =
+tables-short ends strip i r f t l none-left = omega arith
+tables-short ends strip i r f t l (one-more {x} g gs) =
     simp length-append
-    (omega (arith, content-short strip (pick (eqb i 1) r 0) f t x l g, tables-short strip (i - 1) r f t l gs))
+    (omega (arith, content-short ends strip (pick (eqb i 1) r 0) f t x l g, tables-short ends strip (i - 1) r f t l gs))
+
+-- the records that stay are no more, and no longer
+
+kept-small : (x : Stays) (c : Content) → Small c → Small (kept-content x c)
+unfolding kept-content
+kept-small x c g = record { good = kept-every x (g .good); few = omega (arith, kept-few x (c .records), g .few) }
+
+all-small : (x : Stays) {cs : List Content} → Every Small cs → Every Small (kept-tables x cs)
+unfolding kept-tables
+all-small x none-left = none-left
+all-small x (one-more {x = c} g gs) = one-more (kept-small x c g) (all-small x gs)
 
 -- how many records and sections a file may have
 
@@ -152,13 +170,13 @@ laid-count (l ∷ ls) h = simp length-append (omega (arith, laid-some h, laid-co
 lines-count : (s : Bytes) → length (lines s) ≤ length s
 lines-count s = omega (arith, laid-count (lines s) (laid-lines s), ap length (joined-lines s))
 
-rows-count : (t m : ℕ) (ls : List Bytes) → length (rows-of t m ls) ≤ length ls
+rows-count : (t : ℕ) (o : Order) (m : ℕ) (ls : List Bytes) → length (rows-of t o m ls) ≤ length ls
 unfolding rows-of
-rows-count t m [] = omega arith
-rows-count t m (l ∷ ls) = by (eqb (command (content l)) Rec) (rows-count t 0 ls) (rows-count t (waits m (content l)) ls)
+rows-count t o m [] = omega arith
+rows-count t o m (l ∷ ls) = by (eqb (command (content l)) Rec) (rows-count t o 0 ls) (rows-count t o (waits m (content l)) ls)
   where
-    by : (b : Bool) → length (rows-of t 0 ls) ≤ length ls → length (rows-of t (waits m (content l)) ls) ≤ length ls
-        → length (pick b (record-in t m (content l) ∷ rows-of t 0 ls) (rows-of t (waits m (content l)) ls)) ≤ suc (length ls)
+    by : (b : Bool) → length (rows-of t o 0 ls) ≤ length ls → length (rows-of t o (waits m (content l)) ls) ≤ length ls
+        → length (pick b (record-in t o m (content l) ∷ rows-of t o 0 ls) (rows-of t o (waits m (content l)) ls)) ≤ suc (length ls)
     by true p q = omega arith
     by false p q = omega arith
 
@@ -168,7 +186,7 @@ section-count s x h =
 
 said-few : (s : Bytes) (x : Section) → length s ≤ limit → Stands s x → length (said-in x .records) ≤ limit
 unfolding said-in said
-said-few s x l h = omega (arith, rows-count (table-of (x .lines)) 0 (x .lines), section-count s x h, lines-count s)
+said-few s x l h = omega (arith, rows-count (table-of (x .lines)) (order-in (x .lines)) 0 (x .lines), section-count s x h, lines-count s)
 
 each-few : (s : Bytes) (xs : List Section) → length s ≤ limit → ((k : ℕ) → k < length xs → Stands s (getD xs k no-section))
     → Every (λ (c : Content). length (c .records) ≤ limit) (map said-in xs)
@@ -220,12 +238,14 @@ module _ (s : Bytes) (h : file-refusal s .number ≡ 0) where
   unfolding modelOf head-values latinOf
   sound-contents = rw (accepted-said s h) at (accepted-model s h .tables)
 
-  pub accepted-room : (strip : Bool) (i r f : ℕ) (t : Bytes) → length t ≤ 40
-      → length (tables-form (changed-tables strip i r f t (map said-in (sections s)))) ≤ 576460752303423488
-  accepted-room strip i r f t l =
+  pub accepted-room : (p : Plan) (t : Bytes) → length t ≤ 40 → length (tables-by p 0 t (map said-in (sections s))) ≤ 576460752303423488
+  unfolding tables-by
+  accepted-room p t l =
       omega (
         arith,
-        tables-short strip i r f t l (both-small (latinOf s) sound-contents (each-few s (sections s) accepted-short (section-stands s))),
+        tables-short (p .ends) (p .strip) (p .section - 0) (p .rec) (p .field) t l
+            (all-small (p .stays) (both-small (latinOf s) sound-contents (each-few s (sections s) accepted-short (section-stands s)))),
+        kept-count (p .stays) (map said-in (sections s)),
         said-length (sections s),
         sections-count s,
         accepted-short,

@@ -13,8 +13,9 @@ use Rattle.page.specs.Lines.{content, command, rest, Rec}
 use Rattle.page.specs.Fields.{fields}
 use Rattle.page.specs.Cut.{Section, sections}
 use Rattle.page.specs.Head.{latinOf}
+use Rattle.page.specs.Order.{Order}
 use Rattle.page.specs.Section.{rec-verdict, outcome}
-use Rattle.page.specs.Records.{Record, Entry, waits, record-in, entries, entriesOf, recordsOf, table-of}
+use Rattle.page.specs.Records.{Record, Entry, waits, record-in, entries, entriesOf, recordsOf, table-of, order-in}
 use Rattle.page.specs.Places.{stands, record-at}
 use Rattle.page.specs.Model.{contentOf}
 use Rattle.page.specs.File.{file-refusal}
@@ -32,51 +33,51 @@ use Rattle.recording.specs.Said.{rows-of, passes, said, said-in, passes-in, Pas
 abbrev values-of : List Entry → List Record
 values-of es = map (λ (e : Entry). e .values) es
 
-entries-rows : (t m n : ℕ) (ls : List Bytes) → values-of (entries t m n ls) ≡ rows-of t m ls
+entries-rows : (t : ℕ) (o : Order) (m n : ℕ) (ls : List Bytes) → values-of (entries t o m n ls) ≡ rows-of t o m ls
 unfolding entries rows-of
-entries-rows t m n [] = refl
-entries-rows t m n (l ∷ ls) =
-    by (eqb (command (content l)) Rec) (entries-rows t 0 (suc n) ls) (entries-rows t (waits m (content l)) (suc n) ls)
+entries-rows t o m n [] = refl
+entries-rows t o m n (l ∷ ls) =
+    by (eqb (command (content l)) Rec) (entries-rows t o 0 (suc n) ls) (entries-rows t o (waits m (content l)) (suc n) ls)
   where
-    by : (b : Bool) → values-of (entries t 0 (suc n) ls) ≡ rows-of t 0 ls → values-of (entries t (waits m (content l)) (suc n) ls) ≡ rows-of t (waits m (content l)) ls
-        → values-of (pick b (record { line = suc n; values = record-in t m (content l) } ∷ entries t 0 (suc n) ls) (entries t (waits m (content l)) (suc n) ls))
-        ≡ pick b (record-in t m (content l) ∷ rows-of t 0 ls) (rows-of t (waits m (content l)) ls)
-    by true p q = ap (λ (rs : List Record). record-in t m (content l) ∷ rs) p
+    by : (b : Bool) → values-of (entries t o 0 (suc n) ls) ≡ rows-of t o 0 ls → values-of (entries t o (waits m (content l)) (suc n) ls) ≡ rows-of t o (waits m (content l)) ls
+        → values-of (pick b (record { line = suc n; values = record-in t o m (content l) } ∷ entries t o 0 (suc n) ls) (entries t o (waits m (content l)) (suc n) ls))
+        ≡ pick b (record-in t o m (content l) ∷ rows-of t o 0 ls) (rows-of t o (waits m (content l)) ls)
+    by true p q = ap (λ (rs : List Record). record-in t o m (content l) ∷ rs) p
     by false p q = q
 
 content-said : (latin : Bool) (x : Section) → outcome latin (x .lines) .verdict ≡ 0 → contentOf latin x ≡ said-in x
 unfolding contentOf said-in said recordsOf entriesOf
 content-said latin x e =
-    rw (eq-eqb (outcome latin (x .lines) .verdict) 0 e, entries-rows (table-of (x .lines)) 0 0 (x .lines))
+    rw (eq-eqb (outcome latin (x .lines) .verdict) 0 e, entries-rows (table-of (x .lines)) (order-in (x .lines)) 0 0 (x .lines))
 
 -- that the records passed
 
-all-passed : (t m at : ℕ) (ls : List Bytes) → ((r : ℕ) → r < times Rec ls → rec-verdict t (record-at r m at ls .mark) (fields (record-at r m at ls .rest)) ≡ 0)
-    → passes t m ls ≡ true
+all-passed : (t : ℕ) (o : Order) (m at : ℕ) (ls : List Bytes) → ((r : ℕ) → r < times Rec ls → rec-verdict t o (record-at r m at ls .mark) (fields (record-at r m at ls .rest)) ≡ 0)
+    → passes t o m ls ≡ true
 unfolding passes times record-at stands
-all-passed t m at [] f = refl
-all-passed t m at (l ∷ ls) f =
-    by (eqb (command (content l)) Rec) refl (all-passed t 0 (at + length l) ls) (all-passed t (waits m (content l)) (at + length l) ls) f
+all-passed t o m at [] f = refl
+all-passed t o m at (l ∷ ls) f =
+    by (eqb (command (content l)) Rec) refl (all-passed t o 0 (at + length l) ls) (all-passed t o (waits m (content l)) (at + length l) ls) f
   where
     by : (b : Bool) → eqb (command (content l)) Rec ≡ b
-        → (((r : ℕ) → r < times Rec ls → rec-verdict t (record-at r 0 (at + length l) ls .mark) (fields (record-at r 0 (at + length l) ls .rest)) ≡ 0) → passes t 0 ls ≡ true)
-        → (((r : ℕ) → r < times Rec ls → rec-verdict t (record-at r (waits m (content l)) (at + length l) ls .mark) (fields (record-at r (waits m (content l)) (at + length l) ls .rest)) ≡ 0) → passes t (waits m (content l)) ls ≡ true)
-        → ((r : ℕ) → r < times Rec (l ∷ ls) → rec-verdict t (record-at r m at (l ∷ ls) .mark) (fields (record-at r m at (l ∷ ls) .rest)) ≡ 0)
-        → passes t m (l ∷ ls) ≡ true
+        → (((r : ℕ) → r < times Rec ls → rec-verdict t o (record-at r 0 (at + length l) ls .mark) (fields (record-at r 0 (at + length l) ls .rest)) ≡ 0) → passes t o 0 ls ≡ true)
+        → (((r : ℕ) → r < times Rec ls → rec-verdict t o (record-at r (waits m (content l)) (at + length l) ls .mark) (fields (record-at r (waits m (content l)) (at + length l) ls .rest)) ≡ 0) → passes t o (waits m (content l)) ls ≡ true)
+        → ((r : ℕ) → r < times Rec (l ∷ ls) → rec-verdict t o (record-at r m at (l ∷ ls) .mark) (fields (record-at r m at (l ∷ ls) .rest)) ≡ 0)
+        → passes t o m (l ∷ ls) ≡ true
     by true e p q f =
-        let z : rec-verdict t m (fields (rest (content l))) ≡ 0 = rw e at (f 0 (rw e (omega arith))) in
+        let z : rec-verdict t o m (fields (rest (content l))) ≡ 0 = rw e at (f 0 (rw e (omega arith))) in
         let k = p (λ (r : ℕ) (h : r < times Rec ls). rw e at (f (suc r) (rw e (omega arith)))) in
-        rw (e, eq-eqb (rec-verdict t m (fields (rest (content l)))) 0 z, k)
+        rw (e, eq-eqb (rec-verdict t o m (fields (rest (content l)))) 0 z, k)
     by false e p q f =
         let k = q (λ (r : ℕ) (h : r < times Rec ls). rw e at (f r (rw e (omega arith)))) in
         rw (e, k)
 
-lines-pass : (latin : Bool) (ls : List Bytes) → begins ls ≡ true → outcome latin ls .verdict ≡ 0 → passes (table-of ls) 0 ls ≡ true
+lines-pass : (latin : Bool) (ls : List Bytes) → begins ls ≡ true → outcome latin ls .verdict ≡ 0 → passes (table-of ls) (order-in ls) 0 ls ≡ true
 unfolding begins
 lines-pass latin [] b e = absurd (false≢true b)
 lines-pass latin (l ∷ ls) b e =
     let n = sound-count latin (l ∷ ls) e in
-    all-passed (table-of (l ∷ ls)) 0 0 (l ∷ ls) (λ (r : ℕ) (h : r < times Rec (l ∷ ls)). sound-passed latin l ls r 0 b e (omega arith))
+    all-passed (table-of (l ∷ ls)) (order-in (l ∷ ls)) 0 0 (l ∷ ls) (λ (r : ℕ) (h : r < times Rec (l ∷ ls)). sound-passed latin l ls r 0 b e (omega arith))
 
 section-passes : (latin : Bool) (x : Section) → begins (x .lines) ≡ true → outcome latin (x .lines) .verdict ≡ 0 → passes-in x ≡ true
 unfolding passes-in

@@ -14,10 +14,11 @@ use lib.Seq.{drop-cons}
 use Rattle.page.specs.Bytes.{Bytes, bytes}
 use Rattle.page.specs.Tables.{Named, Table, all-tables, no-column, table-at, columns, width, column-at, name-at}
 use Rattle.page.specs.Form.{line-end, separated, line, decimal, decimal-in, format-text, table-head}
+use Rattle.page.specs.declared.LineEnd.{LineEnd}
 use Rattle.page.specs.declared.Column.{Column}
+use Rattle.page.proofs.LineEndLaws.{line-end-length}
 use Rattle.page.proofs.TableLaws.{each, table-test}
 use Rattle.frames.specs.Titles.{tbl-line, names, formats}
-use Rattle.frames.proofs.LineLaws.{line-end-length}
 
 -- fields from one on
 
@@ -30,9 +31,9 @@ pub separated-end : (fs : List Bytes) (k : ℕ) → length fs ≤ k → separate
 unfolding separated
 separated-end fs k h = rw (drop-of-length-le fs h)
 
-pub line-parts : (word : String) (fs : List Bytes) → bytes word ++ (separated fs ++ line-end) ≡ line word fs
+pub line-parts : (ends : LineEnd) (word : String) (fs : List Bytes) → bytes word ++ (separated fs ++ line-end ends) ≡ line ends word fs
 unfolding line
-line-parts word fs = refl
+line-parts ends word fs = refl
 
 -- the names and the formats of a table's columns
 
@@ -80,26 +81,26 @@ pub formats-length : (t : ℕ) → length (separated (formats t)) ≤ 256
 unfolding all-tables each bytes separated formats columns format-text decimal decimal-in
 formats-length t = leb-true (length (separated (formats t))) 256 (table-test formats-small refl refl t)
 
-pub tbl-is : (t : ℕ) (w : String) → w ≡ table-at t .name → bytes "tbl; " ++ (bytes w ++ line-end) ≡ tbl-line t
+pub tbl-is : (ends : LineEnd) (t : ℕ) (w : String) → w ≡ table-at t .name → bytes "tbl; " ++ (bytes w ++ line-end ends) ≡ tbl-line ends t
 unfolding bytes tbl-line line separated
-tbl-is t w e = rw e (simp append-nil)
+tbl-is ends t w e = rw e (simp append-nil)
 
-pub tbl-length : (t : ℕ) → length (tbl-line t) ≤ 39
+pub tbl-length : (ends : LineEnd) (t : ℕ) → length (tbl-line ends t) ≤ 39
 unfolding bytes tbl-line line separated
-tbl-length t = simp length-append (omega (arith, title-length t, line-end-length))
+tbl-length ends t = simp length-append (omega (arith, title-length t, line-end-length ends))
 
-pub atr-length : (t : ℕ) → length (line "atr" (names t)) ≤ 261
+pub atr-length : (ends : LineEnd) (t : ℕ) → length (line ends "atr" (names t)) ≤ 261
 unfolding bytes line
-atr-length t = simp length-append (omega (arith, names-length t, line-end-length))
+atr-length ends t = simp length-append (omega (arith, names-length t, line-end-length ends))
 
-pub frm-length : (t : ℕ) → length (line "frm" (formats t)) ≤ 261
+pub frm-length : (ends : LineEnd) (t : ℕ) → length (line ends "frm" (formats t)) ≤ 261
 unfolding bytes line
-frm-length t = simp length-append (omega (arith, formats-length t, line-end-length))
+frm-length ends t = simp length-append (omega (arith, formats-length t, line-end-length ends))
 
-pub table-head-is : (t : ℕ) → tbl-line t ++ (line "atr" (names t) ++ line "frm" (formats t)) ≡ table-head (table-at t)
+pub table-head-is : (ends : LineEnd) (t : ℕ) → tbl-line ends t ++ (line ends "atr" (names t) ++ line ends "frm" (formats t)) ≡ table-head ends (table-at t)
 unfolding table-head tbl-line names formats columns
-table-head-is t = refl
+table-head-is ends t = refl
 
-pub table-head-length : (t : ℕ) → length (table-head (table-at t)) ≤ 561
-table-head-length t =
-    rw (← table-head-is t) (simp length-append (omega (arith, tbl-length t, atr-length t, frm-length t)))
+pub table-head-length : (ends : LineEnd) (t : ℕ) → length (table-head ends (table-at t)) ≤ 561
+table-head-length ends t =
+    rw (← table-head-is ends t) (simp length-append (omega (arith, tbl-length ends t, atr-length ends t, frm-length ends t)))

@@ -4,9 +4,10 @@ use Prim.Native.Nat.{ℕ}
 use Rattle.page.specs.Bytes.{Bytes, bytes}
 use Rattle.page.specs.Tables.{Named, table-at, columns}
 use Rattle.page.specs.Form.{line, format-text}
+use Rattle.page.specs.declared.LineEnd.{LineEnd}
 
-unfoldable pub tbl-line : ℕ → Bytes
-tbl-line t = line "tbl" (bytes (table-at t .name) ∷ [])
+unfoldable pub tbl-line : LineEnd → ℕ → Bytes
+tbl-line e t = line e "tbl" (bytes (table-at t .name) ∷ [])
 
 unfoldable pub names : ℕ → List Bytes
 names t = map (λ (c : Named). bytes (c .name)) (columns t)

@@ -12,28 +12,30 @@ use output::put_line_end;
 use output::put_raw_part;
 use page::Date;
 use page::Header;
+use page::LineEnd;
 use page::Span;
 use page::Stated;
 use page::Time;
 
-fn put_mod_line(out: &mut [u8], at: usize) -> usize
+fn put_mod_line(out: &mut [u8], at: usize, ends: LineEnd) -> usize
     requires { ⌜ at + 33 < 2 ^ 62 ⌝ }
-    ensures { λ r. ⌜ Put (now (out .entry)) at mod-line (now (out .exit)) r ⌝ }
+    ensures { λ r. ⌜ Put (now (out .entry)) at (mod-line ends) (now (out .exit)) r ⌝ }
 {
     let a = put_bytes(out, at, b"mod; DD.MM.YYYY; HH:MM:SS; free");
-    put_line_end(out, a)
+    put_line_end(out, a, ends)
 }
 
 fn put_src_line(
     out: &mut [u8],
     at: usize,
+    ends: LineEnd,
     file: &[u8],
     source: Span,
     date: Date,
     time: Time,
 ) -> usize
     requires { ⌜ at + length (now file) + 35 < 2 ^ 62 ⌝ }
-    ensures { λ r. ⌜ Put (now (out .entry)) at (src-line (now (file .entry)) source date time) (now (out .exit)) r ⌝ }
+    ensures { λ r. ⌜ Put (now (out .entry)) at (src-line ends (now (file .entry)) source date time) (now (out .exit)) r ⌝ }
 {
     let a = put_bytes(out, at, b"src; ");
     let b = put_raw_part(out, a, file, source);
@@ -42,36 +44,43 @@ fn put_src_line(
     let e = put_bytes(out, d, b"\"; \"");
     let f = put_time(out, e, time);
     let g = put_byte(out, f, 34);
-    put_line_end(out, g)
+    put_line_end(out, g, ends)
 }
 
 // "`ISO8859-1` spelt thus"
-fn put_chs_line(out: &mut [u8], at: usize, latin: bool) -> usize
+fn put_chs_line(out: &mut [u8], at: usize, ends: LineEnd, latin: bool) -> usize
     requires { ⌜ at + 18 < 2 ^ 62 ⌝ }
-    ensures { λ r. ⌜ Put (now (out .entry)) at (chs-line latin) (now (out .exit)) r ⌝ }
+    ensures { λ r. ⌜ Put (now (out .entry)) at (chs-line ends latin) (now (out .exit)) r ⌝ }
 {
     if latin {
         let a = put_bytes(out, at, b"chs; \"ISO8859-1\"");
-        return put_line_end(out, a);
+        return put_line_end(out, a, ends);
     }
     let a = put_bytes(out, at, b"chs; \"ASCII\"");
-    put_line_end(out, a)
+    put_line_end(out, a, ends)
 }
 
-fn put_stated_line(out: &mut [u8], at: usize, word: &[u8], file: &[u8], stated: Stated) -> usize
+fn put_stated_line(
+    out: &mut [u8],
+    at: usize,
+    ends: LineEnd,
+    word: &[u8],
+    file: &[u8],
+    stated: Stated,
+) -> usize
     requires { ⌜ at + length (now word) + length (now file) + 6 < 2 ^ 62 ⌝ }
-    ensures { λ r. ⌜ Put (now (out .entry)) at (stated-line (now (word .entry)) (now (file .entry)) stated) (now (out .exit)) r ⌝ }
+    ensures { λ r. ⌜ Put (now (out .entry)) at (stated-line ends (now (word .entry)) (now (file .entry)) stated) (now (out .exit)) r ⌝ }
 {
     match stated {
         Stated::Absent => at,
-        Stated::At(place) => put_text_line(out, at, word, file, place),
+        Stated::At(place) => put_text_line(out, at, ends, word, file, place),
     }
 }
 
 // A header's values, its texts as they stand in the file.
-pub fn put_head(out: &mut [u8], at: usize, file: &[u8], header: Header) -> usize
+pub fn put_head(out: &mut [u8], at: usize, ends: LineEnd, file: &[u8], header: Header) -> usize
     requires { ⌜ at + 5 * length (now file) + 122 < 2 ^ 62 ⌝ }
-    ensures { λ r. ⌜ Put (now (out .entry)) at (head-raw (now (file .entry)) header) (now (out .exit)) r ⌝ }
+    ensures { λ r. ⌜ Put (now (out .entry)) at (head-raw ends (now (file .entry)) header) (now (out .exit)) r ⌝ }
 {
     let source = header.source;
     let date = header.date;
@@ -80,11 +89,11 @@ pub fn put_head(out: &mut [u8], at: usize, file: &[u8], header: Header) -> usize
     let ifv = header.ifv;
     let dve = header.dve;
     let fft = header.fft;
-    let a = put_mod_line(out, at);
-    let b = put_src_line(out, a, file, source, date, time);
-    let c = put_chs_line(out, b, header.latin);
-    let d = put_text_line(out, c, b"ver", file, ver);
-    let e = put_text_line(out, d, b"ifv", file, ifv);
-    let f = put_stated_line(out, e, b"dve", file, dve);
-    put_stated_line(out, f, b"fft", file, fft)
+    let a = put_mod_line(out, at, ends);
+    let b = put_src_line(out, a, ends, file, source, date, time);
+    let c = put_chs_line(out, b, ends, header.latin);
+    let d = put_text_line(out, c, ends, b"ver", file, ver);
+    let e = put_text_line(out, d, ends, b"ifv", file, ifv);
+    let f = put_stated_line(out, e, ends, b"dve", file, dve);
+    put_stated_line(out, f, ends, b"fft", file, fft)
 }

@@ -11,37 +11,45 @@ use output::put_bytes;
 use output::put_line_end;
 use output::put_raw_part;
 use output::put_separator;
+use page::LineEnd;
 use page::Span;
 
 // `end; count` and `eof; count`
-pub fn put_count_line(out: &mut [u8], at: usize, word: &[u8], n: u64) -> usize
+pub fn put_count_line(out: &mut [u8], at: usize, ends: LineEnd, word: &[u8], n: u64) -> usize
     requires { ⌜ at + length (now word) + 24 < 2 ^ 62 ⌝ }
-    ensures { λ r. ⌜ Put (now (out .entry)) at (line-with (now (word .entry)) (decimal n ∷ [])) (now (out .exit)) r ⌝ }
+    ensures { λ r. ⌜ Put (now (out .entry)) at (line-with ends (now (word .entry)) (decimal n ∷ [])) (now (out .exit)) r ⌝ }
 {
     let a = put_bytes(out, at, word);
     let b = put_separator(out, a);
     let c = put_decimal(out, b, n);
-    put_line_end(out, c)
+    put_line_end(out, c, ends)
 }
 
 // A line of one text, which stands in the file.
-pub fn put_text_line(out: &mut [u8], at: usize, word: &[u8], file: &[u8], place: Span) -> usize
+pub fn put_text_line(
+    out: &mut [u8],
+    at: usize,
+    ends: LineEnd,
+    word: &[u8],
+    file: &[u8],
+    place: Span,
+) -> usize
     requires { ⌜ at + length (now word) + length (now file) + 6 < 2 ^ 62 ⌝ }
-    ensures { λ r. ⌜ Put (now (out .entry)) at (text-line (now (word .entry)) (now (file .entry)) place) (now (out .exit)) r ⌝ }
+    ensures { λ r. ⌜ Put (now (out .entry)) at (text-line ends (now (word .entry)) (now (file .entry)) place) (now (out .exit)) r ⌝ }
 {
     let a = put_bytes(out, at, word);
     let b = put_separator(out, a);
     let c = put_raw_part(out, b, file, place);
-    put_line_end(out, c)
+    put_line_end(out, c, ends)
 }
 
 // A suggestion's mark.
-pub fn put_mark(out: &mut [u8], at: usize, i: u64) -> usize
+pub fn put_mark(out: &mut [u8], at: usize, ends: LineEnd, i: u64) -> usize
     requires { ⌜ at + 39 < 2 ^ 62 ⌝ }
-    ensures { λ r. ⌜ Put (now (out .entry)) at (mark-line i) (now (out .exit)) r ⌝ }
+    ensures { λ r. ⌜ Put (now (out .entry)) at (mark-line ends i) (now (out .exit)) r ⌝ }
 {
     let a = put_bytes(out, at, b"com; \"SUGGESTED ");
     let b = put_decimal(out, a, i);
     let c = put_byte(out, b, 34);
-    put_line_end(out, c)
+    put_line_end(out, c, ends)
 }

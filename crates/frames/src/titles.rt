@@ -11,6 +11,7 @@ use output::put_bytes;
 use output::put_line_end;
 use output::put_separator;
 use page::Column;
+use page::LineEnd;
 use tables::NAMES;
 use tables::find_size;
 use tables::find_width;
@@ -30,18 +31,18 @@ fn put_word(out: &mut [u8], at: usize, n: usize) -> usize
     put_bytes(out, at, &names[from..to])
 }
 
-fn put_tbl_line(out: &mut [u8], at: usize, t: usize) -> usize
+fn put_tbl_line(out: &mut [u8], at: usize, ends: LineEnd, t: usize) -> usize
     requires { ⌜ at + 512 < 2 ^ 62 ⌝ }
-    ensures { λ r. ⌜ Put (now (out .entry)) at (tbl-line t) (now (out .exit)) r ⌝ }
+    ensures { λ r. ⌜ Put (now (out .entry)) at (tbl-line ends t) (now (out .exit)) r ⌝ }
 {
     let a = put_bytes(out, at, b"tbl; ");
     let b = put_word(out, a, look_title(t));
-    put_line_end(out, b)
+    put_line_end(out, b, ends)
 }
 
-fn put_atr_line(out: &mut [u8], at: usize, t: usize) -> usize
+fn put_atr_line(out: &mut [u8], at: usize, ends: LineEnd, t: usize) -> usize
     requires { ⌜ at + 1024 < 2 ^ 62 ⌝ }
-    ensures { λ r. ⌜ Put (now (out .entry)) at (line "atr" (names t)) (now (out .exit)) r ⌝ }
+    ensures { λ r. ⌜ Put (now (out .entry)) at (line ends "atr" (names t)) (now (out .exit)) r ⌝ }
 {
     let n = find_width(t);
     let mut o = put_bytes(out, at, b"atr");
@@ -51,7 +52,7 @@ fn put_atr_line(out: &mut [u8], at: usize, t: usize) -> usize
         o = put_word(out, o, look_name(t, k));
         k += 1;
     }
-    put_line_end(out, o)
+    put_line_end(out, o, ends)
 }
 
 // "formats with the sizes above": of a column this asks for kind and size alone.
@@ -76,9 +77,9 @@ fn put_format_of(out: &mut [u8], at: usize, t: usize, k: usize) -> usize
     )
 }
 
-fn put_frm_line(out: &mut [u8], at: usize, t: usize) -> usize
+fn put_frm_line(out: &mut [u8], at: usize, ends: LineEnd, t: usize) -> usize
     requires { ⌜ at + 1024 < 2 ^ 62 ⌝ }
-    ensures { λ r. ⌜ Put (now (out .entry)) at (line "frm" (formats t)) (now (out .exit)) r ⌝ }
+    ensures { λ r. ⌜ Put (now (out .entry)) at (line ends "frm" (formats t)) (now (out .exit)) r ⌝ }
 {
     let n = find_width(t);
     let mut o = put_bytes(out, at, b"frm");
@@ -88,14 +89,14 @@ fn put_frm_line(out: &mut [u8], at: usize, t: usize) -> usize
         o = put_format_of(out, o, t, k);
         k += 1;
     }
-    put_line_end(out, o)
+    put_line_end(out, o, ends)
 }
 
-pub fn put_table_head(out: &mut [u8], at: usize, t: usize) -> usize
+pub fn put_table_head(out: &mut [u8], at: usize, ends: LineEnd, t: usize) -> usize
     requires { ⌜ at + 2048 < 2 ^ 62 ⌝ }
-    ensures { λ r. ⌜ Put (now (out .entry)) at (table-head (table-at t)) (now (out .exit)) r ⌝ }
+    ensures { λ r. ⌜ Put (now (out .entry)) at (table-head ends (table-at t)) (now (out .exit)) r ⌝ }
 {
-    let a = put_tbl_line(out, at, t);
-    let b = put_atr_line(out, a, t);
-    put_frm_line(out, b, t)
+    let a = put_tbl_line(out, at, ends, t);
+    let b = put_atr_line(out, a, ends, t);
+    put_frm_line(out, b, ends, t)
 }

@@ -8,7 +8,8 @@ use native.Mathlib.Omega.{arith}
 use native.Mathlib.Nat.{zero-add}
 use lib.ListN.{length}
 use Rattle.page.specs.Bytes.{Bytes}
-use Rattle.page.specs.Tables.{number-at}
+use Rattle.page.specs.Tables.{number-at, width}
+use Rattle.page.specs.Order.{Order, listed-order, arranged}
 use Rattle.page.specs.Marks.{may-mark}
 use Rattle.page.specs.Section.{step, continue, finish, run, outcome, table-in}
 use Rattle.page.specs.Records.{Record}
@@ -20,6 +21,7 @@ use Rattle.page.specs.declared.Step.{Step}
 use Rattle.page.specs.declared.Step.the-variants as S
 use Rattle.page.specs.declared.Outcome.{Outcome}
 use Rattle.page.proofs.TableLaws.{one-markable, may-mark-within}
+use Rattle.page.proofs.OrderLaws.{listed-arranged}
 use Rattle.grammar.proofs.Steps.{go-exactly, stop-exactly, leads-go}
 use Rattle.grammar.proofs.Ranged.{laws-some}
 
@@ -28,7 +30,7 @@ abbrev pub Fits : Phase → Type 0
 Fits P.Tbl = Unit
 Fits (P.Atr t) = Unit
 Fits (P.Frm t) = Unit
-Fits (P.Rows t m n) = (m ≡ 0) ⊎ (may-mark t m ≡ true)
+Fits (P.Rows t m n) = (m ≡ 0) ⊎ (may-mark t (listed-order t) m ≡ true)
 Fits (P.Ended t n) = Unit
 
 -- that stays so from line to line
@@ -42,21 +44,22 @@ fits-on (record-line h) x = inl refl
 fits-on (end h) x = tt
 
 -- a mark that may stand is the only one of its record
-pub only-mark : (t m i : ℕ) → (m ≡ 0) ⊎ (may-mark t m ≡ true) → may-mark t i ≡ true → Rises i (marks-of m) → marks-of i ≡ i ∷ marks-of m
-only-mark t m zero x e r = let z = may-mark-within t 0 e .0 in absurd (let y : ⊥ = omega arith in y)
-only-mark t zero (suc i) x e r = refl
-only-mark t (suc m) (suc i) (inl z) e r = absurd (let y : ⊥ = omega arith in y)
-only-mark t (suc m) (suc i) (inr d) e (above h) = let z = one-markable t (suc m) (suc i) d e in absurd (let y : ⊥ = omega arith in y)
+module _ (t : ℕ) (o : Order) (a : arranged (width t) o ≡ true) where
+  pub only-mark : (m i : ℕ) → (m ≡ 0) ⊎ (may-mark t o m ≡ true) → may-mark t o i ≡ true → Rises i (marks-of m) → marks-of i ≡ i ∷ marks-of m
+  only-mark m zero x e r = let z = may-mark-within t o 0 e .0 in absurd (let y : ⊥ = omega arith in y)
+  only-mark zero (suc i) x e r = refl
+  only-mark (suc m) (suc i) (inl z) e r = absurd (let y : ⊥ = omega arith in y)
+  only-mark (suc m) (suc i) (inr d) e (above h) = let z = one-markable t o a (suc m) (suc i) d e in absurd (let y : ⊥ = omega arith in y)
 
 -- what the grammar asks of the lines that are left
 abbrev Body : Bool → ℕ → List Record → List Bytes → Type 0
-Body latin t rs body = Records latin t (length rs) [] body rs
+Body latin t rs body = Records latin t (listed-order t) (length rs) [] body rs
 
 abbrev Rest : Bool → Phase → List Bytes → Type 0
 Rest latin P.Tbl ls = (t : ℕ) × (rs : List Record) × Denotes latin ls t rs
-Rest latin (P.Atr t) ls = (rs : List Record) × Then latin (AtrLine latin t) (Then latin (FrmLine latin t) (Body latin t rs)) ls
-Rest latin (P.Frm t) ls = (rs : List Record) × Then latin (FrmLine latin t) (Body latin t rs) ls
-Rest latin (P.Rows t m n) ls = (rs : List Record) × Records latin t (n + length rs) (marks-of m) ls rs
+Rest latin (P.Atr t) ls = (rs : List Record) × Then latin (AtrLine latin t) (Then latin (FrmLine latin t (listed-order t)) (Body latin t rs)) ls
+Rest latin (P.Frm t) ls = (rs : List Record) × Then latin (FrmLine latin t (listed-order t)) (Body latin t rs) ls
+Rest latin (P.Rows t m n) ls = (rs : List Record) × Records latin t (listed-order t) (n + length rs) (marks-of m) ls rs
 Rest latin (P.Ended t n) ls = Silence latin ls
 
 module _ (latin : Bool) where
@@ -69,7 +72,7 @@ module _ (latin : Bool) where
   back ls (tbl {t} h) f x = (t, x .0, found h (x .1))
   back ls (atr h) f x = (x .0, found h (x .1))
   back ls (frm h) f x = (x .0, found {ls = ls} h (rw zero-add at (x .1)))
-  back ls (mark {t} {m} {i} h) f x = (x .0, a-mark h (rw (only-mark t m i f (h .may) (h .rises)) at (x .1)))
+  back ls (mark {t} {m} {i} h) f x = (x .0, a-mark h (rw (only-mark t (listed-order t) (listed-arranged t) m i f (h .may) (h .rises)) at (x .1)))
   back ls (record-line {n} {vs} h) f x = (vs ∷ x .0, a-record {ls = ls} h (rw (let z : suc n + length (x .0) ≡ n + suc (length (x .0)) = omega arith in z) at (x .1)))
   back ls (end {n} h) f x = ([], rw (let z : n + 0 ≡ n = omega arith in z) (the-end h x))
 
@@ -108,11 +111,12 @@ module _ (latin : Bool) (o : Outcome) where
   silence t k n e (still {l} {ls} h s) = on n ls (quiet h) (silence t k (suc n) e s)
 
   records : (t m k n c : ℕ) {ms : List ℕ} {ls : List Bytes} {rs : List Record} → accepted t c ≡ o → c ≡ k + length rs → ms ≡ marks-of m →
-      (m ≡ 0) ⊎ (may-mark t m ≡ true) → Records latin t c ms ls rs → run latin (P.Rows t m k) n ls ≡ o
+      (m ≡ 0) ⊎ (may-mark t (listed-order t) m ≡ true) → Records latin t (listed-order t) c ms ls rs → run latin (P.Rows t m k) n ls ≡ o
   records t m k n c e g q f (pause {ls} h x) = on n ls (quiet h) (records t m k (suc n) c e g q f x)
   records t m k n c e g q f (a-mark {i} {l} {ls} h x) =
-      let a : MarkLine latin t (marks-of m) i l = rw q at h in
-      on n ls (mark a) (records t i k (suc n) c e g (ap (λ (z : List ℕ). i ∷ z) q ∙ sym (only-mark t m i f (a .may) (a .rises))) (inr (h .may)) x)
+      let a : MarkLine latin t (listed-order t) (marks-of m) i l = rw q at h in
+      let w = only-mark t (listed-order t) (listed-arranged t) m i f (a .may) (a .rises) in
+      on n ls (mark a) (records t i k (suc n) c e g (ap (λ (z : List ℕ). i ∷ z) q ∙ sym w) (inr (h .may)) x)
   records t m k n c e g q f (a-record {ls} h x) = on n ls (record-line (rw q at h)) (records t 0 (suc k) (suc n) c e (omega arith) refl (inl refl) x)
   records t m k n c e g q f (the-end {ls} h s) =
       rw (unmarked m q) (on n ls (end (rw (let z : c ≡ k = omega arith in z) at h)) (silence t k (suc n) (rw (let z : c ≡ k = omega arith in z) at e) s))

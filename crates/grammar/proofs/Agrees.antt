@@ -1,5 +1,5 @@
 -- One walk over the machine's tests: it refuses a line exactly by the first law that the line breaks, and goes on only where the grammar leads.
-use mathlib.Core.Path.{_≡_, refl, ap, _∙_}
+use mathlib.Core.Path.{_≡_, refl, ap, sym, _∙_}
 use mathlib.Core.Bool.{Bool, true, false, _&&_, false≢true}
 use mathlib.Core.List.{List, [], _∷_, _++_, List·Memᴰ, List·Memᴰ·head, List·Memᴰ·tail, List·Memᴰ·not-nil, List·Memᴰ·cases-cons}
 use mathlib.Core.Logic.{_⊎_, inl, inr, _↔_}
@@ -13,16 +13,16 @@ use lib.ListN.{length}
 use Rattle.page.specs.Bytes.{Bytes, bytes, pick}
 use Rattle.page.specs.Lines.{content, blank, command, rest, clean, Tbl, Atr, Frm, Rec, End, Com}
 use Rattle.page.specs.Fields.{fields, numberOf}
-use Rattle.page.specs.Tables.{Named, Rule, rule-number, table-at, columns, rules, standing, width}
+use Rattle.page.specs.Tables.{Named, Rule, rule-number, table-at, columns, rules, width}
+use Rattle.page.specs.Order.{Order, listed-order, arranged, standing, by-column}
 use Rattle.page.specs.Marks.{remarkOf}
 use Rattle.page.specs.Section
 use Rattle.page.specs.Records.{Datum, number, words, Record}
-use Rattle.page.specs.Grammar.{fields-of, Says, empty, remark, Holds, a-number, a-text, owner-by, Values, no-field, a-field, Breaks}
+use Rattle.page.specs.Grammar.{fields-of, Says, empty, remark, Holds, a-number, a-text, Breaks, Reads, RecLine}
 use Rattle.page.specs.Refusals.{Law, law, FirstBroken, either-laws, marks-of, InOrder, kind-law, fields-laws, rules-laws, rec-laws, end-laws, command-laws, GoodMark, laws, Leads, quiet, tbl, atr, frm, mark, record-line, end}
 use Rattle.page.specs.declared.Number.{Number}
 use Rattle.page.specs.declared.Number.the-variants as N
 use Rattle.page.specs.declared.Column.{Column}
-use Rattle.page.specs.declared.Owner.{Owner}
 use Rattle.page.specs.declared.Owner.the-variants as O
 use Rattle.page.specs.declared.Remark.{Remark}
 use Rattle.page.specs.declared.Remark.the-variants as R
@@ -33,9 +33,12 @@ use Rattle.page.specs.declared.Field.the-variants as F
 use Rattle.page.specs.declared.Step.{Step}
 use Rattle.page.specs.declared.Step.the-variants as S
 use Rattle.page.proofs.TableLaws.{name-tells, rule-some}
-use Rattle.laws.proofs.Decides.{Decides, holds, fails, fact, both, equal, at-most}
+use Rattle.page.proofs.OrderLaws.{arranged-long, standing-length, listed-arranged}
+use Rattle.page.proofs.TextLaws.{worded-none, worded-some}
+use Rattle.laws.proofs.Decides.{Decides, holds, fails, fact, when, both, equal, at-most}
 use Rattle.laws.proofs.Tests.{is-d, names-d, formats-d, rises-d, unknown-d, one-d, named-d}
-use Rattle.grammar.proofs.Values.{values-once, rule-d, empty-d}
+use Rattle.grammar.proofs.Values.{field-right}
+use Rattle.grammar.proofs.Arranged.{reads-once, reads-rule, right-reads, reads-empty}
 
 -- the step stops with v exactly if v is the first broken law's number, and goes on only to what G says
 pub record Agrees (G : Phase → Type 0) (s : Step) (ls : List Law) : Type 0 where
@@ -100,7 +103,7 @@ first-first a b c = by (eqb a 0) refl
     by false e = rw e
 
 -- a field: 11 or 12, then 13; what follows may use that it is read
-module _ {G : Phase → Type 0} (q : Phase) (o : Owner) (c : Column) (f : Bytes) (y : ℕ) (more : List Law) (next : (v : Datum) → Holds o c f v → Agrees G (judged q y) more) where
+module _ {G : Phase → Type 0} (q : Phase) (c : Column) (f : Bytes) (y : ℕ) (more : List Law) (next : Section.field-number (Section.fieldOf c f) ≡ 0 → Agrees G (judged q y) more) where
   abbrev holds-law : Law
   holds-law = law 13 (¬ ((v : Datum) × Holds O.Operator c f v))
 
@@ -122,20 +125,20 @@ module _ {G : Phase → Type 0} (q : Phase) (o : Owner) (c : Column) (f : Bytes)
       inv (words p w) (a-text u h a) = absurd (false≢true (cc))
 
       by : (b : Bool) → Decides ((c .lo ≤ n) × (n ≤ c .hi)) b → Agrees G (field-step (pick b (F.Number n) (F.Refused 13))) (holds-law ∷ more)
-      by true (holds p) = miss (λ x. x (number n, a-number t e (p .0) (p .1))) (next (number n) (a-number t e (p .0) (p .1)))
+      by true (holds p) = miss (λ x. x (number n, a-number t e (p .0) (p .1))) (next (field-right {o = O.Operator} (a-number t e (p .0) (p .1))))
       by false (fails x) = hit (λ z. x (inv (z .0) (z .1)))
 
-  text-agrees : (x : Option Bytes) → c .text ≡ true → Section.record-text f ≡ x → Agrees G (field-step (Section.text-field (c .hi) f x)) (law 11 (Section.record-text f ≡ none) ∷ holds-law ∷ more)
+  text-agrees : (x : Option Bytes) → c .text ≡ true → Section.record-text f ≡ x → Agrees G (field-step (Section.text-field (c .hi) (Section.wordsOf f))) (law 11 (Section.record-text f ≡ none) ∷ holds-law ∷ more)
   unfolding Section.text-field Section.field-number judged Section.choose
-  text-agrees none t e = hit e
-  text-agrees (some w) t e = miss (λ h. absurd (false≢true (cc))) (by (leb (length w) (c .hi)) (at-most (length w) (c .hi)))
+  text-agrees none t e = rw (worded-none f e) (hit e)
+  text-agrees (some w) t e = rw (worded-some f w e) (miss (λ h. absurd (false≢true (cc))) (by (leb (length w) (c .hi)) (at-most (length w) (c .hi))))
     where
       inv : (v : Datum) → Holds O.Operator c f v → length w ≤ c .hi
       inv (number m) (a-number u h a b) = absurd (false≢true (cc))
       inv (words p x) (a-text u h a) = let z : x ≡ w = cc in rw z at a
 
       by : (b : Bool) → Decides (length w ≤ c .hi) b → Agrees G (field-step (pick b (F.Text (record { from = 1; to = length f - 1 })) (F.Refused 13))) (holds-law ∷ more)
-      by true (holds p) = miss (λ x. x (words O.Operator w, a-text t e p)) (next (words o w) (a-text t e p))
+      by true (holds p) = miss (λ x. x (words O.Operator w, a-text t e p)) (next (field-right {o = O.Operator} (a-text t e p)))
       by false (fails x) = hit (λ z. x (inv (z .0) (z .1)))
 
   field-agrees : Agrees G (field-step (Section.fieldOf c f)) (kind-law (c .text) f ∷ holds-law ∷ more)
@@ -143,35 +146,35 @@ module _ {G : Phase → Type 0} (q : Phase) (o : Owner) (c : Column) (f : Bytes)
   field-agrees = by (c .text) refl
     where
       by : (b : Bool) → c .text ≡ b →
-          Agrees G (field-step (pick b (Section.text-field (c .hi) f (Section.record-text f)) (Section.number-field (c .lo) (c .hi) (numberOf f)))) (kind-law b f ∷ holds-law ∷ more)
+          Agrees G (field-step (pick b (Section.text-field (c .hi) (Section.wordsOf f)) (Section.number-field (c .lo) (c .hi) (numberOf f)))) (kind-law b f ∷ holds-law ∷ more)
       by true e = text-agrees (Section.record-text f) e refl
       by false e = number-agrees (numberOf f) e refl
 
 -- "each field from the left"
-fields-agree : {G : Phase → Type 0} (q : Phase) (ms : List ℕ) (i : ℕ) (cs : List Named) (fs : List Bytes) (y : ℕ) (others : List Law) → length fs ≡ length cs →
-    ((vs : Record) → Values ms i cs fs vs → Agrees G (judged q y) others) → Agrees G (judged q (Section.first-of (Section.first-wrong cs fs) y)) (fields-laws cs fs ++ others)
+fields-agree : {G : Phase → Type 0} (q : Phase) (cs : List Named) (fs : List Bytes) (y : ℕ) (others : List Law) → length fs ≡ length cs →
+    (Section.first-wrong cs fs ≡ 0 → Agrees G (judged q y) others) → Agrees G (judged q (Section.first-of (Section.first-wrong cs fs) y)) (fields-laws cs fs ++ others)
 unfolding Section.first-wrong
-fields-agree q ms i [] [] y others e g = g [] no-field
-fields-agree q ms i [] (f ∷ fs) y others e g = absurd (let z : ⊥ = omega arith in z)
-fields-agree q ms i (c ∷ cs) [] y others e g = absurd (let z : ⊥ = omega arith in z)
-fields-agree q ms i (c ∷ cs) (f ∷ fs) y others e g =
+fields-agree q [] [] y others e g = g refl
+fields-agree q [] (f ∷ fs) y others e g = absurd (let z : ⊥ = omega arith in z)
+fields-agree q (c ∷ cs) [] y others e g = absurd (let z : ⊥ = omega arith in z)
+fields-agree q (c ∷ cs) (f ∷ fs) y others e g =
     rw (first-first (Section.field-number (Section.fieldOf (c .column) f)) (Section.first-wrong cs fs) y)
-    (field-agrees q (owner-by ms i) (c .column) f (Section.first-of (Section.first-wrong cs fs) y) (fields-laws cs fs ++ others)
-    (λ v h. fields-agree q ms (suc i) cs fs y others (omega arith) (λ vs x. g (v ∷ vs) (a-field h x))))
+    (field-agrees q (c .column) f (Section.first-of (Section.first-wrong cs fs) y) (fields-laws cs fs ++ others)
+    (λ h. fields-agree q cs fs y others (omega arith) (λ x. g (rw h x))))
 
 -- a law on the record that the fields hold
-of-record : {ms : List ℕ} {cs : List Named} {fs : List Bytes} {vs : Record} {P : Record → Type 0} {b : Bool} → Values ms 1 cs fs vs → Decides (P vs) b →
-    Decides ((us : Record) × Values ms 1 cs fs us × P us) b
+of-record : {t : ℕ} {o : Order} {ms : List ℕ} {fs : List Bytes} {vs : Record} {P : Record → Type 0} {b : Bool} → Reads t o ms fs vs → Decides (P vs) b →
+    Decides ((us : Record) × Reads t o ms fs us × P us) b
 of-record {vs} h (holds p) = holds (vs, h, p)
-of-record {vs} h (fails n) = fails (λ x. let z : x .0 ≡ vs = values-once (x .1) h in n (rw z at (x .2)))
+of-record {vs} h (fails n) = fails (λ x. let z : x .0 ≡ vs = reads-once (x .1) h in n (rw z at (x .2)))
 
 judged-goes : {G : Phase → Type 0} (q : Phase) → G q → Agrees G (judged q 0) []
 unfolding judged Section.choose
 judged-goes q g = goes g
 
-record-judged : (t m n : ℕ) (fs : List Bytes) → Section.rec-step t m n fs ≡ judged (P.Rows t 0 (suc n)) (Section.rec-verdict t m fs)
+record-judged : (t : ℕ) (o : Order) (m n : ℕ) (fs : List Bytes) → Section.rec-step t o m n fs ≡ judged (P.Rows t 0 (suc n)) (Section.rec-verdict t o m fs)
 unfolding Section.rec-step judged
-record-judged t m n fs = rw (add-one n)
+record-judged t o m n fs = rw (add-one n)
 
 none-d : (m : ℕ) → Decides (marks-of m ≡ []) (eqb m 0)
 none-d zero = holds refl
@@ -197,32 +200,48 @@ rules-agree q fs B (r ∷ rs) y others d g =
     unbroken n k x (inr m) = k x m
 
 module _ (latin : Bool) (l : Bytes) where
-  abbrev Broken : ℕ → ℕ → Rule → Type 0
-  Broken t m r = (vs : Record) × Values (marks-of m) 1 (standing t) (fields-of l) vs × Breaks vs r
+  -- a record of any order of the columns; led: where it leads
+  module _ (t : ℕ) (o : Order) (m n : ℕ) where
+    abbrev Having : (Record → Type 0) → Type 0
+    Having P = (vs : Record) × Reads t o (marks-of m) (fields-of l) vs × P vs
 
-  abbrev last-laws : ℕ → ℕ → List Law
-  last-laws t m =
-      rules-laws (Broken t m) (rules t) ++
-      (law 15 ((vs : Record) × Values (marks-of m) 1 (standing t) (fields-of l) vs × List·Memᴰ (words O.Suggestion []) vs) ∷ [])
+    abbrev Broken : Rule → Type 0
+    Broken r = Having (λ vs. Breaks vs r)
 
-  abbrev last-verdict : ℕ → ℕ → ℕ
-  last-verdict t m = Section.first-of (Section.first-broken (rules t) (fields-of l)) (pick (Section.empty-marked m (fields-of l)) 15 0)
+    abbrev empty-laws : List Law
+    empty-laws = law 15 (Having (λ vs. List·Memᴰ (words O.Suggestion []) vs)) ∷ []
 
-  last-agree : (t m n : ℕ) → Says latin Rec l → (vs : Record) → Values (marks-of m) 1 (standing t) (fields-of l) vs →
-      Agrees (Leads latin l (P.Rows t m n)) (judged (P.Rows t 0 (suc n)) (last-verdict t m)) (last-laws t m)
-  last-agree t m n s vs h =
-      rules-agree (P.Rows t 0 (suc n)) (fields-of l) (Broken t m) (rules t) (pick (Section.empty-marked m (fields-of l)) 15 0)
-      (law 15 ((vs : Record) × Values (marks-of m) 1 (standing t) (fields-of l) vs × List·Memᴰ (words O.Suggestion []) vs) ∷ [])
-      (λ r k. of-record h (rule-d t m h r k)) (λ a.
-      judged-must-not (P.Rows t 0 (suc n)) 0 refl (of-record h (empty-d m h)) (λ b.
-      judged-goes (P.Rows t 0 (suc n)) (record-line (record { says = s; fields = h; rules = λ r k x. a r k (vs, h, x); filled = λ x. b (vs, h, x) }))))
+    abbrev empty-verdict : ℕ
+    empty-verdict = pick (Section.empty-marked m (fields-of l)) 15 0
 
-  record-agrees : (t m n : ℕ) → Says latin Rec l → Agrees (Leads latin l (P.Rows t m n)) (Section.rec-step t m n (fields-of l)) (rec-laws t (marks-of m) (fields-of l))
-  unfolding Section.rec-verdict width standing
-  record-agrees t m n s =
-      rw (record-judged t m n (fields-of l))
-      (judged-must (P.Rows t 0 (suc n)) (Section.first-of (Section.first-wrong (standing t) (fields-of l)) (last-verdict t m)) refl (equal (length (fields-of l)) (length (standing t))) (λ e.
-      fields-agree (P.Rows t 0 (suc n)) (marks-of m) 1 (standing t) (fields-of l) (last-verdict t m) (last-laws t m) e (last-agree t m n s)))
+    abbrev last-laws : List Law
+    last-laws = rules-laws Broken (rules t) ++ empty-laws
+
+    abbrev last-verdict : ℕ
+    last-verdict = Section.first-of (Section.first-broken (rules t) (by-column o (fields-of l))) empty-verdict
+
+    last-agree : {G : Phase → Type 0} → arranged (width t) o ≡ true → Says latin Rec l → ((vs : Record) → RecLine latin t o (marks-of m) vs l → G (P.Rows t 0 (suc n))) →
+        (vs : Record) → Reads t o (marks-of m) (fields-of l) vs → Agrees G (judged (P.Rows t 0 (suc n)) last-verdict) last-laws
+    last-agree a s led vs h =
+        rules-agree (P.Rows t 0 (suc n)) (by-column o (fields-of l)) Broken (rules t) empty-verdict empty-laws
+        (λ r k. of-record h (reads-rule t o m h r k)) (λ b.
+        judged-must-not (P.Rows t 0 (suc n)) 0 refl (of-record h (reads-empty t o a m h)) (λ c.
+        judged-goes (P.Rows t 0 (suc n)) (led vs (record { says = s; fields = h; rules = λ r k x. b r k (vs, h, x); filled = λ x. c (vs, h, x) }))))
+
+    many-d : arranged (width t) o ≡ true → Decides (length (fields-of l) ≡ length o) (eqb (length (fields-of l)) (width t))
+    many-d a =
+        let n = arranged-long (width t) o a in
+        when (λ e. e ∙ sym n) (λ e. e ∙ n) (equal (length (fields-of l)) (width t))
+
+    record-agrees : {G : Phase → Type 0} → arranged (width t) o ≡ true → Says latin Rec l → ((vs : Record) → RecLine latin t o (marks-of m) vs l → G (P.Rows t 0 (suc n))) →
+        Agrees G (Section.rec-step t o m n (fields-of l)) (rec-laws t o (marks-of m) (fields-of l))
+    unfolding Section.rec-verdict
+    record-agrees a s led =
+        rw (record-judged t o m n (fields-of l))
+        (judged-must (P.Rows t 0 (suc n)) (Section.first-of (Section.first-wrong (standing t o) (fields-of l)) last-verdict) refl (many-d a) (λ e.
+        fields-agree (P.Rows t 0 (suc n)) (standing t o) (fields-of l) last-verdict last-laws (e ∙ sym (standing-length t o)) (λ w.
+        let x = right-reads t o a (marks-of m) (fields-of l) e w in
+        last-agree a s led (x .0) (x .1))))
 
   count-agrees : (t n : ℕ) (f : Bytes) (c : Number) → Says latin End l → fields-of l ≡ f ∷ [] → numberOf f ≡ c →
       Agrees (Leads latin l (P.Rows t 0 n)) (Section.count-step t n c)
@@ -261,7 +280,7 @@ module _ (latin : Bool) (l : Bytes) where
   mark-agrees P.Tbl (R.Mark i) s e = hit (λ x. x)
   mark-agrees (P.Atr t) (R.Mark i) s e = hit (λ x. x)
   mark-agrees (P.Frm t) (R.Mark i) s e = hit (λ x. x)
-  mark-agrees (P.Rows t m n) (R.Mark i) s e = must (rises-d t i m) (λ k. goes (mark (record { says = s; reads = e; may = k .0; rises = k .1 })))
+  mark-agrees (P.Rows t m n) (R.Mark i) s e = must (rises-d t (listed-order t) i m) (λ k. goes (mark (record { says = s; reads = e; may = k .0; rises = k .1 })))
   mark-agrees (P.Ended t n) (R.Mark i) s e = hit (λ x. x)
 
   module _ (ok : clean latin (content l) ≡ true) where
@@ -275,10 +294,10 @@ module _ (latin : Bool) (l : Bytes) where
     line-agrees (P.Atr t) =
         must (equal (command (content l)) Atr) (λ e. must (names-d (columns t) (fields-of l)) (λ h. goes (atr (record { says = says Atr e; names = h }))))
     line-agrees (P.Frm t) =
-        must (equal (command (content l)) Frm) (λ e. must (formats-d (standing t) (fields-of l)) (λ h. goes (frm (record { says = says Frm e; formats = h }))))
+        must (equal (command (content l)) Frm) (λ e. must (formats-d (standing t (listed-order t)) (fields-of l)) (λ h. goes (frm (record { says = says Frm e; formats = h }))))
     line-agrees (P.Rows t m n) =
         two (eqb (command (content l)) Rec) (eqb (command (content l)) End) (equal (command (content l)) Rec) (equal (command (content l)) End)
-        (λ e. record-agrees t m n (says Rec e)) (λ e. end-agrees t m n (fields-of l) (says End e) refl)
+        (λ e. record-agrees t (listed-order t) m n (listed-arranged t) (says Rec e) (λ vs. record-line)) (λ e. end-agrees t m n (fields-of l) (says End e) refl)
     line-agrees (P.Ended t n) = hit (λ x. x)
 
   -- every line, in every phase

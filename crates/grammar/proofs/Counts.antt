@@ -10,8 +10,9 @@ use lib.ListN.{length}
 use borrow.Author.Tests.{ne-eqb}
 use Rattle.page.specs.Bytes.{Bytes, pick}
 use Rattle.page.specs.Lines.{content, command, Tbl, Atr, Frm, Rec, End, Com, Missing}
+use Rattle.page.specs.Order.{Order, listed-order}
 use Rattle.page.specs.Section.{outcome, refused}
-use Rattle.page.specs.Records.{Record, Entry, waits, record-in, entries, table-of, entriesOf, recordsOf}
+use Rattle.page.specs.Records.{Record, Entry, waits, record-in, entries, table-of, order-in, entriesOf, recordsOf}
 use Rattle.page.specs.Grammar.{Quiet, empty, remark, Then, found, skip, Silence, over, still, Records, pause, a-mark, a-record, the-end, Denotes}
 use Rattle.page.specs.Refusals.{Refused}
 use Rattle.page.specs.Rules.{times}
@@ -25,20 +26,21 @@ map-length : (es : List Entry) → length (map (λ (e : Entry). e .values) es) �
 map-length [] = refl
 map-length (e ∷ es) = ap suc (map-length es)
 
--- one entry a `rec` line, whatever the table
-entries-length : (t m n : ℕ) (ls : List Bytes) → length (entries t m n ls) ≡ times Rec ls
+-- one entry a `rec` line, whatever the table and its order
+entries-length : (t : ℕ) (o : Order) (m n : ℕ) (ls : List Bytes) → length (entries t o m n ls) ≡ times Rec ls
 unfolding entries times
-entries-length t m n [] = refl
-entries-length t m n (l ∷ ls) = by (eqb (command (content l)) Rec) (entries-length t 0 (suc n) ls) (entries-length t (waits m (content l)) (suc n) ls)
+entries-length t o m n [] = refl
+entries-length t o m n (l ∷ ls) = by (eqb (command (content l)) Rec) (entries-length t o 0 (suc n) ls) (entries-length t o (waits m (content l)) (suc n) ls)
   where
-    by : (b : Bool) → length (entries t 0 (suc n) ls) ≡ times Rec ls → length (entries t (waits m (content l)) (suc n) ls) ≡ times Rec ls →
-        length (pick b (record { line = suc n; values = record-in t m (content l) } ∷ entries t 0 (suc n) ls) (entries t (waits m (content l)) (suc n) ls)) ≡ pick b 1 0 + times Rec ls
+    by : (b : Bool) → length (entries t o 0 (suc n) ls) ≡ times Rec ls → length (entries t o (waits m (content l)) (suc n) ls) ≡ times Rec ls →
+        length (pick b (record { line = suc n; values = record-in t o m (content l) } ∷ entries t o 0 (suc n) ls) (entries t o (waits m (content l)) (suc n) ls)) ≡ pick b 1 0 + times Rec ls
     by true p q = omega arith
     by false p q = omega arith
 
 -- a section denotes as many records as it has `rec` lines
 pub records-counted : (latin : Bool) (ls : List Bytes) (t : ℕ) (rs : List Record) → Denotes latin ls t rs → length rs ≡ times Rec ls
-records-counted latin ls t rs d = ap (λ (x : List Record). length x) (sym (entries-denoted ls t rs d)) ∙ map-length (entries t 0 0 ls) ∙ entries-length t 0 0 ls
+records-counted latin ls t rs d =
+    ap (λ (x : List Record). length x) (sym (entries-denoted ls t rs d)) ∙ map-length (entries t (listed-order t) 0 0 ls) ∙ entries-length t (listed-order t) 0 0 ls
 
 -- "a sound table's record count" is the number of its `rec` lines
 pub sound-count : (latin : Bool) (ls : List Bytes) → outcome latin ls .verdict ≡ 0 → outcome latin ls .records ≡ times Rec ls
@@ -52,8 +54,8 @@ unfolding recordsOf entriesOf
 count-handed latin ls = by (section-settled latin ls)
   where
     by : (outcome latin ls .verdict ≡ 0) ⊎ ((k : ℕ) × (v : ℕ) × (n : ℕ) × (outcome latin ls ≡ refused k v n) × Refused latin ls k v n) →
-        outcome latin ls .records ≡ length (map (λ (e : Entry). e .values) (pick (eqb (outcome latin ls .verdict) 0) (entries (table-of ls) 0 0 ls) []))
-    by (inl e) = sound-count latin ls e ∙ rw (e, map-length (entries (table-of ls) 0 0 ls), entries-length (table-of ls) 0 0 ls)
+        outcome latin ls .records ≡ length (map (λ (e : Entry). e .values) (pick (eqb (outcome latin ls .verdict) 0) (entries (table-of ls) (order-in ls) 0 0 ls) []))
+    by (inl e) = sound-count latin ls e ∙ rw (e, map-length (entries (table-of ls) (order-in ls) 0 0 ls), entries-length (table-of ls) (order-in ls) 0 0 ls)
     by (inr x) = let y = refuses-exactly latin ls (x .0) (x .1) (x .2) .1 (x .4) in rw (x .3, ne-eqb (x .1) 0 (y .1))
 
 -- a command is met at a line or not
@@ -70,7 +72,7 @@ unfolding times
 silence-no-end over = refl
 silence-no-end (still {l} {ls} h s) = quiet-no-end l ls h ∙ silence-no-end s
 
-records-end : {latin : Bool} {t n : ℕ} {ms : List ℕ} {ls : List Bytes} {rs : List Record} → Records latin t n ms ls rs → times End ls ≡ 1
+records-end : {latin : Bool} {t : ℕ} {o : Order} {n : ℕ} {ms : List ℕ} {ls : List Bytes} {rs : List Record} → Records latin t o n ms ls rs → times End ls ≡ 1
 records-end (pause {l} {ls} h x) = quiet-no-end l ls h ∙ records-end x
 records-end (a-mark {l} {ls} h x) = met End l ls Com (h .says .named) ∙ (let z = records-end x in omega arith)
 records-end (a-record {l} {ls} h x) = met End l ls Rec (h .says .named) ∙ (let z = records-end x in omega arith)

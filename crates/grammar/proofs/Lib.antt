@@ -1,4 +1,5 @@
 pub mod Values
+pub mod Arranged
 pub mod Agrees
 pub mod Steps
 pub mod Ranged

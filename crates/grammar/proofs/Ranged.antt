@@ -7,7 +7,8 @@ use Prim.Native.Nat.{ℕ}
 use lib.Dec.{eqb}
 use Rattle.page.specs.Bytes.{Bytes}
 use Rattle.page.specs.Lines.{content, blank, command, Rec, Com}
-use Rattle.page.specs.Tables.{Named, Rule, points-differ, rules, standing}
+use Rattle.page.specs.Tables.{Named, Rule, points-differ, rules}
+use Rattle.page.specs.Order.{listed-order, standing}
 use Rattle.page.specs.Grammar.{fields-of}
 use Rattle.page.specs.Refusals.{Law, law, FirstBroken, either-laws, kind-law, fields-laws, rules-laws, command-laws, laws, section-numbers, OneOf}
 use Rattle.page.specs.File.{any}
@@ -50,7 +51,7 @@ command-listed P.Tbl k fs = more refl (more refl none)
 command-listed (P.Atr t) k fs = more refl none
 command-listed (P.Frm t) k fs = more refl none
 command-listed (P.Rows t m n) k fs =
-    either-listed (eqb k Rec) (more refl (fields-listed (standing t) fs _ (rules-listed _ (rules t) _ (more refl none))))
+    either-listed (eqb k Rec) (more refl (fields-listed (standing t (listed-order t)) fs _ (rules-listed _ (rules t) _ (more refl none))))
     (more refl (more refl (more refl (more refl none))))
 command-listed (P.Ended t n) k fs = none
 

@@ -10,73 +10,80 @@ use lib.ListN.{length}
 use borrow.Author.Tests.{eqb-true}
 use Rattle.page.specs.Bytes.{Bytes}
 use Rattle.page.specs.Lines.{content, command, Tbl, Atr, Frm, Rec, End, Com, Missing}
-use Rattle.page.specs.Tables.{number-at, TABLES}
+use Rattle.page.specs.Tables.{number-at, width, TABLES}
+use Rattle.page.specs.Order.{Order, listed-order, arranged}
 use Rattle.page.specs.Cut.{begins-table}
 use Rattle.page.specs.Marks.{may-mark}
 use Rattle.page.specs.Section.{outcome}
-use Rattle.page.specs.Records.{Record, Entry, waits, record-in, entries, table-of, entriesOf, recordsOf}
+use Rattle.page.specs.Records.{Record, Entry, waits, record-in, entries, table-of, order-in, entriesOf, recordsOf}
 use Rattle.page.specs.Grammar.{Quiet, empty, remark, MarkLine, RecLine, Then, found, skip, Silence, over, still, Records, pause, a-mark, a-record, the-end, Denotes}
 use Rattle.page.specs.Refusals.{marks-of}
 use Rattle.page.specs.declared.Outcome.{Outcome}
 use Rattle.page.proofs.TableLaws.{name-tells, number-injective}
+use Rattle.page.proofs.OrderLaws.{listed-arranged}
 use Rattle.laws.specs.Begins.{begins}
 use Rattle.laws.proofs.Tests.{blank-missing}
-use Rattle.grammar.proofs.Values.{values-are}
+use Rattle.grammar.proofs.Arranged.{reads-are}
 use Rattle.grammar.proofs.Accepts.{only-mark, denotes-accepted, accepted-denotes}
 
 abbrev values-of : List Entry → List Record
 values-of es = map (λ (e : Entry). e .values) es
 
 -- a line of another command than `rec` hands out no record
-other-line : (t m n k : ℕ) (l : Bytes) (ls : List Bytes) → command (content l) ≡ k → eqb k Rec ≡ false → entries t m n (l ∷ ls) ≡ entries t (waits m (content l)) (suc n) ls
+other-line : (t : ℕ) (o : Order) (m n k : ℕ) (l : Bytes) (ls : List Bytes) → command (content l) ≡ k → eqb k Rec ≡ false →
+    entries t o m n (l ∷ ls) ≡ entries t o (waits m (content l)) (suc n) ls
 unfolding entries
-other-line t m n k l ls e h = rw (e, h)
+other-line t o m n k l ls e h = rw (e, h)
 
 no-mark : (m k : ℕ) (c : Bytes) → command c ≡ k → eqb k Com ≡ false → waits m c ≡ m
 unfolding waits
 no-mark m k c e h = rw (e, h)
 
 -- and one of another than `com` too leaves the mark that waits
-pub plain-line : (t m n k : ℕ) (l : Bytes) (ls : List Bytes) → command (content l) ≡ k → eqb k Rec ≡ false → eqb k Com ≡ false → entries t m n (l ∷ ls) ≡ entries t m (suc n) ls
-plain-line t m n k l ls e h g = other-line t m n k l ls e h ∙ ap (λ (z : ℕ). entries t z (suc n) ls) (no-mark m k (content l) e g)
+pub plain-line : (t : ℕ) (o : Order) (m n k : ℕ) (l : Bytes) (ls : List Bytes) → command (content l) ≡ k → eqb k Rec ≡ false → eqb k Com ≡ false →
+    entries t o m n (l ∷ ls) ≡ entries t o m (suc n) ls
+plain-line t o m n k l ls e h g = other-line t o m n k l ls e h ∙ ap (λ (z : ℕ). entries t o z (suc n) ls) (no-mark m k (content l) e g)
 
 -- a line that says nothing hands out no record and leaves the mark
-pub quiet-line : {latin : Bool} (t m n : ℕ) (l : Bytes) (ls : List Bytes) → Quiet latin l → entries t m n (l ∷ ls) ≡ entries t m (suc n) ls
+pub quiet-line : {latin : Bool} (t : ℕ) (o : Order) (m n : ℕ) (l : Bytes) (ls : List Bytes) → Quiet latin l → entries t o m n (l ∷ ls) ≡ entries t o m (suc n) ls
 unfolding waits
-quiet-line t m n l ls (empty ok b) = plain-line t m n Missing l ls (blank-missing (content l) b) refl refl
-quiet-line t m n l ls (remark s e) = other-line t m n Com l ls (s .named) refl ∙ rw (s .named, e)
+quiet-line t o m n l ls (empty ok b) = plain-line t o m n Missing l ls (blank-missing (content l) b) refl refl
+quiet-line t o m n l ls (remark s e) = other-line t o m n Com l ls (s .named) refl ∙ rw (s .named, e)
 
-silence-read : {latin : Bool} (t m n : ℕ) {ls : List Bytes} → Silence latin ls → values-of (entries t m n ls) ≡ []
+silence-read : {latin : Bool} (t : ℕ) (o : Order) (m n : ℕ) {ls : List Bytes} → Silence latin ls → values-of (entries t o m n ls) ≡ []
 unfolding entries
-silence-read t m n over = refl
-silence-read t m n (still {l} {ls} h s) = rw (quiet-line t m n l ls h) (silence-read t m (suc n) s)
+silence-read t o m n over = refl
+silence-read t o m n (still {l} {ls} h s) = rw (quiet-line t o m n l ls h) (silence-read t o m (suc n) s)
 
 module _ {latin : Bool} where
-  records-read : (t m n c : ℕ) {ms : List ℕ} {ls : List Bytes} {rs : List Record} → ms ≡ marks-of m → (m ≡ 0) ⊎ (may-mark t m ≡ true) → Records latin t c ms ls rs →
-      values-of (entries t m n ls) ≡ rs
+  records-read : (t : ℕ) (o : Order) → arranged (width t) o ≡ true → (m n c : ℕ) {ms : List ℕ} {ls : List Bytes} {rs : List Record} → ms ≡ marks-of m →
+      (m ≡ 0) ⊎ (may-mark t o m ≡ true) → Records latin t o c ms ls rs → values-of (entries t o m n ls) ≡ rs
   unfolding waits entries record-in
-  records-read t m n c q f (pause {l} {ls} h x) = rw (quiet-line t m n l ls h) (records-read t m (suc n) c q f x)
-  records-read t m n c q f (a-mark {i} {l} {ls} h x) =
-      let a : MarkLine latin t (marks-of m) i l = rw q at h in
-      rw (h .says .named, h .reads) (records-read t i (suc n) c (ap (λ (z : List ℕ). i ∷ z) q ∙ sym (only-mark t m i f (a .may) (a .rises))) (inr (h .may)) x)
-  records-read t m n c q f (a-record {vs} {l} {ls} h x) =
-      let a : RecLine latin t (marks-of m) vs l = rw q at h in
-      let d = values-are m (omega arith) (a .fields) in
-      let b = records-read t 0 (suc n) c refl (inl refl) x in
+  records-read t o a m n c q f (pause {l} {ls} h x) = rw (quiet-line t o m n l ls h) (records-read t o a m (suc n) c q f x)
+  records-read t o a m n c q f (a-mark {i} {l} {ls} h x) =
+      let k : MarkLine latin t o (marks-of m) i l = rw q at h in
+      rw (h .says .named, h .reads)
+      (records-read t o a i (suc n) c (ap (λ (z : List ℕ). i ∷ z) q ∙ sym (only-mark t o a m i f (k .may) (k .rises))) (inr (h .may)) x)
+  records-read t o a m n c q f (a-record {vs} {l} {ls} h x) =
+      let k : RecLine latin t o (marks-of m) vs l = rw q at h in
+      let d = reads-are t o m (k .fields) in
+      let b = records-read t o a 0 (suc n) c refl (inl refl) x in
       rw (h .says .named) (cc)
-  records-read t m n c q f (the-end {l} {ls} h s) = rw (plain-line t m n End l ls (h .says .named) refl refl) (silence-read t m (suc n) s)
+  records-read t o a m n c q f (the-end {l} {ls} h s) = rw (plain-line t o m n End l ls (h .says .named) refl refl) (silence-read t o m (suc n) s)
 
-  skipped-read : {P : Bytes → Type 0} {Q : List Bytes → Type 0} (t n : ℕ) (rs : List Record) {ls : List Bytes} →
-      ((l : Bytes) (m : ℕ) (ms : List Bytes) → P l → Q ms → values-of (entries t 0 m (l ∷ ms)) ≡ rs) → Then latin P Q ls → values-of (entries t 0 n ls) ≡ rs
-  skipped-read t n rs f (found {l} {ls} h x) = f l n ls h x
-  skipped-read t n rs f (skip {l} {ls} h x) = rw (quiet-line t 0 n l ls h) (skipped-read t (suc n) rs f x)
+  skipped-read : {P : Bytes → Type 0} {Q : List Bytes → Type 0} (t : ℕ) (o : Order) (n : ℕ) (rs : List Record) {ls : List Bytes} →
+      ((l : Bytes) (m : ℕ) (ms : List Bytes) → P l → Q ms → values-of (entries t o 0 m (l ∷ ms)) ≡ rs) → Then latin P Q ls → values-of (entries t o 0 n ls) ≡ rs
+  skipped-read t o n rs f (found {l} {ls} h x) = f l n ls h x
+  skipped-read t o n rs f (skip {l} {ls} h x) = rw (quiet-line t o 0 n l ls h) (skipped-read t o (suc n) rs f x)
 
   -- the entries of the lines are the records that they denote
-  pub entries-denoted : (ls : List Bytes) (t : ℕ) (rs : List Record) → Denotes latin ls t rs → values-of (entries t 0 0 ls) ≡ rs
+  pub entries-denoted : (ls : List Bytes) (t : ℕ) (rs : List Record) → Denotes latin ls t rs → values-of (entries t (listed-order t) 0 0 ls) ≡ rs
   entries-denoted ls t rs =
-      skipped-read t 0 rs (λ l a xs h x. rw (plain-line t 0 a Tbl l xs (h .says .named) refl refl)
-      (skipped-read t (suc a) rs (λ l b ys h x. rw (plain-line t 0 b Atr l ys (h .says .named) refl refl)
-      (skipped-read t (suc b) rs (λ l d zs h x. rw (plain-line t 0 d Frm l zs (h .says .named) refl refl) (records-read t 0 (suc d) (length rs) refl (inl refl) x)) x)) x))
+      let o = listed-order t in
+      skipped-read t o 0 rs (λ l a xs h x. rw (plain-line t o 0 a Tbl l xs (h .says .named) refl refl)
+      (skipped-read t o (suc a) rs (λ l b ys h x. rw (plain-line t o 0 b Atr l ys (h .says .named) refl refl)
+      (skipped-read t o (suc b) rs (λ l d zs h x. rw (plain-line t o 0 d Frm l zs (h .says .named) refl refl)
+      (records-read t o (listed-arranged t) 0 (suc d) (length rs) refl (inl refl) x)) x)) x))
 
   -- a table that is denoted is one of the list
   pub denoted-known : {ls : List Bytes} (t : ℕ) (rs : List Record) → Denotes latin ls t rs → t < TABLES
@@ -103,11 +110,11 @@ one-reading latin ls t u rs qs d e =
     let b = denotes-accepted latin ls u qs e in
     let n : number-at t ≡ number-at u = ap (λ (o : Outcome). o .table) (sym a ∙ b) in
     let z : t ≡ u = number-injective t u (denoted-known t rs d) (denoted-known u qs e) n in
-    (z, sym (entries-denoted ls t rs d) ∙ ap (λ (x : ℕ). values-of (entries x 0 0 ls)) z ∙ entries-denoted ls u qs e)
+    (z, sym (entries-denoted ls t rs d) ∙ ap (λ (x : ℕ). values-of (entries x (listed-order x) 0 0 ls)) z ∙ entries-denoted ls u qs e)
 
 -- a section's table and records, as they are handed out, are those that its lines denote
 pub denotes-read : (latin : Bool) (ls : List Bytes) (t : ℕ) (rs : List Record) → begins ls ≡ true → Denotes latin ls t rs → (table-of ls ≡ t) × (recordsOf latin ls ≡ rs)
-unfolding recordsOf entriesOf
+unfolding recordsOf entriesOf order-in
 denotes-read latin ls t rs b d =
     let z = table-denoted ls t rs b d in
     (z, rw (denotes-accepted latin ls t rs d, z) (entries-denoted ls t rs d))

@@ -1,32 +1,32 @@
 -- The machine's step goes on exactly where the grammar leads on, and stops exactly by the first broken law.
-use mathlib.Core.Path.{_≡_, refl}
+use mathlib.Core.Path.{_≡_, refl, _∙_}
 use mathlib.Core.Bool.{Bool, true, false}
-use mathlib.Core.List.{List}
 use mathlib.Core.Logic.{_↔_}
 use Prim.Native.Nat.{ℕ, _<_}
 use native.Mathlib.Omega.{arith}
 use native.Mathlib.Numerals.{add-one}
 use lib.Dec.{eqb}
 use lib.ListN.{length}
-use borrow.Author.Tests.{lt-ltb, lt-leb}
+use borrow.Author.Tests.{eq-eqb, lt-ltb, lt-leb}
 use Rattle.page.specs.Bytes.{Bytes}
 use Rattle.page.specs.Lines.{content, blank, command, rest, clean, Tbl, Atr, Frm, Rec, End, Com, Unknown, Missing}
 use Rattle.page.specs.Fields.{fields}
-use Rattle.page.specs.Tables.{Named, TABLES, columns, rules, standing, width}
+use Rattle.page.specs.Tables.{TABLES, columns, rules, width}
+use Rattle.page.specs.Order.{Order, listed-order, arranged, standing, by-column}
 use Rattle.page.specs.Marks.{remarkOf}
 use Rattle.page.specs.Section
-use Rattle.page.specs.Records.{Datum, Record}
-use Rattle.page.specs.Grammar.{fields-of, Says, empty, remark, Holds, a-number, a-text, Values, no-field, a-field}
-use Rattle.page.specs.Refusals.{FirstBroken, laws, Leads, quiet, tbl, atr, frm, mark, record-line, end}
-use Rattle.page.specs.declared.Column.{Column}
-use Rattle.page.specs.declared.Owner.{Owner}
+use Rattle.page.specs.Records.{Record}
+use Rattle.page.specs.Grammar.{fields-of, Says, empty, remark, RecLine}
+use Rattle.page.specs.Refusals.{marks-of, FirstBroken, laws, Leads, quiet, tbl, atr, frm, mark, record-line, end}
 use Rattle.page.specs.declared.Phase.{Phase}
 use Rattle.page.specs.declared.Phase.the-variants as P
 use Rattle.page.specs.declared.Step.the-variants as S
 use Rattle.page.proofs.TableLaws.{name-tells}
-use Rattle.laws.proofs.Decides.{tested, untested, both, equal, at-most}
+use Rattle.page.proofs.OrderLaws.{arranged-long, listed-arranged}
+use Rattle.laws.proofs.Decides.{tested, untested, equal}
 use Rattle.laws.proofs.Tests.{names-d, formats-d, rises-d, blank-missing}
-use Rattle.grammar.proofs.Values.{values-length, rule-d, rules-kept, empty-d}
+use Rattle.grammar.proofs.Values.{rules-kept}
+use Rattle.grammar.proofs.Arranged.{reads-rule, reads-right, reads-empty}
 use Rattle.grammar.proofs.Agrees.{step-agrees}
 
 -- a line with a command is not blank
@@ -43,34 +43,29 @@ known-step : {latin : Bool} {l : Bytes} (k : ℕ) → Says latin k l → k < Unk
 unfolding Section.step Section.content-step Section.choose
 known-step {latin} {l} k s h p = rw (s .clean, not-blank (content l) k (s .named) (omega arith), s .named, lt-leb Unknown k h)
 
-field-right : {o : Owner} {c : Column} {f : Bytes} {v : Datum} → Holds o c f v → Section.field-number (Section.fieldOf c f) ≡ 0
-unfolding Section.fieldOf Section.field-number Section.text-field Section.number-field
-field-right {c = c} (a-number {n} t e g h) = rw (t, e, tested (both (at-most (c .lo) n) (at-most n (c .hi))) (g, h))
-field-right {c = c} (a-text {t = w} t e h) = rw (t, e, tested (at-most (length w) (c .hi)) h)
-
-fields-right : {ms : List ℕ} {i : ℕ} {cs : List Named} {fs : List Bytes} {vs : Record} → Values ms i cs fs vs → Section.first-wrong cs fs ≡ 0
-unfolding Section.first-wrong
-fields-right no-field = refl
-fields-right (a-field h k) = rw (field-right h, fields-right k)
+-- a record of any order of the columns that the grammar has breaks nothing
+pub record-right : {latin : Bool} {l : Bytes} (t : ℕ) (o : Order) → arranged (width t) o ≡ true → (m : ℕ) {vs : Record} → RecLine latin t o (marks-of m) vs l →
+    Section.rec-verdict t o m (fields-of l) ≡ 0
+unfolding Section.rec-verdict
+record-right {l = l} t o a m {vs} h =
+    rw (
+      eq-eqb (length (fields-of l)) (width t) (h .fields .many ∙ arranged-long (width t) o a),
+      reads-right t o a (h .fields),
+      rules-kept (by-column o (fields-of l)) vs (rules t) (reads-rule t o m (h .fields)) (h .rules),
+      untested (reads-empty t o a m (h .fields)) (h .filled),
+    )
 
 -- where the grammar leads, the step goes
 pub leads-go : {latin : Bool} {l : Bytes} {p q : Phase} → Leads latin l p q → Section.step latin p l ≡ S.Go q
-unfolding Section.step Section.content-step Section.choose Section.com-step Section.mark-step Section.line-step Section.tbl-step Section.atr-step Section.frm-step Section.rec-step Section.rec-verdict Section.end-step Section.count-step width standing
+unfolding Section.step Section.content-step Section.choose Section.com-step Section.mark-step Section.line-step Section.tbl-step Section.atr-step Section.frm-step Section.rec-step Section.end-step Section.count-step
 leads-go (quiet (empty ok b)) = rw (ok, b)
 leads-go (quiet {p} (remark s e)) = rw (known-step Com s (omega arith) p, e)
 leads-go (tbl {t} h) = rw (known-step Tbl (h .says) (omega arith) P.Tbl, h .name, name-tells t (h .known), lt-ltb t TABLES (h .known))
 leads-go {l = l} (atr {t} h) = rw (known-step Atr (h .says) (omega arith) (P.Atr t), tested (names-d (columns t) (fields-of l)) (h .names))
-leads-go {l = l} (frm {t} h) = rw (known-step Frm (h .says) (omega arith) (P.Frm t), tested (formats-d (standing t) (fields-of l)) (h .formats))
-leads-go (mark {t} {m} {n} {i} h) = rw (known-step Com (h .says) (omega arith) (P.Rows t m n), h .reads, tested (rises-d t i m) (h .may, h .rises))
-leads-go {l = l} (record-line {t} {m} {n} {vs} h) =
-    rw (
-      known-step Rec (h .says) (omega arith) (P.Rows t m n),
-      tested (equal (length (fields-of l)) (length (standing t))) (values-length (h .fields)),
-      fields-right (h .fields),
-      rules-kept (fields-of l) vs (rules t) (rule-d t m (h .fields)) (h .rules),
-      untested (empty-d m (h .fields)) (h .filled),
-      add-one,
-    )
+leads-go {l = l} (frm {t} h) = rw (known-step Frm (h .says) (omega arith) (P.Frm t), tested (formats-d (standing t (listed-order t)) (fields-of l)) (h .formats))
+leads-go (mark {t} {m} {n} {i} h) = rw (known-step Com (h .says) (omega arith) (P.Rows t m n), h .reads, tested (rises-d t (listed-order t) i m) (h .may, h .rises))
+leads-go (record-line {t} {m} {n} h) =
+    rw (known-step Rec (h .says) (omega arith) (P.Rows t m n), record-right t (listed-order t) (listed-arranged t) m h, add-one)
 leads-go (end {t} {n} h) = rw (known-step End (h .says) (omega arith) (P.Rows t 0 n), h .alone, h .reads, tested (equal n n) refl)
 
 -- a line leads from one phase to another exactly if the grammar says so

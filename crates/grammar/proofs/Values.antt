@@ -11,18 +11,21 @@ use lib.ListN.{length, getD}
 use borrow.Author.Tests.{ne-eqb, le-leb, lt-leb}
 use Rattle.page.specs.Bytes.{Bytes, pick, all}
 use Rattle.page.specs.Fields.{textOf, bodyOf, numberOf, digit, digits, value}
-use Rattle.page.specs.Tables.{Named, Rule, points-differ, no-column, columns, rules, standing}
+use Rattle.page.specs.Tables.{Named, Rule, points-differ, no-column, columns, rules}
 use Rattle.page.specs.Marks.{owner-of}
-use Rattle.page.specs.Section.{record-text, amount-at, broken, first-broken, no-bytes, empty-marked}
+use Rattle.page.specs.Section.{wordsOf, record-text, text-field, number-field, fieldOf, field-number, first-wrong, amount-at, broken, first-broken, no-bytes, empty-marked}
 use Rattle.page.specs.Records.{Datum, number, words, Record, datumOf, valuesOf}
 use Rattle.page.specs.Grammar.{Holds, a-number, a-text, marked, owner-by, Values, no-field, a-field, Breaks, same-points}
 use Rattle.page.specs.Refusals.{marks-of}
 use Rattle.page.specs.declared.Column.{Column}
+use Rattle.page.specs.declared.Number.{Number}
 use Rattle.page.specs.declared.Number.the-variants as N
+use Rattle.page.specs.declared.Field.the-variants as F
 use Rattle.page.specs.declared.Owner.{Owner}
 use Rattle.page.specs.declared.Owner.the-variants as O
 use Rattle.page.proofs.TableLaws.{points-there}
-use Rattle.laws.proofs.Decides.{Decides, holds, fails, untested, when, both, one-of, equal, at-most}
+use Rattle.page.proofs.TextLaws.{record-text-is, worded-none, worded-some}
+use Rattle.laws.proofs.Decides.{Decides, holds, fails, tested, untested, when, both, one-of, equal, at-most}
 
 and-false : (b : Bool) → (b && false) ≡ false
 and-false true = refl
@@ -46,7 +49,7 @@ values-once no-field no-field = refl
 values-once (a-field h k) (a-field g l) = let a = holds-once h g in let b = values-once k l in cc
 
 -- the machine's one mark is the grammar's list of it
-owner-one : (m i : ℕ) → 1 ≤ i → owner-by (marks-of m) i ≡ owner-of m i
+pub owner-one : (m i : ℕ) → 1 ≤ i → owner-by (marks-of m) i ≡ owner-of m i
 unfolding owner-by owner-of marked
 owner-one zero i h = rw (ne-eqb 0 i (λ e. omega arith))
 owner-one (suc m) i h = by (eqb (suc m) i)
@@ -59,6 +62,58 @@ holds-datum : {o : Owner} {c : Column} {f : Bytes} {v : Datum} → Holds o c f v
 unfolding datumOf
 holds-datum (a-number t e g h) = rw (t, e)
 holds-datum (a-text t e g) = rw (t, e)
+
+-- the tests on a field pass exactly if it holds a value
+pub field-right : {o : Owner} {c : Column} {f : Bytes} {v : Datum} → Holds o c f v → field-number (fieldOf c f) ≡ 0
+unfolding fieldOf field-number text-field number-field
+field-right {c = c} (a-number {n} t e g h) = rw (t, e, tested (both (at-most (c .lo) n) (at-most n (c .hi))) (g, h))
+field-right {c = c} {f = f} (a-text {t = w} t e h) = rw (t, worded-some f w e, tested (at-most (length w) (c .hi)) h)
+
+right-field : (o : Owner) (c : Column) (f : Bytes) → field-number (fieldOf c f) ≡ 0 → (v : Datum) × Holds o c f v
+unfolding fieldOf field-number text-field number-field
+right-field o c f = by (c .text) refl
+  where
+    of-number : (n : Number) → c .text ≡ false → numberOf f ≡ n → field-number (number-field (c .lo) (c .hi) n) ≡ 0 → (v : Datum) × Holds o c f v
+    of-number (N.Plus n) t e z = within (leb (c .lo) n && leb n (c .hi)) (both (at-most (c .lo) n) (at-most n (c .hi))) z
+      where
+        within : (b : Bool) → Decides ((c .lo ≤ n) × (n ≤ c .hi)) b → field-number (pick b (F.Number n) (F.Refused 13)) ≡ 0 → (v : Datum) × Holds o c f v
+        within true (holds p) z = (number n, a-number t e (p .0) (p .1))
+        within false d z = absurd (let y : ⊥ = omega arith in y)
+    of-number (N.Minus n) t e z = absurd (let y : ⊥ = omega arith in y)
+    of-number N.Nothing t e z = absurd (let y : ⊥ = omega arith in y)
+
+    of-text : (x : Option Bytes) → c .text ≡ true → record-text f ≡ x → field-number (text-field (c .hi) (wordsOf f)) ≡ 0 → (v : Datum) × Holds o c f v
+    of-text none t e z = let y = rw (worded-none f e) at z in absurd (let y : ⊥ = omega arith in y)
+    of-text (some w) t e z = within (leb (length w) (c .hi)) (at-most (length w) (c .hi)) (rw (worded-some f w e) at z)
+      where
+        within : (b : Bool) → Decides (length w ≤ c .hi) b → field-number (pick b (F.Text (record { from = 1; to = length f - 1 })) (F.Refused 13)) ≡ 0 → (v : Datum) × Holds o c f v
+        within true (holds p) z = (words o w, a-text t e p)
+        within false d z = absurd (let y : ⊥ = omega arith in y)
+
+    by : (b : Bool) → c .text ≡ b → field-number (pick b (text-field (c .hi) (wordsOf f)) (number-field (c .lo) (c .hi) (numberOf f))) ≡ 0 → (v : Datum) × Holds o c f v
+    by true t z = of-text (record-text f) t refl z
+    by false t z = of-number (numberOf f) t refl z
+
+-- and those on a record's fields
+pub values-right : {ms : List ℕ} {i : ℕ} {cs : List Named} {fs : List Bytes} {vs : Record} → Values ms i cs fs vs → first-wrong cs fs ≡ 0
+unfolding first-wrong
+values-right no-field = refl
+values-right (a-field h k) = rw (field-right h, values-right k)
+
+pub right-values : (ms : List ℕ) (i : ℕ) (cs : List Named) (fs : List Bytes) → length fs ≡ length cs → first-wrong cs fs ≡ 0 → (vs : Record) × Values ms i cs fs vs
+unfolding first-wrong
+right-values ms i [] [] l e = ([], no-field)
+right-values ms i [] (f ∷ fs) l e = absurd (let z : ⊥ = omega arith in z)
+right-values ms i (c ∷ cs) [] l e = absurd (let z : ⊥ = omega arith in z)
+right-values ms i (c ∷ cs) (f ∷ fs) l e = by (right-values ms (suc i) cs fs (omega arith)) (eqb (field-number (fieldOf (c .column) f)) 0) (equal (field-number (fieldOf (c .column) f)) 0) e
+  where
+    by : (first-wrong cs fs ≡ 0 → (vs : Record) × Values ms (suc i) cs fs vs) → (b : Bool) → Decides (field-number (fieldOf (c .column) f) ≡ 0) b →
+        pick b (first-wrong cs fs) (field-number (fieldOf (c .column) f)) ≡ 0 → (vs : Record) × Values ms i (c ∷ cs) (f ∷ fs) vs
+    by ih true (holds z) e =
+        let x = right-field (owner-by ms i) (c .column) f z in
+        let y = ih e in
+        (x .0 ∷ y .0, a-field (x .1) (y .1))
+    by ih false (fails n) e = absurd (n e)
 
 -- the grammar's values are those handed out
 pub values-are : (m : ℕ) {i : ℕ} {cs : List Named} {fs : List Bytes} {vs : Record} → 1 ≤ i → Values (marks-of m) i cs fs vs → vs ≡ valuesOf m i cs fs
@@ -93,10 +148,9 @@ module _ (t : ℕ) (fs : List Bytes) (vs : Record) (at : (k : ℕ) → getD (col
           getD vs (p + 3) (number 0) ≡ number (amount-at fs (p + 3)) → Breaks vs (points-differ p) → (amount-at fs p ≡ amount-at fs (p + 2)) × (amount-at fs (p + 1) ≡ amount-at fs (p + 3))
       back a b c d (same-points x y) = ((cc), (cc))
 
-pub rule-d : (t m : ℕ) {fs : List Bytes} {vs : Record} → Values (marks-of m) 1 (standing t) fs vs → (r : Rule) → List·Memᴰ r (rules t) → Decides (Breaks vs r) (broken r fs)
-unfolding standing
+pub rule-d : (t m : ℕ) {fs : List Bytes} {vs : Record} → Values (marks-of m) 1 (columns t) fs vs → (r : Rule) → List·Memᴰ r (rules t) → Decides (Breaks vs r) (broken r fs)
 rule-d t m {fs} {vs} h =
-    rule-decided t fs vs (λ k e. ap (λ (x : Record). getD x k (number 0)) (values-are m (omega arith) h) ∙ number-at-field m 1 (standing t) fs k (values-length h) e)
+    rule-decided t fs vs (λ k e. ap (λ (x : Record). getD x k (number 0)) (values-are m (omega arith) h) ∙ number-at-field m 1 (columns t) fs k (values-length h) e)
 
 -- values that break no rule of a list have no number of one
 pub rules-kept : (fs : List Bytes) (vs : Record) (rs : List Rule) → ((r : Rule) → List·Memᴰ r rs → Decides (Breaks vs r) (broken r fs)) →
@@ -116,9 +170,9 @@ quoted-no-number f = by (leb 1 (suc (length f)) && leb (suc (length f)) 18)
     by false = refl
 
 number-no-text : (f : Bytes) (n : ℕ) → numberOf f ≡ N.Plus n → no-bytes (record-text f) ≡ false
-unfolding record-text textOf
-number-no-text [] n e = refl
-number-no-text (b ∷ f) n e = by (eqb b 34) (equal b 34)
+unfolding textOf
+number-no-text [] n e = rw (record-text-is [])
+number-no-text (b ∷ f) n e = rw (record-text-is (b ∷ f)) (by (eqb b 34) (equal b 34))
   where
     by : (d : Bool) → Decides (b ≡ 34) d → no-bytes (pick d (bodyOf false f) none) ≡ false
     by true (holds q) = let z : numberOf (34 ∷ f) ≡ N.Plus n = rw q at e in let y = quoted-no-number f in absurd (false≢true (cc))
@@ -164,8 +218,8 @@ further m i f fs = by (eqb m i) (equal m i) (leb (suc i) m) (at-most (suc i) m)
 
 empty-from : (m i : ℕ) {cs : List Named} {fs : List Bytes} {vs : Record} → 1 ≤ i → Values (marks-of m) i cs fs vs →
     Decides (List·Memᴰ (words O.Suggestion []) vs) (leb i m && no-bytes (record-text (getD fs (m - i) [])))
-unfolding record-text textOf
-empty-from m i l no-field = rw and-false (fails List·Memᴰ·not-nil)
+unfolding textOf
+empty-from m i l no-field = rw (record-text-is [], and-false) (fails List·Memᴰ·not-nil)
 empty-from m i l (a-field {f} {fs} h k) =
     rw (further m i f fs) at
     (when (λ s. elim s [ inl e ↦ List·Memᴰ·head e | inr x ↦ List·Memᴰ·tail x ]) (λ x. List·Memᴰ·cases-cons x) (one-of (here-d m i l h) (empty-from m (suc i) (omega arith) k)))

@@ -11,9 +11,10 @@ use lines::Cursor;
 use scans::Find;
 use scans::bears_key;
 use scans::find_start;
+use tables::Choice;
 
 // Among some lines from the one at a place on, and round again.
-pub fn finds_near(w: &[u8], at: usize, steps: usize, choice: u64, key: Key) -> Find
+pub fn finds_near(w: &[u8], at: usize, steps: usize, choice: Choice, key: Key) -> Find
     ensures { λ r. ⌜ (r .met ≡ true → any (bears choice (key .k)) (lines (now (w .entry))) ≡ true) ⌝ }
 {
     let mut left = steps;
@@ -43,7 +44,7 @@ fn place_of(x: u32) -> usize {
 }
 
 // Among the guesses for a hash.
-pub fn finds_guessed(w: &[u8], g: &[u32], h: u64, choice: u64, key: Key) -> Find
+pub fn finds_guessed(w: &[u8], g: &[u32], h: u64, choice: Choice, key: Key) -> Find
     ensures { λ r. ⌜ (r .met ≡ true → any (bears choice (key .k)) (lines (now (w .entry))) ≡ true) ⌝ }
 {
     let bits = find_bits(h);

@@ -1,13 +1,15 @@
 // A hash of the numbers that a line has in the fields of a choice, in one walk over its bytes. It is for guesses: nothing is checked, and
-// a line that is no record has one too. Records whose numbers are equal have the same, however they are written.
+// a line that is no record has one too. Records whose numbers are equal have the same, however they are written and in whatever order.
 ghost use mathlib.Core.Path.{_≡_};
 ghost use mathlib.Core.Bool.{true};
 ghost use Prim.Native.Nat.{_<_, _≤_};
 use lines::Cursor;
+use tables::Choice;
 
 // What is left of the choice, the hash of the fields before, and the field's number as far as it was read.
 struct Walk {
     rest: u64,
+    slots: u64,
     hash: u64,
     value: u64,
     inside: bool,
@@ -34,10 +36,11 @@ fn is_digit(d: u64) -> bool
     d < 58
 }
 
-// With the field that was read, if it is chosen.
+// With the field that was read, if it is chosen. Each number is mixed with its place in the key, not with those before it: so records whose
+// fields stand in another order have the same hash.
 fn close_field(x: Walk) -> u64 {
     if x.rest % 4 == 1 {
-        return keys::mix(x.hash ^ x.value);
+        return x.hash ^ keys::mix(x.value ^ x.slots % 8 * 536870909);
     }
     x.hash
 }
@@ -51,6 +54,7 @@ fn close_line(x: Walk) -> u64 {
 fn keep_value(x: Walk, value: u64) -> Walk {
     Walk {
         rest: x.rest,
+        slots: x.slots,
         hash: x.hash,
         value: value,
         inside: x.inside,
@@ -97,6 +101,7 @@ fn read_byte(x: Walk, b: u8) -> Walk {
     if b == 34 {
         return Walk {
             rest: x.rest,
+            slots: x.slots,
             hash: x.hash,
             value: x.value,
             inside: !x.inside,
@@ -110,6 +115,7 @@ fn read_byte(x: Walk, b: u8) -> Walk {
     }
     Walk {
         rest: x.rest / 4,
+        slots: x.slots / 8,
         hash: close_field(x),
         value: 0,
         inside: false,
@@ -117,9 +123,10 @@ fn read_byte(x: Walk, b: u8) -> Walk {
 }
 
 // The command is a field that is not chosen. Behind the last chosen field the line is only passed over.
-pub fn hash_line(w: &[u8], at: usize, choice: u64) -> Hashed {
+pub fn hash_line(w: &[u8], at: usize, choice: Choice) -> Hashed {
     let mut x = Walk {
-        rest: choice % 4611686018427387904 * 4,
+        rest: choice.kinds % 4611686018427387904 * 4,
+        slots: choice.slots % 2305843009213693952 * 8,
         hash: 0,
         value: 0,
         inside: false,

@@ -2,30 +2,31 @@
 use mathlib.Core.Path.{_≡_, refl, ap, sym, _∙_}
 use mathlib.Core.Bool.{Bool, true, false, not, _||_}
 use mathlib.Core.List.{[]}
-use mathlib.Core.Option.{some}
+use mathlib.Core.Option.{Option, none, some}
 use Prim.Native.Nat.{ℕ, _+_, _-_, _<_, _≤_}
 use native.Mathlib.Omega.{arith}
 use borrow.Author.Tests.{eqb-true, eqb-false, ne-eqb}
 use lib.Dec.{eqb}
 use lib.ListN.{length, getD, take, drop}
-use Rattle.page.specs.Bytes.{Bytes, pick, part}
-use Rattle.page.specs.Fields.{fields}
+use Rattle.page.specs.Bytes.{Bytes, pick, part, moved}
+use Rattle.page.specs.Fields.{fields, textOf}
 use Rattle.page.specs.Tables.{column-at, width}
+use Rattle.page.specs.Order.{arranged}
 use Rattle.page.specs.Cut.{Section, sections}
 use Rattle.page.specs.Head.{latinOf}
-use Rattle.page.specs.Section.{record-text, rec-verdict, outcome}
-use Rattle.page.specs.Records.{table-of}
+use Rattle.page.specs.Section.{Wording, worded, wordsOf, record-text, fieldOf, field-number, rec-verdict, outcome}
+use Rattle.page.specs.Records.{table-of, order-in}
 use Rattle.page.specs.Places.{Standing, field-span}
 use Rattle.page.specs.Answers.{refusal, earlier, refuse-if, got, written, handed}
 use Rattle.page.specs.Writing.{put-refusal, putOf, put-after}
 use Rattle.page.specs.File.{limit, header-refusal, row-of, rowOf}
-use Rattle.page.specs.Reading.{no-section, outside, section-at, row-at, find-refusal, verdict-of, value-refusal, words-in, value-in, record-of, value-at}
-use Rattle.page.specs.Handing.{text-refusal, own-text, text-owner, copied, textOut, text-after}
+use Rattle.page.specs.Reading.{no-section, outside, section-at, row-at, find-refusal, verdict-of, value-refusal, later-field, field-at, valued, value-in, record-of, value-at}
+use Rattle.page.specs.Handing.{text-refusal, place-of, own-text, text-owner, copied, textOut, text-after}
 use Rattle.page.specs.declared.Refusal.{Refusal}
-use Rattle.page.specs.declared.Span.{Span}
+use Rattle.page.specs.declared.Column.{Column}
+use Rattle.page.specs.declared.Field.{Field}
 use Rattle.page.specs.declared.Row.{Row}
 use Rattle.page.specs.declared.Value.{Value}
-use Rattle.page.specs.declared.Value.the-variants as Va
 use Rattle.page.specs.declared.Got.the-variants as G
 use Rattle.page.specs.declared.Written.the-variants as W
 use Rattle.page.specs.declared.Owner.{Owner}
@@ -34,17 +35,17 @@ use Rattle.page.specs.declared.Handed.the-variants as Ha
 use Rattle.page.proofs.LimitLaws.{header-short}
 use Rattle.page.proofs.ScanLaws.{part-length, part-moved}
 use Rattle.page.proofs.FieldLaws.{field-span-in, field-span-part}
-use Rattle.page.proofs.TextLaws.{text-long}
+use Rattle.page.proofs.OrderLaws.{listed-arranged}
 use Rattle.page.proofs.CutLaws.{Stands, section-stands, section-within, section-bytes}
 use Rattle.laws.specs.Begins.{begins}
 use Rattle.laws.proofs.Sections.{sections-begin}
-use Rattle.machine.proofs.SoundLaws.{passed-width}
+use Rattle.values.proofs.ReadLaws.{Read, a-text, a-number, no-value, read-of, wording-in}
 use Rattle.values.proofs.ValueLaws.{inside}
 use Rattle.output.specs.Raw.{undoubled}
 use Rattle.frames.proofs.LineLaws.{own-is}
 use Rattle.output.proofs.WriteLaws.{refused}
-use Rattle.handing.specs.Own.{Lies, Spans, owned, own-of, Gave}
-use Rattle.handing.proofs.PassLaws.{Closed, closed, passed-closed, section-passed, every-at}
+use Rattle.handing.specs.Own.{Lies, Spans, owned, Gave}
+use Rattle.handing.proofs.PassLaws.{passed-there, passed-right, section-passed, every-at}
 use Rattle.handing.proofs.StandLaws.{Lain, record-lain}
 use Rattle.page.proofs.TestLaws.{neither}
 use Rattle.laws.proofs.Earlier.{earlier-none}
@@ -116,60 +117,53 @@ sound-of s i f v =
       verdict = v;
     }
 
-two-less : (k n : ℕ) → n ≡ k → k - 1 - 1 ≡ n - 2
-two-less k n e = omega arith
+-- the text of a field is what stands there with its doubled quotes undone
+wording-own : (f : Bytes) (y : Wording) → wordsOf f ≡ some y → undoubled false (part (y .span) f) ≡ y .own
+unfolding wordsOf
+wording-own f y e = by (textOf f) refl e
+  where
+    by : (o : Option Bytes) → textOf f ≡ o → worded f o ≡ some y → undoubled false (part (y .span) f) ≡ y .own
+    by none q z = absurd (let x : _≡_ {A = ℕ} 0 1 = cc in omega arith)
+    by (some u) q z =
+        let x : record { own = u; span = record { from = 1; to = length f - 1 } } ≡ y = cc in
+        let n : length f - 1 - 1 ≡ length f - 2 = omega arith in
+        rw (sym x, n) (own-is f u q)
 
-one-in : (a b k : ℕ) → a + k ≡ b → 2 ≤ k → a + (k - 1) - (a + 1) ≡ b - 1 - (a + 1)
-one-in a b k e h = omega arith
-
--- a record's text: its bytes between the quotes, of what lies in the file
-module _ (s : Bytes) (x : Standing) (f : ℕ) (u : Bytes) (l : Lain s x) (short : length s ≤ limit) (h : f - 1 < length (fields (x .rest)))
-    (e : record-text (getD (fields (x .rest)) (f - 1) []) ≡ some u) where
+-- a record's text, of what lies in the file
+module _ (s : Bytes) (x : Standing) (p : ℕ) (y : Wording) (l : Lain s x) (short : length s ≤ limit) (h : p < length (fields (x .rest)))
+    (e : wordsOf (getD (fields (x .rest)) p []) ≡ some y) where
   abbrev w : Bytes
   w = x .rest
 
-  abbrev sp : Span
-  sp = field-span w (f - 1)
+  abbrev k : ℕ
+  k = field-span w p .from
 
-  sized : (2 ≤ sp .to - sp .from) × (sp .from ≤ sp .to) × (sp .to ≤ length w)
-  unfolding record-text
-  sized =
-      let a = field-span-in w (f - 1) h in
-      let n = part-length (sp .from) (sp .to) w (a .1) in
-      let b = text-long (getD (fields w) (f - 1) []) u e in
-      (omega (arith, ap length (field-span-part w (f - 1) h)), a .0, a .1)
-
-  pub words-lie : Lies s (words-in x f .from) (words-in x f .to)
-  unfolding words-in
-  words-lie = let a = sized in record { order = omega arith; within = omega (arith, l .within); short = short }
-
-  inner : part (record { from = sp .from + 1; to = sp .to - 1 }) w ≡ take (length (getD (fields w) (f - 1) []) - 2) (drop 1 (getD (fields w) (f - 1) []))
+  -- where it stands in the record's fields
+  inner : (y .span .from ≤ y .span .to) × (k + y .span .to ≤ field-span w p .to) × (field-span w p .to ≤ length w)
   inner =
-      let a = sized in
-      let k = sp .to - sp .from in
-      let b = field-span-part w (f - 1) h in
-      let n = part-length (sp .from) (sp .to) w (a .2) in
-      let d : take (k - 1 - 1) (drop 1 (take k (drop (sp .from) w))) ≡ take (sp .from + (k - 1) - (sp .from + 1)) (drop (sp .from + 1) w) =
-      part-moved (record { from = 1; to = k - 1 }) (sp .from) k w (omega arith) (omega arith) in
-      let y : sp .from + (k - 1) - (sp .from + 1) ≡ sp .to - 1 - (sp .from + 1) = one-in (sp .from) (sp .to) k (omega arith) (a .0) in
-      let z : k - 1 - 1 ≡ length (take k (drop (sp .from) w)) - 2 = two-less k (length (take k (drop (sp .from) w))) n in
-      rw (sym b, sym z, sym y) (sym d)
+      let a = field-span-in w p h in
+      let n = part-length k (field-span w p .to) w (a .1) in
+      let b = wording-in (getD (fields w) p []) y e in
+      (b .0, omega (arith, ap length (field-span-part w p h)), a .1)
 
-  pub words-own : undoubled false (take (words-in x f .to - words-in x f .from) (drop (words-in x f .from) s)) ≡ u
-  unfolding words-in record-text
+  words-lie : Lies s (x .at + (k + y .span .from)) (x .at + (k + y .span .to))
+  words-lie = let a = inner in record { order = omega arith; within = omega (arith, l .within); short = short }
+
+  words-own : undoubled false (part (moved (x .at) (moved k (y .span))) s) ≡ y .own
   words-own =
-      let a = sized in
-      let g : part (record { from = sp .from + 1; to = sp .to - 1 }) (take (length w) (drop (x .at) s))
-      ≡ take (x .at + (sp .to - 1) - (x .at + (sp .from + 1))) (drop (x .at + (sp .from + 1)) s) =
-      part-moved (record { from = sp .from + 1; to = sp .to - 1 }) (x .at) (length w) s (omega arith) (omega arith) in
-      ap (undoubled false) (sym g ∙ ap (λ (y : Bytes). part (record { from = sp .from + 1; to = sp .to - 1 }) y) (l .is) ∙ inner)
-      ∙ own-is (getD (fields w) (f - 1) []) u e
+      let a = inner in
+      let n : y .span .to ≤ field-span w p .to - k = omega arith in
+      let b : part (y .span) (take (field-span w p .to - k) (drop k w)) ≡ part (moved k (y .span)) w = part-moved (y .span) k (field-span w p .to - k) w (a .0) n in
+      let g : part (moved k (y .span)) (take (length w) (drop (x .at) s)) ≡ part (moved (x .at) (moved k (y .span))) s =
+      part-moved (moved k (y .span)) (x .at) (length w) s (omega arith) (omega arith) in
+      ap (undoubled false) (sym g ∙ ap (part (moved k (y .span))) (l .is) ∙ sym b ∙ ap (part (y .span)) (field-span-part w p h))
+      ∙ wording-own (getD (fields w) p []) y e
 
 -- a record and a field that are there
 pub record There (s : Bytes) (i r f : ℕ) : Type 0 where
   pub short : length s ≤ limit
   pub lain : Lain s (record-of (section-at s i) r)
-  pub passed : rec-verdict (table-of (section-at s i .lines)) (record-of (section-at s i) r .mark) (fields (record-of (section-at s i) r .rest)) ≡ 0
+  pub passed : rec-verdict (table-of (section-at s i .lines)) (order-in (section-at s i .lines)) (record-of (section-at s i) r .mark) (fields (record-of (section-at s i) r .rest)) ≡ 0
   pub field : f - 1 < width (table-of (section-at s i .lines))
 
 section-lain : (s : Bytes) (x : Section) (r : ℕ) → Stands s x → Lain s (record-of x r)
@@ -203,47 +197,61 @@ module _ (s : Bytes) (i r f : ℕ) (found : value-refusal s i r f .number ≡ 0)
   abbrev st : Standing
   st = record-of (section-at s i) r
 
-  has-field : There s i r f → f - 1 < length (fields (st .rest))
-  has-field h = let n = passed-width t (st .mark) (fields (st .rest)) (h .passed) in omega (arith, h .field)
+  abbrev p : ℕ
+  p = place-of s i f
 
-  refusal-is : text-refusal s i r f ≡ refuse-if (not (column-at t (f - 1) .text)) 11
+  abbrev c : Column
+  c = column-at t (f - 1)
+
+  -- what is handed out where the field at its place is read so
+  abbrev handed-as : Field → Value
+  handed-as g = valued (text-owner s i r f) (later-field (st .at) (later-field (field-span (st .rest) p .from) g))
+
+  arranged-here : arranged (width t) (order-in (section-at s i .lines)) ≡ true
+  unfolding order-in
+  arranged-here = listed-arranged t
+
+  has-field : There s i r f → p < length (fields (st .rest))
+  unfolding place-of
+  has-field h = passed-there t (order-in (section-at s i .lines)) (st .mark) (fields (st .rest)) arranged-here (h .passed) (f - 1) (h .field)
+
+  field-right : There s i r f → field-number (fieldOf c (getD (fields (st .rest)) p [])) ≡ 0
+  unfolding place-of
+  field-right h = passed-right t (order-in (section-at s i .lines)) (st .mark) (fields (st .rest)) arranged-here (h .passed) (f - 1) (h .field)
+
+  refusal-is : text-refusal s i r f ≡ refuse-if (not (c .text)) 11
   unfolding text-refusal earlier
   refusal-is = rw found
 
-  text-closed : There s i r f → column-at t (f - 1) .text ≡ true → Closed (getD (fields (st .rest)) (f - 1) [])
-  text-closed h q = passed-closed t (st .mark) (fields (st .rest)) (f - 1) (h .passed) (h .field) q
+  spans-by : There s i r f → {g : Field} → Read c (getD (fields (st .rest)) p []) g → Spans s (handed-as g)
+  spans-by h (a-text y q e) = words-lie s st p y (h .lain) (h .short) (has-field h) e
+  spans-by h (a-number n q) = tt
+  spans-by h (no-value v n) = tt
 
-  spans-by : There s i r f → (b : Bool) → column-at t (f - 1) .text ≡ b → (a : ℕ) → Spans s (pick b (Va.Words (words-in st f)) (Va.Number a))
-  spans-by h true q a = go (text-closed h q)
-    where
-      go : Closed (getD (fields (st .rest)) (f - 1) []) → Lies s (words-in st f .from) (words-in st f .to)
-      go (closed u e) = words-lie s st f u (h .lain) (h .short) (has-field h) e
-  spans-by h false q a = tt
+  gave-by : There s i r f → {g : Field} → Read c (getD (fields (st .rest)) p []) g → field-number g ≡ 0 → (l m : Bytes) (w : Handed)
+      → Gave s (handed-as g) l m w → (w ≡ textOut s i r f (length l)) × (m ≡ text-after s i r f l)
+  unfolding textOut text-after own-text record-text refuse-if field-number
+  gave-by h (a-text y q e) z l m w x =
+      let u : own-text s i r f ≡ y .own = rw e in
+      let v = words-own s st p y (h .lain) (h .short) (has-field h) e in
+      (rw (refusal-is, q, u) (rw v at (x .answer)), rw (refusal-is, q, u) (rw v at (x .left)))
+  gave-by h (a-number n q) z l m w x =
+      let y = refused-text (text-owner s i r f) (refusal 11 0 0) (own-text s i r f) l (λ (e : _≡_ {A = ℕ} 11 0). omega arith) in
+      (rw (refusal-is, q) (x .answer ∙ y .0), rw (refusal-is, q) (x .left ∙ y .1))
+  gave-by h (no-value v n) z l m w x = absurd (n z)
 
-  gave-by : There s i r f → (b : Bool) → column-at t (f - 1) .text ≡ b → (a : ℕ) (l m : Bytes) (w : Handed)
-      → Gave s (pick b (Va.Words (words-in st f)) (Va.Number a)) l m w → (w ≡ textOut s i r f (length l)) × (m ≡ text-after s i r f l)
-  unfolding textOut text-after own-text text-owner refuse-if
-  gave-by h true q a l m w x = go (text-closed h q)
-    where
-      go : Closed (getD (fields (st .rest)) (f - 1) []) →
-          (w ≡ handed (put-refusal (text-refusal s i r f) (own-text s i r f) (length l)) (copied (own-text s i r f) (text-owner s i r f)))
-          × (m ≡ put-after (text-refusal s i r f) (own-text s i r f) l)
-      go (closed u e) =
-          let y : own-text s i r f ≡ u = rw e in
-          let z : own-of s (words-in st f) ≡ u = words-own s st f u (h .lain) (h .short) (has-field h) e in
-          (rw (refusal-is, q, y) (rw z at (x .answer)), rw (refusal-is, q, y) (rw z at (x .left)))
-  gave-by h false q a l m w x =
-      let z = refused-text (text-owner s i r f) (refusal 11 0 0) (own-text s i r f) l (λ (e : _≡_ {A = ℕ} 11 0). omega arith) in
-      (rw (refusal-is, q) (x .answer ∙ z .0), rw (refusal-is, q) (x .left ∙ z .1))
+  value-is : value-at (section-at s i) r f ≡ handed-as (fieldOf c (getD (fields (st .rest)) p []))
+  unfolding value-at value-in field-at text-owner place-of
+  value-is = refl
 
   pub value-spans : (v : Value) → v ≡ value-at (section-at s i) r f → Spans s v
-  unfolding value-at value-in
-  value-spans v e = rw e (spans-by (there-of s i r f found) (column-at t (f - 1) .text) refl _)
+  value-spans v e = rw (e ∙ value-is) (spans-by (there-of s i r f found) (read-of c _))
 
   pub value-gave : (v : Value) → v ≡ value-at (section-at s i) r f → (l m : Bytes) (w : Handed) → Gave s v l m w
       → (w ≡ textOut s i r f (length l)) × (m ≡ text-after s i r f l)
-  unfolding value-at value-in
-  value-gave v e l m w x = gave-by (there-of s i r f found) (column-at t (f - 1) .text) refl _ l m w (rw e at x)
+  value-gave v e l m w x =
+      let h = there-of s i r f found in
+      gave-by h (read-of c _) (field-right h) l m w (rw (e ∙ value-is) at x)
 
 -- a value that is not there
 pub text-refused : (s : Bytes) (i r f : ℕ) (x : Refusal) → (x .number ≡ 0 → ⊥) → x ≡ value-refusal s i r f → (l : Bytes)

@@ -1,4 +1,4 @@
--- A record's fields from the left, against the columns of its table. Assumes nothing.
+-- A record's fields from the left, against the columns of its table as they stand. Assumes nothing.
 use mathlib.Core.Path.{_≡_, refl, ap, sym, _∙_}
 use mathlib.Core.Bool.{Bool, true, false, _&&_}
 use mathlib.Core.List.{List, [], _∷_, List·Memᴰ, List·Memᴰ·head, List·Memᴰ·tail}
@@ -11,53 +11,50 @@ use lib.Seq.{drop-cons, getD-set-same, getD-set-other}
 use borrow.Author.Tests.{eq-eqb, ne-eqb, eqb-true, eqb-false, ltb-true}
 use Rattle.page.specs.Bytes.{Bytes, pick}
 use Rattle.page.specs.Fields.{fields, numberOf}
-use Rattle.page.specs.Tables.{Named, Rule, points-differ, WIDEST, no-column, standing, column-at, width, rules}
+use Rattle.page.specs.Tables.{Named, Rule, points-differ, WIDEST, no-column, column-at, width, rules}
+use Rattle.page.specs.Order.{Order, standing, place, by-column}
 use Rattle.page.specs.Section.{number-field, fieldOf, field-number, first-of, first-wrong, amount, amount-at, broken, first-broken}
 use Rattle.page.specs.declared.Column.{Column}
 use Rattle.page.specs.declared.Number.{Number}
 use Rattle.page.specs.declared.Number.the-variants as N
+use Rattle.page.specs.Reading.{later-field}
+use Rattle.page.specs.declared.Field.{Field}
 use Rattle.page.specs.declared.Field.the-variants as F
 use Rattle.page.proofs.TestLaws.{false-true}
-use Rattle.page.proofs.TableLaws.{width-le, standing-width, standing-column, points-there}
-use Rattle.tables.specs.Choices.{rules-of}
+use Rattle.page.proofs.OrderLaws.{place-in, place-at, by-column-at}
+use Rattle.page.proofs.TableLaws.{width-le, points-there}
 use Rattle.page.proofs.FieldLaws.{from, from-end}
-use Rattle.judging.specs.Judging.{number-of, Numbers, Judged, breaks, broken-by}
+use Rattle.tables.specs.Choices.{rules-of}
+use Rattle.tables.specs.Orders.{held, Stands}
+use Rattle.tables.proofs.OrderLaws.{held-length, held-at, held-standing, held-column}
+use Rattle.judging.specs.Judging.{number-of, Numbers, Amounts, Judged, breaks, broken-by}
 
--- "each field from the left": no field is left, no column is left, or one of each
+-- a field's number and value are the same wherever it stands
 
-no-fields : (cs : List Named) → first-wrong cs [] ≡ 0
-unfolding first-wrong
-no-fields [] = refl
-no-fields (c ∷ cs) = refl
+later-refusal : (k : ℕ) (f : Field) → field-number (later-field k f) ≡ field-number f
+unfolding field-number
+later-refusal k (F.Text sp) = refl
+later-refusal k (F.Number n) = refl
+later-refusal k (F.Refused v) = refl
 
-pub wrong-none : (t k : ℕ) (fs : List Bytes) → fs ≡ [] → first-wrong (drop k (standing t)) fs ≡ 0
-wrong-none t k fs e = rw e (no-fields (drop k (standing t)))
-
-pub wrong-done : (t k : ℕ) (fs : List Bytes) → width t ≤ k → first-wrong (drop k (standing t)) fs ≡ 0
-unfolding first-wrong
-wrong-done t k fs h =
-    let n : length (standing t) ≤ k = omega (arith, standing-width t) in
-    rw (drop-of-length-le (standing t) n)
-
-module _ (t k : ℕ) (h : k < width t) (f : Bytes) (r fs : List Bytes) (e : fs ≡ f ∷ r) (v : ℕ) (q : v ≡ field-number (fieldOf (column-at t k) f)) where
-  wrong-step : first-wrong (drop k (standing t)) fs ≡ first-of v (first-wrong (drop (k + 1) (standing t)) r)
-  unfolding first-wrong
-  wrong-step =
-      let n : k < length (standing t) = omega (arith, standing-width t) in
-      rw (add-one, e, drop-cons (standing t) k no-column n, standing-column t k, sym q)
-
-  pub wrong-hit : (v ≡ 0 → ⊥) → first-wrong (drop k (standing t)) fs ≡ v
-  wrong-hit n = wrong-step ∙ rw (ne-eqb v 0 n)
-
-  pub wrong-more : v ≡ 0 → first-wrong (drop k (standing t)) fs ≡ first-wrong (drop (k + 1) (standing t)) r
-  wrong-more n = wrong-step ∙ rw (eq-eqb v 0 n)
+later-value : (k : ℕ) (f : Field) → number-of (later-field k f) ≡ number-of f
+unfolding number-of
+later-value k (F.Text sp) = refl
+later-value k (F.Number n) = refl
+later-value k (F.Refused v) = refl
 
 -- a field's reading asks its column for kind and bounds alone
-pub column-read : (c d : Column) (f : Bytes) → d .text ≡ c .text → d .lo ≡ c .lo → d .hi ≡ c .hi → fieldOf d f ≡ fieldOf c f
-unfolding fieldOf
-column-read c d f a b e = rw (a, b, e)
+module _ (c d : Column) (f : Bytes) (a : d .text ≡ c .text) (b : d .lo ≡ c .lo) (e : d .hi ≡ c .hi) (k : ℕ) (r : Field)
+    (q : r ≡ later-field k (fieldOf d f)) where
+  pub column-read : r ≡ later-field k (fieldOf c f)
+  unfolding fieldOf
+  column-read = q ∙ rw (a, b, e)
 
--- the numbers of a record, as a walk keeps them
+  pub refusal-read : field-number r ≡ field-number (fieldOf c f)
+  refusal-read = ap field-number column-read ∙ later-refusal k (fieldOf c f)
+
+  pub value-read : number-of r ≡ number-of (fieldOf c f)
+  value-read = ap number-of column-read ∙ later-value k (fieldOf c f)
 
 number-known : (c : Column) (f : Bytes) → field-number (fieldOf c f) ≡ 0 → c .text ≡ false → number-of (fieldOf c f) ≡ amount (numberOf f)
 unfolding fieldOf number-field field-number number-of
@@ -72,23 +69,9 @@ number-known c f z e = rw e (by (numberOf f) (rw e at z))
     by (N.Minus n) q = absurd (omega arith)
     by N.Nothing q = absurd (omega arith)
 
-module _ (t : ℕ) (fs : List Bytes) (k : ℕ) (ns : List ℕ) where
-  pub numbers-more : (f : Bytes) → k < length ns → Numbers t fs k ns → getD fs k [] ≡ f → field-number (fieldOf (column-at t k) f) ≡ 0
-      → Numbers t fs (k + 1) (set ns k (number-of (fieldOf (column-at t k) f)))
-  unfolding amount-at
-  numbers-more f h m g z i l e = by (eqb i k) refl
-    where
-      by : (b : Bool) → eqb i k ≡ b → getD (set ns k (number-of (fieldOf (column-at t k) f))) i 0 ≡ amount (numberOf (getD fs i []))
-      by true q =
-          let x : i ≡ k = eqb-true i k q in
-          rw (x, getD-set-same ns k _ 0 h, g) (number-known (column-at t k) f z (rw x at e))
-      by false q =
-          let x : i ≡ k → ⊥ = eqb-false i k q in
-          rw (getD-set-other ns k i _ 0 x) (m i (omega arith) e)
-
 -- the rules, asked of the numbers
 
-rule-known : (t : ℕ) (fs : List Bytes) (ns : List ℕ) → Numbers t fs (width t) ns → (r : Rule) → List·Memᴰ r (rules t) → breaks r ns ≡ broken r fs
+rule-known : (t : ℕ) (fs : List Bytes) (ns : List ℕ) → Amounts t fs ns → (r : Rule) → List·Memᴰ r (rules t) → breaks r ns ≡ broken r fs
 unfolding breaks broken column-at width
 rule-known t fs ns m (points-differ p) h =
     let x = points-there t p h in
@@ -106,7 +89,7 @@ rules-same fs ns [] h = refl
 rules-same fs ns (r ∷ rs) h =
     rw (h r (List·Memᴰ·head refl), rules-same fs ns rs (λ x m. h x (List·Memᴰ·tail m)))
 
-pub rules-known : (t : ℕ) (fs : List Bytes) (ns : List ℕ) → Numbers t fs (width t) ns → broken-by (rules t) ns ≡ first-broken (rules t) fs
+pub rules-known : (t : ℕ) (fs : List Bytes) (ns : List ℕ) → Amounts t fs ns → broken-by (rules t) ns ≡ first-broken (rules t) fs
 rules-known t fs ns m = rules-same fs ns (rules t) (rule-known t fs ns m)
 
 -- the rules of a table by the column where its two points begin
@@ -145,29 +128,101 @@ module _ (t p : ℕ) (e : rules-of p ≡ rules t) where
       pub points-same : getD ns p 0 ≡ getD ns (p + 2) 0 → getD ns (p + 1) 0 ≡ getD ns (p + 3) 0 → 14 ≡ broken-by (rules t) ns
       points-same a b = sym (points-told ∙ rw (eq-eqb (getD ns p 0) (getD ns (p + 2) 0) a, eq-eqb (getD ns (p + 1) 0) (getD ns (p + 3) 0) b))
 
--- a walk over a record's fields that has passed k of them: no field is left, or no column
+-- "each field from the left": no field is left, no column is left, or one of each
 
-module _ (t : ℕ) (w : Bytes) (k at : ℕ) (a : first-wrong (drop k (standing t)) (from w at) ≡ first-wrong (standing t) (fields w))
-    (d : drop k (fields w) ≡ from w at) (l : k ≤ length (fields w)) (ns : List ℕ) where
-  passed : length w < at → length (fields w) ≡ k
-  passed h = omega (arith, ap length (d ∙ from-end w at h), length-drop k (fields w))
+no-fields : (cs : List Named) → first-wrong cs [] ≡ 0
+unfolding first-wrong
+no-fields [] = refl
+no-fields (c ∷ cs) = refl
 
-  pub judged-few : k < width t → length w < at → Judged t (fields w) 0 false ns
-  judged-few g h =
-      record {
-        first = sym (sym a ∙ wrong-none t k (from w at) (from-end w at h));
-        ends = λ (e : false ≡ true). false-true e;
-        numbers = λ (z : _≡_ {A = ℕ} 0 0) (q : length (fields w) ≡ width t). absurd (omega (arith, passed h));
-      }
+-- the columns of a table as the array a says that they stand
 
-  pub judged-all : width t ≡ k → Numbers t (fields w) k ns → Judged t (fields w) 0 (ltb (length w) at) ns
-  judged-all g m =
-      record {
-        first = sym (sym a ∙ wrong-done t k (from w at) (omega arith));
-        ends = λ (e : ltb (length w) at ≡ true). passed (ltb-true (length w) at e) ∙ sym g;
-        numbers = λ (z : _≡_ {A = ℕ} 0 0) (q : length (fields w) ≡ width t). rw g m;
-      }
+module _ (t : ℕ) (a : List ℕ) (x : Stands t a) where
+  abbrev o : Order
+  o = held t a
 
-pub judged-wrong : (t : ℕ) (fs : List Bytes) (v : ℕ) (ns : List ℕ) → (v ≡ 0 → ⊥) → v ≡ first-wrong (standing t) fs → Judged t fs v false ns
-judged-wrong t fs v ns n e =
+  long : length o ≡ width t
+  long = held-length t a (x .orderly)
+
+  wrong-none : (k : ℕ) (fs : List Bytes) → fs ≡ [] → first-wrong (drop k (standing t o)) fs ≡ 0
+  wrong-none k fs e = rw e (no-fields (drop k (standing t o)))
+
+  wrong-done : (k : ℕ) (fs : List Bytes) → width t ≤ k → first-wrong (drop k (standing t o)) fs ≡ 0
+  unfolding first-wrong
+  wrong-done k fs h =
+      let n : length (standing t o) ≤ k = omega (arith, held-standing t a (x .orderly)) in
+      rw (drop-of-length-le (standing t o) n)
+
+  module _ (k : ℕ) (h : k < width t) (f : Bytes) (r fs : List Bytes) (e : fs ≡ f ∷ r) (v : ℕ)
+      (q : v ≡ field-number (fieldOf (column-at t (getD a k 0)) f)) where
+    wrong-step : first-wrong (drop k (standing t o)) fs ≡ first-of v (first-wrong (drop (k + 1) (standing t o)) r)
+    unfolding first-wrong
+    wrong-step =
+        let n : k < length (standing t o) = omega (arith, held-standing t a (x .orderly)) in
+        rw (add-one, e, drop-cons (standing t o) k no-column n, held-column t a k (x .orderly) h, sym q)
+
+    pub wrong-hit : (v ≡ 0 → ⊥) → first-wrong (drop k (standing t o)) fs ≡ v
+    wrong-hit n = wrong-step ∙ rw (ne-eqb v 0 n)
+
+    pub wrong-more : v ≡ 0 → first-wrong (drop k (standing t o)) fs ≡ first-wrong (drop (k + 1) (standing t o)) r
+    wrong-more n = wrong-step ∙ rw (eq-eqb v 0 n)
+
+  -- two places have two columns
+  same-place : (p q : ℕ) → p < width t → q < width t → getD a p 0 ≡ getD a q 0 → p ≡ q
+  same-place p q h k e = sym (at p h) ∙ ap (λ (c : ℕ). place c o) e ∙ at q k
+    where
+      at : (y : ℕ) → y < width t → place (getD a y 0) o ≡ y
+      at y l = ap (λ (c : ℕ). place c o) (sym (held-at t a y l)) ∙ place-at (width t) o (x .arranged) y (omega (arith, long))
+
+  -- a value is kept at its column
+  pub numbers-more : (fs : List Bytes) (k : ℕ) (ns : List ℕ) (f : Bytes) (v : ℕ) → k < width t → length ns ≡ WIDEST → Numbers t a fs k ns
+      → getD fs k [] ≡ f → field-number (fieldOf (column-at t (getD a k 0)) f) ≡ 0 → v ≡ number-of (fieldOf (column-at t (getD a k 0)) f)
+      → Numbers t a fs (k + 1) (set ns (getD a k 0) v)
+  unfolding amount-at
+  numbers-more fs k ns f v h l m g z q p i e = by (eqb p k) refl
+    where
+      by : (b : Bool) → eqb p k ≡ b → getD (set ns (getD a k 0) v) (getD a p 0) 0 ≡ amount (numberOf (getD fs p []))
+      by true d =
+          let y : p ≡ k = eqb-true p k d in
+          let n : getD a k 0 < length ns = omega (arith, x .orderly .small k) in
+          rw (y, getD-set-same ns (getD a k 0) v 0 n, g) (q ∙ number-known (column-at t (getD a k 0)) f z (rw y at e))
+      by false d =
+          let y : p ≡ k → ⊥ = eqb-false p k d in
+          let n : getD a p 0 ≡ getD a k 0 → ⊥ = λ j. y (same-place p k (omega arith) h j) in
+          rw (getD-set-other ns (getD a k 0) (getD a p 0) v 0 n) (m p (omega arith) e)
+
+  by-columns : (fs : List Bytes) (ns : List ℕ) → Numbers t a fs (width t) ns → Amounts t (by-column o fs) ns
+  unfolding amount-at
+  by-columns fs ns m c h e =
+      let l = place-in (width t) o (x .arranged) c h in
+      let i : place c o < width t = omega (arith, l .0, long) in
+      let d : getD a (place c o) 0 ≡ c = sym (held-at t a (place c o) i) ∙ l .1 in
+      let v = m (place c o) i (rw d e) in
+      rw (by-column-at o fs c (omega (arith, long))) (rw d at v)
+
+  -- a walk over a record's fields that has passed k of them: no field is left, or no column
+
+  module _ (w : Bytes) (k at : ℕ) (i : first-wrong (drop k (standing t o)) (from w at) ≡ first-wrong (standing t o) (fields w))
+      (d : drop k (fields w) ≡ from w at) (l : k ≤ length (fields w)) (ns : List ℕ) where
+    passed : length w < at → length (fields w) ≡ k
+    passed h = omega (arith, ap length (d ∙ from-end w at h), length-drop k (fields w))
+
+    pub judged-few : k < width t → length w < at → Judged t o (fields w) 0 false ns
+    judged-few g h =
+        record {
+          first = sym (sym i ∙ wrong-none k (from w at) (from-end w at h));
+          ends = λ (e : false ≡ true). false-true e;
+          numbers = λ (z : _≡_ {A = ℕ} 0 0) (q : length (fields w) ≡ width t). absurd (omega (arith, passed h));
+        }
+
+    pub judged-all : width t ≡ k → Numbers t a (fields w) k ns → Judged t o (fields w) 0 (ltb (length w) at) ns
+    judged-all g m =
+        record {
+          first = sym (sym i ∙ wrong-done k (from w at) (omega arith));
+          ends = λ (e : ltb (length w) at ≡ true). passed (ltb-true (length w) at e) ∙ sym g;
+          numbers = λ (z : _≡_ {A = ℕ} 0 0) (q : length (fields w) ≡ width t). by-columns (fields w) ns (rw g m);
+        }
+
+pub judged-wrong : (t : ℕ) (o : Order) (fs : List Bytes) (v : ℕ) (ns : List ℕ) → (v ≡ 0 → ⊥) → v ≡ first-wrong (standing t o) fs → Judged t o fs v false ns
+judged-wrong t o fs v ns n e =
     record { first = e; ends = λ (x : false ≡ true). false-true x; numbers = λ (z : v ≡ 0) (q : length fs ≡ width t). absurd (n z) }

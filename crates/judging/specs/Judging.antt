@@ -6,7 +6,8 @@ use Prim.Native.Nat.{ℕ, _+_, _<_}
 use lib.Dec.{eqb}
 use lib.ListN.{length, getD}
 use Rattle.page.specs.Bytes.{Bytes, pick}
-use Rattle.page.specs.Tables.{Rule, points-differ, rule-number, width, column-at, standing}
+use Rattle.page.specs.Tables.{Rule, points-differ, rule-number, width, column-at}
+use Rattle.page.specs.Order.{Order, standing, by-column}
 use Rattle.page.specs.Section.{first-wrong, amount-at}
 use Rattle.page.specs.declared.Field.{Field}
 use Rattle.page.specs.declared.Field.the-variants as F
@@ -17,15 +18,19 @@ number-of (F.Text sp) = 0
 number-of (F.Number n) = n
 number-of (F.Refused v) = 0
 
--- the values of the number columns among the first k
-abbrev pub Numbers : ℕ → List Bytes → ℕ → List ℕ → Type 0
-Numbers t fs k ns = (i : ℕ) → i < k → column-at t i .text ≡ false → getD ns i 0 ≡ amount-at fs i
+-- the values of the number columns that stand at the first k places of the array a, by column
+abbrev pub Numbers : ℕ → List ℕ → List Bytes → ℕ → List ℕ → Type 0
+Numbers t a fs k ns = (p : ℕ) → p < k → column-at t (getD a p 0) .text ≡ false → getD ns (getD a p 0) 0 ≡ amount-at fs p
+
+-- those of all number columns, from the fields by column
+abbrev pub Amounts : ℕ → List Bytes → List ℕ → Type 0
+Amounts t fs ns = (c : ℕ) → c < width t → column-at t c .text ≡ false → getD ns c 0 ≡ amount-at fs c
 
 -- the first wrong field's number, whether the fields are known to be as many as the columns, and the numbers
-pub record Judged (t : ℕ) (fs : List Bytes) (wrong : ℕ) (whole : Bool) (ns : List ℕ) : Type 0 where
-  pub first : wrong ≡ first-wrong (standing t) fs
+pub record Judged (t : ℕ) (o : Order) (fs : List Bytes) (wrong : ℕ) (whole : Bool) (ns : List ℕ) : Type 0 where
+  pub first : wrong ≡ first-wrong (standing t o) fs
   pub ends : whole ≡ true → length fs ≡ width t
-  pub numbers : wrong ≡ 0 → length fs ≡ width t → Numbers t fs (width t) ns
+  pub numbers : wrong ≡ 0 → length fs ≡ width t → Amounts t (by-column o fs) ns
 
 -- whether a record with these numbers breaks a rule, and the number of the first that it breaks
 unfoldable pub breaks : Rule → List ℕ → Bool

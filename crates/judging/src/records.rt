@@ -5,7 +5,8 @@ ghost use lib.Dec.{eqb};
 ghost use lib.ListN.{length};
 ghost use Rattle.page.specs.Fields.{fields};
 ghost use Rattle.page.specs.Tables.{width, rules};
-ghost use Rattle.page.specs.Section.{field-number, amount-at, empty-marked, rec-verdict};
+ghost use Rattle.page.specs.Section.{field-number, empty-marked, rec-verdict};
+ghost use Rattle.tables.specs.Orders.{held, Stands};
 ghost use Rattle.judging.specs.Judging.{number-of, Judged, broken-by};
 use page::Column;
 use page::Field;
@@ -17,7 +18,7 @@ use tables::find_points;
 use tables::find_width;
 
 // What one walk over a record's fields finds: the number of the first wrong one (0: none), whether they are known to be as many as the
-// columns, and the values of the number columns.
+// columns, and the values of the number columns, by column.
 struct Judgement {
     wrong: u32,
     whole: bool,
@@ -46,9 +47,10 @@ fn number_of(f: Field) -> u64
     }
 }
 
-// "each field from the left (11 or 12, then 13)": of a column this asks for kind and bounds alone.
-fn judge_fields(w: &[u8], t: usize) -> Judgement
-    ensures { λ r. ⌜ Judged t (fields (now (w .entry))) (r .wrong) (r .whole) (r .numbers) ⌝ }
+// "each field from the left (11 or 12, then 13)", as the columns stand: of a column this asks for kind and bounds alone.
+fn judge_fields(w: &[u8], t: usize, o: &[u8; WIDEST]) -> Judgement
+    requires { ⌜ Stands t (now o) ⌝ }
+    ensures { λ r. ⌜ Judged t (held t (now (o .entry))) (fields (now (w .entry))) (r .wrong) (r .whole) (r .numbers) ⌝ }
 {
     let n = find_width(t);
     let kinds = find_kinds(t);
@@ -65,10 +67,11 @@ fn judge_fields(w: &[u8], t: usize) -> Judgement
                 numbers: ns,
             };
         }
+        let c = o[k] as usize;
         let column = Column {
-            text: kinds[k],
-            lo: lows[k],
-            hi: highs[k],
+            text: kinds[c],
+            lo: lows[c],
+            hi: highs[c],
             size: 0,
             primary: false,
             second: false,
@@ -85,7 +88,7 @@ fn judge_fields(w: &[u8], t: usize) -> Judgement
                 numbers: ns,
             };
         }
-        ns[k] = number_of(f);
+        ns[c] = number_of(f);
         at = e + 1;
         k += 1;
     }
@@ -107,13 +110,7 @@ fn has_width(w: &[u8], t: usize, whole: bool) -> bool
     commands::count_fields(w) == find_width(t)
 }
 
-pub fn amount_at(w: &[u8], k: usize) -> u64
-    ensures { λ r. ⌜ r ≡ amount-at (fields (now (w .entry))) k ⌝ }
-{
-    fields::amount_of(commands::field_at(w, k))
-}
-
-// The number of the first rule of its table that a record breaks, 0 if none: "In 225 and 247 the two points, type and number together,
+// The number of the first rule of its table that a record with these numbers, by column, breaks, 0 if none: "In 225 and 247 the two points, type and number together,
 // differ."
 fn judge_rules(ns: [u64; WIDEST], t: usize) -> u32
     ensures { λ r. ⌜ r ≡ broken-by (rules t) ns ⌝ }
@@ -142,10 +139,11 @@ pub fn marks_empty(w: &[u8], m: u64) -> bool
 }
 
 // "`rec` 10, each field from the left, 14, 15 for a marked empty text"
-pub fn judge_record(w: &[u8], t: usize, m: u64) -> u32
-    ensures { λ r. ⌜ r ≡ rec-verdict t m (fields (now (w .entry))) ⌝ }
+pub fn judge_record(w: &[u8], t: usize, o: &[u8; WIDEST], m: u64) -> u32
+    requires { ⌜ Stands t (now o) ⌝ }
+    ensures { λ r. ⌜ r ≡ rec-verdict t (held t (now (o .entry))) m (fields (now (w .entry))) ⌝ }
 {
-    let j = judge_fields(w, t);
+    let j = judge_fields(w, t, o);
     let v = j.wrong;
     let whole = j.whole;
     let ns = j.numbers;

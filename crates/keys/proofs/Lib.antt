@@ -1,6 +1,7 @@
 pub mod PackLaws
-pub mod ChoiceLaws
+pub mod GatherLaws
 pub mod SameLaws
 pub mod SoundLaws
+pub mod WordLaws
 pub mod StoreLaws
 pub mod OrderLaws

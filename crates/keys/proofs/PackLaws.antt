@@ -99,17 +99,21 @@ number-tells t u e f q = by (leb (length u) (length t)) refl
 
 -- two texts of at most seven bytes are the same exactly if their numbers are
 
-short-packed : (t : Bytes) → length t ≤ 7 → all byte t ≡ true → packed t ≡ text-number 1 t
+short-packed : (t : Bytes) → length t ≤ 7 → all byte t ≡ true → packed t + 1 ≡ text-number 1 t
 unfolding packed
 short-packed t h e =
     let p : 256 ^ length t ≤ 256 ^ 7 = pow-le-pow-right (lit< tt) h in
-    packed-plain t 1 e (omega arith)
+    let q = packed-plain t 1 e (omega arith) in
+    let o : 1 ≤ 256 ^ length t = pow-le-pow-right (lit< tt) zero-le in
+    omega (arith, number-ge t 1)
 
 pub packed-same : (t u : Bytes) → length t ≤ 7 → length u ≤ 7 → all byte t ≡ true → all byte u ≡ true → eqb (packed t) (packed u) ≡ same t u
-packed-same t u h k e f = rw (short-packed t h e, short-packed u k f) (both-ways (eqb (text-number 1 t) (text-number 1 u)) (same t u) there back)
+packed-same t u h k e f = both-ways (eqb (packed t) (packed u)) (same t u) there back
   where
-    there : eqb (text-number 1 t) (text-number 1 u) ≡ true → same t u ≡ true
-    there q = rw (number-tells t u e f (eqb-true (text-number 1 t) (text-number 1 u) q)) (same-refl u)
+    there : eqb (packed t) (packed u) ≡ true → same t u ≡ true
+    there q =
+        let n = eqb-true (packed t) (packed u) q in
+        rw (number-tells t u e f (sym (short-packed t h e) ∙ ap (λ (n : ℕ). n + 1) n ∙ short-packed u k f)) (same-refl u)
 
-    back : same t u ≡ true → eqb (text-number 1 t) (text-number 1 u) ≡ true
-    back q = eq-eqb (text-number 1 t) (text-number 1 u) (ap (text-number 1) (same-true t u q))
+    back : same t u ≡ true → eqb (packed t) (packed u) ≡ true
+    back q = eq-eqb (packed t) (packed u) (ap packed (same-true t u q))

@@ -1,26 +1,29 @@
--- What a sound section's verdict tells: its table, and that each value fits its column. Assumes nothing.
-use mathlib.Core.Path.{_≡_, refl, ap, _∙_}
+-- What a sound section's verdict tells: its table, that each column stands once, and that each value fits its column. Assumes nothing.
+use mathlib.Core.Path.{_≡_, refl, ap, sym, _∙_}
 use mathlib.Core.Bool.{Bool, true, false, false≢true, _&&_, _||_}
 use mathlib.Core.List.{List, [], _∷_, map}
 use mathlib.Core.Option.{Option, none, some}
 use Prim.Native.Nat.{ℕ, zero, suc, _+_, _-_, _<_, _≤_}
 use native.Mathlib.Omega.{arith}
 use lib.Dec.{eqb, leb}
-use lib.ListN.{getD, take, drop}
+use lib.ListN.{length, getD, take, drop}
 use borrow.Author.Tests.{leb-true, lt-ltb}
 use Rattle.page.specs.Bytes.{Bytes, pick, all, until, trimOf, trim}
 use Rattle.page.specs.Lines.{content, command, rest, semicolon, allowed, clean, Rec}
 use Rattle.page.specs.Fields.{parts-here, inside-after, into, split, fields, quote, with-byte, bodyOf, textOf}
-use Rattle.page.specs.Tables.{Named, number-at, TABLES, columns, standing}
+use Rattle.page.specs.Tables.{Named, number-at, TABLES, columns, width}
+use Rattle.page.specs.Order.{Order, upto, arranged, place, by-column}
 use Rattle.page.specs.Section.{outcome, record-text}
-use Rattle.page.specs.Records.{Datum, number, Record, recordsOf, table-of}
+use Rattle.page.specs.Records.{Datum, number, Record, recordsOf, table-of, order-in}
 use Rattle.page.specs.Grammar.{fields-of, Says, Holds, a-number, a-text, Values, no-field, a-field, Then, found, skip, Records, pause, a-mark, a-record, the-end, Denotes}
 use Rattle.page.specs.Rules.{Every, none-left, one-more}
 use Rattle.page.specs.declared.Outcome.{Outcome}
 use Rattle.page.specs.declared.Owner.{Owner}
 use Rattle.page.specs.declared.Column.{Column}
 use Rattle.page.proofs.TestLaws.{and-left, and-right}
-use Rattle.page.proofs.TableLaws.{each}
+use Rattle.page.proofs.TableLaws.{each, each-at}
+use Rattle.page.proofs.OrderLaws.{listed-arranged}
+use Rattle.page.proofs.TextLaws.{record-text-is}
 use Rattle.laws.specs.Begins.{begins}
 use Rattle.grammar.proofs.Accepts.{denotes-accepted}
 use Rattle.grammar.proofs.Readings.{handed-denoted, denoted-known}
@@ -99,8 +102,8 @@ module _ (p : ℕ → Bool) where
       by false e g = absurd (false≢true (cc))
 
   all-text : (f t : Bytes) → all p f ≡ true → record-text f ≡ some t → all p t ≡ true
-  unfolding record-text textOf
-  all-text f t h e = by (quote (getD f 0 0)) e
+  unfolding textOf
+  all-text f t h e = by (quote (getD f 0 0)) (sym (record-text-is f) ∙ e)
     where
       by : (x : Bool) → pick x (bodyOf false (drop 1 f)) none ≡ some t → all p t ≡ true
       by true e = all-body false (drop 1 f) t (all-drop 1 f h) e
@@ -120,6 +123,15 @@ unfolding rest
 line-bytes {latin} {l = l} s =
     all-fields byte (rest (content l)) (all-drop byte (until semicolon (content l) + 1) (content l) (clean-bytes latin (content l) (s .clean)))
 
+-- by column too
+column-bytes : (o : Order) (fs : List Bytes) → each (all byte) fs ≡ true → each (all byte) (by-column o fs) ≡ true
+unfolding by-column each all
+column-bytes o fs e = go (upto 0 (length o))
+  where
+    go : (cs : List ℕ) → each (all byte) (map (λ (c : ℕ). getD fs (place c o) []) cs) ≡ true
+    go [] = refl
+    go (c ∷ cs) = rw (each-at (all byte) [] refl fs e (place c o)) (go cs)
+
 -- a record's values fit their columns
 
 holds-fits : {o : Owner} {c : Column} {f : Bytes} {v : Datum} → all byte f ≡ true → Holds o c f v → Fits c v
@@ -133,17 +145,17 @@ values-fit e (a-field {f} {fs} h k) =
     a-value (holds-fits (and-left (all byte f) (each (all byte) fs) e) h) (values-fit (and-right (all byte f) (each (all byte) fs) e) k)
 
 module _ {latin : Bool} (t : ℕ) where
-  records-fit : {n : ℕ} {ms : List ℕ} {ls : List Bytes} {rs : List Record} → Records latin t n ms ls rs → Every (Fitting (standing t)) rs
+  records-fit : {o : Order} {n : ℕ} {ms : List ℕ} {ls : List Bytes} {rs : List Record} → Records latin t o n ms ls rs → Every (Fitting (columns t)) rs
   records-fit (pause h x) = records-fit x
   records-fit (a-mark h x) = records-fit x
-  records-fit (a-record h x) = one-more (values-fit (line-bytes (h .says)) (h .fields)) (records-fit x)
+  records-fit {o} (a-record {l = l} h x) = one-more (values-fit (column-bytes o (fields-of l) (line-bytes (h .says))) (h .fields .values)) (records-fit x)
   records-fit (the-end h s) = none-left
 
   then-last : {P : Bytes → Type 0} {Q : List Bytes → Type 0} {R : Type 0} {ls : List Bytes} → ((ms : List Bytes) → Q ms → R) → Then latin P Q ls → R
   then-last f (found {ls = ms} h x) = f ms x
   then-last f (skip h x) = then-last f x
 
-  denotes-fit : {ls : List Bytes} (rs : List Record) → Denotes latin ls t rs → Every (Fitting (standing t)) rs
+  denotes-fit : {ls : List Bytes} (rs : List Record) → Denotes latin ls t rs → Every (Fitting (columns t)) rs
   denotes-fit rs d = then-last (λ a x. then-last (λ b y. then-last (λ c z. records-fit z) y) x) d
 
 -- of a section's lines that begin with a `tbl` line and have verdict 0
@@ -151,10 +163,11 @@ pub record Sound (latin : Bool) (ls : List Bytes) : Type 0 where
   pub verdict : outcome latin ls .verdict ≡ 0
   pub known : table-of ls < TABLES
   pub number : outcome latin ls .table ≡ number-at (table-of ls)
+  pub ordered : arranged (width (table-of ls)) (order-in ls) ≡ true
   pub fit : Every (Fitting (columns (table-of ls))) (recordsOf latin ls)
 
 pub sound-section : (latin : Bool) (ls : List Bytes) → begins ls ≡ true → outcome latin ls .verdict ≡ 0 → Sound latin ls
-unfolding standing
+unfolding order-in
 sound-section latin ls b e =
     let d = handed-denoted latin ls b e in
     let t = table-of ls in
@@ -163,5 +176,6 @@ sound-section latin ls b e =
       verdict = e;
       known = denoted-known t rs d;
       number = ap (λ (o : Outcome). o .table) (denotes-accepted latin ls t rs d);
+      ordered = listed-arranged t;
       fit = denotes-fit t rs d;
     }

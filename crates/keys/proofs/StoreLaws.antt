@@ -1,93 +1,69 @@
--- Numbers stored into an array from a place on, and a text packed byte by byte. Assumes nothing.
-use mathlib.Core.Path.{_≡_, refl, ap}
-use mathlib.Core.List.{List, [], _∷_, _++_, append-nil}
-use mathlib.Core.Option.{Option, none, some}
-use mathlib.Core.Bool.{false}
-use Prim.Native.Nat.{ℕ, zero, suc, _+_, _/_, _%_, _<_, _≤_}
-use native.Mathlib.Omega.{arith}
-use native.Mathlib.Numerals.{add-one}
+-- A walk over a line's fields, each put where it stands in the key, and a text packed byte by byte. Assumes nothing.
+use mathlib.Core.Path.{_≡_, refl, ap, _∙_}
+use mathlib.Core.List.{List, [], _∷_}
+use mathlib.Core.Bool.{Bool, true, false}
+use Prim.Native.Nat.{ℕ, _+_, _*_, _/_, _%_, _<_, _≤_}
 use borrow.Author.Tests.{ne-eqb}
-use lib.Dec.{eqb}
-use lib.ListN.{length, set, replicate, drop, length-append}
-use lib.Seq.{set-out, set-append-seam, append-snoc}
+use native.Mathlib.Omega.{arith}
+use lib.Dec.{eqb, ltb}
+use lib.ListN.{length, getD, set, drop}
 use Rattle.page.specs.Bytes.{Bytes, pick}
-use Rattle.page.specs.Fields.{with-byte, field-size}
-use Rattle.page.specs.Records.{own-bytes}
-use Rattle.tables.specs.Arrays.{fill}
+use Rattle.page.specs.Fields.{quote, field-size}
 use Rattle.page.proofs.FieldLaws.{from, from-end}
+use Rattle.output.specs.Raw.{undoubled}
+use Rattle.output.proofs.FormLaws.{undoubled-second, undoubled-first, undoubled-end}
 use Rattle.digits.specs.Runs.{field-from}
 use Rattle.digits.proofs.RunLaws.{from-next}
-use Rattle.keys.specs.Numbers.{push, packed-from, packed, seven, field-as, chosen}
+use Rattle.keys.specs.Numbers.{room, push, packed-from, field-as, gather}
 
--- what does not fit is left out
-unfoldable pub stored : List ℕ → ℕ → List ℕ → List ℕ
-stored k n [] = k
-stored k n (y ∷ ys) = stored (set k n y) (suc n) ys
+-- a text's own bytes, from a place of what stands between its quotes on
 
-pub stored-full : (ys k : List ℕ) (n : ℕ) → length k ≤ n → stored k n ys ≡ k
-unfolding stored
-stored-full [] k n h = refl
-stored-full (y ∷ ys) k n h = rw (set-out k n y h) (stored-full ys k (suc n) (omega arith))
+module _ (n : ℕ) (met : Bool) (s : Bytes) (i : ℕ) where
+  pub packed-second : i < length s → met ≡ true → packed-from n (undoubled met (drop i s)) ≡ packed-from n (undoubled false (drop (i + 1) s))
+  packed-second h e = ap (packed-from n) (undoubled-second met s i h e)
 
-fill-nothing : (m : ℕ) → fill {A = ℕ} m 0 [] ≡ replicate m 0
-unfolding fill
-fill-nothing zero = refl
-fill-nothing (suc m) = ap (λ (l : List ℕ). 0 ∷ l) (fill-nothing m)
+  pub packed-first : i < length s → met ≡ false
+      → packed-from n (undoubled met (drop i s)) ≡ packed-from (push n (getD s i 0)) (undoubled (quote (getD s i 0)) (drop (i + 1) s))
+  unfolding packed-from
+  packed-first h e = ap (packed-from n) (undoubled-first met s i h e)
 
-stored-fill : (ys xs : List ℕ) (m : ℕ) → stored (xs ++ replicate m 0) (length xs) ys ≡ xs ++ fill m 0 ys
-unfolding stored fill
-stored-fill [] xs m = rw (fill-nothing m)
-stored-fill (y ∷ ys) xs zero = rw append-nil (stored-full (y ∷ ys) xs (length xs) (omega arith))
-stored-fill (y ∷ ys) xs (suc m) =
-    let n : length (xs ++ y ∷ []) ≡ suc (length xs) = omega (arith, length-append xs (y ∷ [])) in
-    rw (set-append-seam xs 0 (replicate m 0) y, ← append-snoc xs y (replicate m 0), ← append-snoc xs y (fill m 0 ys), ← n) (stored-fill ys (xs ++ y ∷ []) m)
+  pub packed-end : length s ≤ i → packed-from n (undoubled met (drop i s)) ≡ n
+  unfolding packed-from
+  packed-end h = ap (packed-from n) (undoubled-end met s i h)
 
-pub stored-seven : (ys : List ℕ) → stored (replicate 7 0) 0 ys ≡ seven ys
-unfolding seven
-stored-seven ys = stored-fill ys [] 7
+pub push-some : (n b : ℕ) → 1 ≤ n → 1 ≤ push n b
+unfolding push
+push-some n b h = by (ltb n room)
+  where
+    by : (x : Bool) → 1 ≤ pick x (n * 256 + b) n
+    by true = omega arith
+    by false = h
 
--- a text that goes on from what is worth n; none is worth 1
-unfoldable pub packed-of : ℕ → Option Bytes → ℕ
-packed-of n none = 1
-packed-of n (some t) = packed-from n t
+-- one field more
+abbrev pub put : ℕ → ℕ → Bytes → List ℕ → List ℕ
+put d n f k = pick (eqb d 0) k (set k n (field-as d f))
 
-pub packed-all : (o : Option Bytes) → packed-of 1 o ≡ packed (own-bytes o)
-unfolding packed-of packed packed-from
-packed-all none = refl
-packed-all (some t) = refl
-
-pub packed-byte : (n b : ℕ) (o : Option Bytes) → packed-of n (with-byte b o) ≡ packed-of (push n b) o
-unfolding packed-of packed-from
-packed-byte n b none = refl
-packed-byte n b (some t) = refl
-
-pub packed-end : (n : ℕ) → packed-of n (some []) ≡ n
-unfolding packed-of packed-from
-packed-end n = refl
-
-pub packed-none : (n : ℕ) → packed-of n none ≡ 1
-unfolding packed-of
-packed-none n = refl
+pub gather-one : (q z : ℕ) (f : Bytes) (fs : List Bytes) (k : List ℕ) → gather q z (f ∷ fs) k ≡ gather (q / 4) (z / 8) fs (put (q % 4) (z % 8) f k)
+unfolding gather
+gather-one q z f fs k = refl
 
 -- a walk over the fields that are left, where the field at a place ends at e
-module _ (w : Bytes) (at e q : ℕ) (h : at ≤ length w) (x : e ≡ at + field-size false (drop at w)) where
-  pub chosen-skip : q % 4 ≡ 0 → chosen q (from w at) ≡ chosen (q / 4) (from w (e + 1))
-  unfolding chosen
-  chosen-skip z = rw (from-next w at e h x, z)
+module _ (w : Bytes) (at e q z : ℕ) (k : List ℕ) (h : at ≤ length w) (x : e ≡ at + field-size false (drop at w)) where
+  next : gather q z (from w at) k ≡ gather (q / 4) (z / 8) (from w (e + 1)) (put (q % 4) (z % 8) (field-from w at) k)
+  next = ap (λ (l : List Bytes). gather q z l k) (from-next w at e h x) ∙ gather-one q z (field-from w at) (from w (e + 1)) k
 
-  pub chosen-take : (q % 4 ≡ 0 → ⊥) → (v : ℕ) → v ≡ pick (eqb (q % 4) 0) 0 (field-as (q % 4) (field-from w at))
-      → chosen q (from w at) ≡ v ∷ chosen (q / 4) (from w (e + 1))
-  unfolding chosen
-  chosen-take n v b = rw (from-next w at e h x, b, ne-eqb (q % 4) 0 n)
+  pub gather-skip : q % 4 ≡ 0 → gather q z (from w at) k ≡ gather (q / 4) (z / 8) (from w (e + 1)) k
+  gather-skip n = next ∙ ap (gather (q / 4) (z / 8) (from w (e + 1))) (ap (λ (d : ℕ). put d (z % 8) (field-from w at) k) n)
 
-pub chosen-past : (w : Bytes) (at q : ℕ) → length w < at → chosen q (from w at) ≡ []
-unfolding chosen
-chosen-past w at q h = rw (from-end w at h)
+  pub gather-take : (q % 4 ≡ 0 → ⊥) → (v : ℕ) → v ≡ pick (eqb (q % 4) 0) 0 (field-as (q % 4) (field-from w at))
+      → gather q z (from w at) k ≡ gather (q / 4) (z / 8) (from w (e + 1)) (set k (z % 8) v)
+  gather-take n v b = next ∙ ap (gather (q / 4) (z / 8) (from w (e + 1))) (rw (b, ne-eqb (q % 4) 0 n))
 
-pub stored-more : (k : List ℕ) (n v : ℕ) (ys : List ℕ) → stored k n (v ∷ ys) ≡ stored (set k n v) (n + 1) ys
-unfolding stored
-stored-more k n v ys = rw add-one
+pub gather-past : (w : Bytes) (at q z : ℕ) (k : List ℕ) → length w < at → gather q z (from w at) k ≡ k
+unfolding gather
+gather-past w at q z k h = rw (from-end w at h)
 
-pub stored-none : (k : List ℕ) (n : ℕ) → stored k n [] ≡ k
-unfolding stored
-stored-none k n = refl
+pub gather-none : (z : ℕ) (fs : List Bytes) (k : List ℕ) → gather 0 z fs k ≡ k
+unfolding gather
+gather-none z [] k = refl
+gather-none z (f ∷ fs) k = gather-none (z / 8) fs k

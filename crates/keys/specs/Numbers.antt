@@ -1,8 +1,9 @@
 -- Keys as numbers: seven of them, the most columns that a key has, the last ones 0 where a key has fewer.
 use mathlib.Core.Bool.{Bool}
 use mathlib.Core.List.{List, [], _∷_, map}
-use Prim.Native.Nat.{ℕ, _+_, _*_, _/_, _%_}
+use Prim.Native.Nat.{ℕ, _+_, _-_, _*_, _/_, _%_}
 use lib.Dec.{eqb, ltb}
+use lib.ListN.{set, replicate}
 use Rattle.page.specs.Bytes.{Bytes, pick}
 use Rattle.page.specs.Fields.{numberOf}
 use Rattle.page.specs.Tables.{columns}
@@ -10,6 +11,7 @@ use Rattle.page.specs.Section.{record-text, amount}
 use Rattle.page.specs.Records.{Datum, number, words, Record, own-bytes}
 use Rattle.page.specs.File.{key-in, referred}
 use Rattle.tables.specs.Arrays.{fill}
+use Rattle.tables.specs.declared.choices.Choice.{Choice}
 use Rattle.page.specs.declared.Column.{Column}
 
 -- one byte more, in base 256; past seven bytes there is no room
@@ -23,9 +25,9 @@ unfoldable pub packed-from : ℕ → Bytes → ℕ
 packed-from n [] = n
 packed-from n (b ∷ bs) = packed-from (push n b) bs
 
--- a text as a number: it begins with 1, so that its length is in it
+-- a text as a number: it begins with 1, so that its length is in it; less 1, so that one without bytes is 0, as a field that is missing
 unfoldable pub packed : Bytes → ℕ
-packed t = packed-from 1 t
+packed t = packed-from 1 t - 1
 
 unfoldable pub datum-number : Datum → ℕ
 datum-number (number n) = n
@@ -45,10 +47,14 @@ key-numbers p t vs = seven (map datum-number (key-in p (columns t) vs))
 unfoldable pub refer-numbers : List ℕ → Record → List ℕ
 refer-numbers ks vs = seven (map datum-number (referred ks vs))
 
--- the fields of a choice (`tables/specs/Choices`), one by one
+-- the fields of a choice (`tables/specs/Choices`)
 unfoldable pub field-as : ℕ → Bytes → ℕ
 field-as d f = pick (eqb d 1) (amount (numberOf f)) (packed (own-bytes (record-text f)))
 
-unfoldable pub chosen : ℕ → List Bytes → List ℕ
-chosen q [] = []
-chosen q (f ∷ fs) = pick (eqb (q % 4) 0) (chosen (q / 4) fs) (field-as (q % 4) f ∷ chosen (q / 4) fs)
+-- from the left, each put where it stands in the key
+unfoldable pub gather : ℕ → ℕ → List Bytes → List ℕ → List ℕ
+gather q z [] k = k
+gather q z (f ∷ fs) k = gather (q / 4) (z / 8) fs (pick (eqb (q % 4) 0) k (set k (z % 8) (field-as (q % 4) f)))
+
+unfoldable pub gathered : Choice → List Bytes → List ℕ
+gathered c fs = gather (c .kinds) (c .slots) fs (replicate places 0)

@@ -8,4 +8,3 @@ pub use key::less_key;
 pub use key::mix;
 pub use key::same_key;
 pub use read::read_chosen;
-pub use read::read_reference;

@@ -5,16 +5,17 @@ ghost use Prim.Native.Nat.{_+_, _≤_};
 ghost use lib.Dec.{eqb};
 ghost use lib.ListN.{length, drop};
 ghost use Rattle.page.specs.Bytes.{pick};
-ghost use Rattle.page.specs.Fields.{field-size, fields, bodyOf};
+ghost use Rattle.page.specs.Fields.{field-size, fields};
 ghost use Rattle.page.specs.Section.{record-text};
-ghost use Rattle.page.specs.Records.{own-bytes, valuesOf};
-ghost use Rattle.page.specs.Tables.{standing};
+ghost use Rattle.page.specs.Records.{own-bytes};
+ghost use Rattle.output.specs.Raw.{undoubled};
 ghost use Rattle.digits.specs.Runs.{field-from};
-ghost use Rattle.tables.specs.Choices.{reference-at};
-ghost use Rattle.keys.specs.Numbers.{push, packed, seven, chosen, field-as, refer-numbers};
+ghost use Rattle.keys.specs.Numbers.{push, packed, field-as, gathered};
 use crate::key::Key;
 use crate::key::PLACES;
-use tables::choose_reference;
+use page::Column;
+use page::Field;
+use tables::Choice;
 
 // A field as a number, and where it ends.
 struct Taken {
@@ -31,44 +32,56 @@ fn put_byte(n: u64, b: u8) -> u64
     n
 }
 
-// What follows the opening quote.
-fn pack_body(w: &[u8]) -> u64
-    ensures { λ r. ⌜ r ≡ packed (own-bytes (bodyOf false (now (w .entry)))) ⌝ }
+// A text of a key has at most six bytes, and stands for a number with its length in it: "a doubled quote inside stands for one".
+fn pack_own(raw: &[u8]) -> u64
+    ensures { λ r. ⌜ r ≡ packed (undoubled false (now (raw .entry))) ⌝ }
 {
     let mut met = false;
     let mut n: u64 = 1;
     let mut i = 0;
-    while i < w.len() {
-        let b = w[i];
+    while i < raw.len() {
+        let b = raw[i];
         i += 1;
         if met {
-            if b != 34 {
-                return 1;
-            }
             met = false;
-            n = put_byte(n, b);
         } else {
-            if b == 34 {
-                met = true;
-            } else {
-                n = put_byte(n, b);
-            }
+            n = put_byte(n, b);
+            met = b == 34;
         }
     }
-    if met { n } else { 1 }
+    n - 1
 }
 
-// A text of a key has at most six bytes, and stands for a number with its length in it.
-fn pack_text(f: &[u8]) -> u64
-    ensures { λ r. ⌜ r ≡ packed (own-bytes (record-text (now (f .entry)))) ⌝ }
+// A text of any size.
+fn take_text(w: &[u8], at: usize) -> Taken
+    requires { ⌜ at ≤ length (now w) ⌝ }
+    ensures { λ r. ⌜ (r .end ≡ at + field-size false (drop at (now (w .entry))))
+        × (r .value ≡ packed (own-bytes (record-text (field-from (now (w .entry)) at)))) ⌝ }
 {
-    if f.len() == 0 {
-        return 1;
+    let column = Column {
+        text: true,
+        lo: 0,
+        hi: 18446744073709551615,
+        size: 0,
+        primary: false,
+        second: false,
+        fillable: false,
+    };
+    let x = fields::read_field(w, at, column);
+    let e = x.end;
+    let f = x.field;
+    match f {
+        Field::Text(sp) => {
+            let from = sp.from;
+            let to = sp.to;
+            Taken {
+                value: pack_own(&w[from..to]),
+                end: e,
+            }
+        }
+        Field::Number(_) => Taken { value: 0, end: e },
+        Field::Refused(_) => Taken { value: 0, end: e },
     }
-    if f[0] != 34 {
-        return 1;
-    }
-    pack_body(&f[1..])
 }
 
 // The field that begins at a place as a choice takes it; 0 where it does not.
@@ -86,46 +99,40 @@ fn take_field(w: &[u8], at: usize, kind: u64) -> Taken
             end: e,
         };
     }
-    let e = commands::field_end(w, at);
     if kind == 0 {
-        return Taken { value: 0, end: e };
+        return Taken {
+            value: 0,
+            end: commands::field_end(w, at),
+        };
     }
-    Taken {
-        value: pack_text(lines::trimmed(&w[at..e])),
-        end: e,
-    }
+    take_text(w, at)
 }
 
 // The fields of a choice, in one walk that ends at the last of them.
-pub fn read_chosen(w: &[u8], choice: u64) -> Key
-    ensures { λ r. ⌜ r .k ≡ seven (chosen choice (fields (now (w .entry)))) ⌝ }
+pub fn read_chosen(w: &[u8], choice: Choice) -> Key
+    ensures { λ r. ⌜ r .k ≡ gathered choice (fields (now (w .entry))) ⌝ }
 {
     let mut k = [0; PLACES];
-    let mut n: usize = 0;
     let mut at = 0;
-    let mut rest = choice;
+    let mut rest = choice.kinds;
+    let mut slots = choice.slots;
     while 0 < rest {
         if w.len() < at {
             return Key { k: k };
         }
         let kind = rest % 4;
+        let n = (slots % 8) as usize;
         let f = take_field(w, at, kind);
         let v = f.value;
         let e = f.end;
         at = e + 1;
         rest = rest / 4;
+        slots = slots / 8;
         if kind != 0 {
             if n < PLACES {
                 k[n] = v;
-                n += 1;
             }
         }
     }
     Key { k: k }
-}
-
-pub fn read_reference(w: &[u8], t: usize, r: usize) -> Key
-    ensures { λ x. ⌜ x .k ≡ refer-numbers (reference-at t r .columns) (valuesOf 0 1 (standing t) (fields (now (w .entry)))) ⌝ }
-{
-    read_chosen(w, choose_reference(t, r))
 }

@@ -11,6 +11,7 @@ use borrow.Author.Tests.{eqb-true, leb-true, le-ltb, ne-eqb}
 use Rattle.page.specs.Bytes.{Bytes, bytes, pick, same, until, no-space, trim}
 use Rattle.page.specs.Lines.{blank, command, semicolon, find, known, Mod, Unknown, Missing}
 use Rattle.page.specs.Tables.{Named, table-at, table-named, TABLES}
+use Rattle.page.specs.Order.{Order}
 use Rattle.page.specs.Section.{names-same, format-ok, formats-ok}
 use Rattle.page.specs.Grammar.{Formats, no-format, a-format, Rises, lone, above}
 use Rattle.page.specs.Refusals.{marks-of, One}
@@ -52,19 +53,19 @@ formats-d (c ∷ cs) (f ∷ fs) = when (λ p. a-format (p .0) (p .1)) parts (bot
     parts (a-format h t) = (h, t)
 
 -- a mark that rises: none is of field 0
-pub rises-d : (t i m : ℕ) → Decides ((may-mark t i ≡ true) × Rises i (marks-of m)) (may-mark t i && ltb m i)
+pub rises-d : (t : ℕ) (o : Order) (i m : ℕ) → Decides ((may-mark t o i ≡ true) × Rises i (marks-of m)) (may-mark t o i && ltb m i)
 unfolding may-mark
-rises-d t i zero = from (may-mark t i) (ltb 0 i) refl (below 0 i) (λ e. leb-true 1 i (first (leb 1 i) _ e))
+rises-d t o i zero = from (may-mark t o i) (ltb 0 i) refl (below 0 i) (λ e. leb-true 1 i (first (leb 1 i) _ e))
   where
     first : (a b : Bool) → (a && b) ≡ true → a ≡ true
     first true b e = refl
     first false b e = e
 
-    from : (a b : Bool) → may-mark t i ≡ a → Decides (0 < i) b → (a ≡ true → 1 ≤ i) → Decides ((may-mark t i ≡ true) × Rises i []) (a && b)
+    from : (a b : Bool) → may-mark t o i ≡ a → Decides (0 < i) b → (a ≡ true → 1 ≤ i) → Decides ((may-mark t o i ≡ true) × Rises i []) (a && b)
     from true true e d h = holds (e, lone)
     from true false e (fails n) h = absurd (n (h refl))
     from false b e d h = fails (λ x. false≢true (sym e ∙ x .0))
-rises-d t i (suc m) = both (is-d (may-mark t i)) (when above part (below (suc m) i))
+rises-d t o i (suc m) = both (is-d (may-mark t o i)) (when above part (below (suc m) i))
   where
     part : Rises i (suc m ∷ []) → suc m < i
     part (above h) = h

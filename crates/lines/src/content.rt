@@ -1,9 +1,10 @@
 // A line's content, and the bytes allowed in it.
 ghost use mathlib.Core.Path.{_≡_};
-ghost use Prim.Native.Nat.{_+_, _<_, _≤_};
+ghost use Prim.Native.Nat.{_+_, _≤_};
 ghost use lib.ListN.{length, take, drop};
 ghost use Rattle.page.specs.Bytes.{until, all};
 ghost use Rattle.page.specs.Lines.{content-size, content, blank, semicolon, rest, allowed};
+use crate::scan::least;
 use crate::scan::spaces;
 
 // How long a line is without its end.
@@ -107,15 +108,6 @@ fn few_allowed(c: &[u8], wide: bool) -> bool
         i += 1;
     }
     true
-}
-
-fn least(a: usize, b: usize) -> usize
-    ensures { λ r. ⌜ (r ≤ a) × (r ≤ b) × (r < b → r ≡ a) ⌝ }
-{
-    if a < b {
-        return a;
-    }
-    b
 }
 
 // Sixteen bytes at a time; the last sixteen overlap those before them.

@@ -12,6 +12,7 @@ pub use content::rest_of;
 pub use cursor::Cursor;
 pub use cursor::Line;
 pub use scan::equal;
+pub use scan::least;
 pub use scan::one_less;
 pub use scan::trim_in;
 pub use scan::trimmed;

@@ -1,6 +1,6 @@
 // Scans over bytes.
 ghost use mathlib.Core.Path.{_≡_};
-ghost use Prim.Native.Nat.{_-_, _≤_};
+ghost use Prim.Native.Nat.{_-_, _<_, _≤_};
 ghost use lib.ListN.{length, take, drop};
 ghost use Rattle.page.specs.Bytes.{same, until, keep, space, no-space, moved, trimOf, trim};
 use page::Span;
@@ -88,4 +88,14 @@ pub fn one_less(n: usize) -> usize
         return 0;
     }
     n - 1
+}
+
+// The less of two.
+pub fn least(a: usize, b: usize) -> usize
+    ensures { λ r. ⌜ (r ≤ a) × (r ≤ b) × (r < b → r ≡ a) ⌝ }
+{
+    if a < b {
+        return a;
+    }
+    b
 }

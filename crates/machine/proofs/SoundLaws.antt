@@ -10,11 +10,12 @@ use borrow.Author.Tests.{eqb-true, eqb-false, eq-eqb}
 use Rattle.page.specs.Bytes.{Bytes}
 use Rattle.page.specs.Lines.{content, blank, command, rest, Tbl, Atr, Frm, Rec, End, Com, Missing}
 use Rattle.page.specs.Fields.{fields, numberOf}
-use Rattle.page.specs.Tables.{table-named, width, standing}
+use Rattle.page.specs.Tables.{table-named, width}
+use Rattle.page.specs.Order.{Order, listed-order, standing}
 use Rattle.page.specs.Marks.{remarkOf}
 use Rattle.page.specs.Cut.{begins-table}
 use Rattle.page.specs.Section.{choose, tbl-step, atr-step, frm-step, rec-verdict, rec-step, count-step, end-step, mark-step, com-step, line-step, content-step, step, table-in, finish, continue, run, outcome, first-wrong}
-use Rattle.page.specs.Records.{waits, table-of}
+use Rattle.page.specs.Records.{waits, table-of, order-in}
 use Rattle.page.specs.Places.{stands, record-at}
 use Rattle.page.specs.declared.Number.{Number}
 use Rattle.page.specs.declared.Number.the-variants as N
@@ -27,7 +28,6 @@ use Rattle.page.specs.declared.Step.the-variants as S
 use Rattle.machine.specs.Counts.{records-in}
 use Rattle.laws.proofs.Tests.{blank-missing}
 
--- a blank line has no command
 -- the field of the mark that waits
 abbrev mark-in : Phase → ℕ
 mark-in P.Tbl = 0
@@ -48,7 +48,7 @@ data Leads (t : ℕ) (p : Phase) (c : Bytes) : Step → Type 0 where
   stops : {v : ℕ} → (v ≡ 0 → ⊥) → Leads t p c (S.Stop v)
   still : {q : Phase} → Of t q → records-in q ≡ records-in p → mark-in q ≡ waits (mark-in p) c → eqb (command c) Rec ≡ false → Leads t p c (S.Go q)
   counts : {q : Phase} → Of t q → records-in q ≡ records-in p + 1 → mark-in q ≡ 0 → eqb (command c) Rec ≡ true
-      → rec-verdict t (mark-in p) (fields (rest c)) ≡ 0 → Leads t p c (S.Go q)
+      → rec-verdict t (listed-order t) (mark-in p) (fields (rest c)) ≡ 0 → Leads t p c (S.Go q)
 
 if : {t : ℕ} {p : Phase} {c : Bytes} (b : Bool) {x y : Step} → (b ≡ true → Leads t p c x) → (b ≡ false → Leads t p c y) → Leads t p c (choose b x y)
 unfolding choose
@@ -100,11 +100,11 @@ module _ (t : ℕ) (c : Bytes) where
   lead-end zero n e = if _ (λ z. if _ (λ y. lead-count n e (numberOf (getD (fields (rest c)) 0 []))) (λ y. six)) (λ z. six)
   lead-end (suc m) n e = if _ (λ z. absurd (let w : suc m ≡ 0 = eqb-true (suc m) 0 z in omega arith)) (λ z. six)
 
-  lead-rec : (m n : ℕ) → command c ≡ Rec → Leads t (P.Rows t m n) c (rec-step t m n (fields (rest c)))
+  lead-rec : (m n : ℕ) → command c ≡ Rec → Leads t (P.Rows t m n) c (rec-step t (listed-order t) m n (fields (rest c)))
   unfolding rec-step records-in
   lead-rec m n e =
-      if _ (λ y. counts rows refl refl (eq-eqb (command c) Rec e) (eqb-true (rec-verdict t m (fields (rest c))) 0 y))
-      (λ y. stops (eqb-false (rec-verdict t m (fields (rest c))) 0 y))
+      if _ (λ y. counts rows refl refl (eq-eqb (command c) Rec e) (eqb-true (rec-verdict t (listed-order t) m (fields (rest c))) 0 y))
+      (λ y. stops (eqb-false (rec-verdict t (listed-order t) m (fields (rest c))) 0 y))
 
   lead-line : (p : Phase) → Of t p → Leads t p c (line-step p (command c) (rest c))
   unfolding line-step atr-step frm-step records-in
@@ -125,7 +125,7 @@ leads latin t p l o =
 -- a record that a sound section hands out passed its rules, with the mark that stands before it
 module _ (latin : Bool) (t : ℕ) where
   abbrev Passed : ℕ → ℕ → ℕ → List Bytes → Type 0
-  Passed r m at ls = rec-verdict t (record-at r m at ls .mark) (fields (record-at r m at ls .rest)) ≡ 0
+  Passed r m at ls = rec-verdict t (listed-order t) (record-at r m at ls .mark) (fields (record-at r m at ls .rest)) ≡ 0
 
   at-end : (p : Phase) (n r at : ℕ) → Of t p → finish p n .verdict ≡ 0 → records-in p + r < finish p n .records → Passed r (mark-in p) at []
   unfolding finish records-in
@@ -183,26 +183,27 @@ module _ (latin : Bool) (l : Bytes) (ls : List Bytes) (r at : ℕ) where
   after-first (S.Go (P.Atr u)) begins b d e h = rw (b, d) (run-passed latin t ls (P.Atr t) 1 r (at + length l) atr e (omega arith))
 
   pub sound-passed : begins-table l ≡ true → outcome latin (l ∷ ls) .verdict ≡ 0 → r < outcome latin (l ∷ ls) .records
-      → rec-verdict (table-of (l ∷ ls)) (record-at r 0 at (l ∷ ls) .mark) (fields (record-at r 0 at (l ∷ ls) .rest)) ≡ 0
-  unfolding begins-table outcome run table-in table-of
+      → rec-verdict (table-of (l ∷ ls)) (order-in (l ∷ ls)) (record-at r 0 at (l ∷ ls) .mark) (fields (record-at r 0 at (l ∷ ls) .rest)) ≡ 0
+  unfolding begins-table outcome run table-in table-of order-in
   sound-passed b e h =
       let k : command (content l) ≡ Tbl = eqb-true (command (content l)) Tbl b in
       after-first (step latin P.Tbl l) (first-step latin l k) (rw k) (rw k) e h
 
--- a record that passed has a field for each column
-pub passed-width : (t m : ℕ) (fs : List Bytes) → rec-verdict t m fs ≡ 0 → length fs ≡ width t
-unfolding rec-verdict
-passed-width t m fs e = by (eqb (length fs) (width t)) refl
-  where
-    by : (b : Bool) → eqb (length fs) (width t) ≡ b → length fs ≡ width t
-    by true q = eqb-true (length fs) (width t) q
-    by false q = absurd (let z : _≡_ {A = ℕ} 10 0 = rw q at e in omega arith)
+-- a record that passed has a field for each column, and none of them is wrong
 
-pub passed-wrong : (t m : ℕ) (fs : List Bytes) → rec-verdict t m fs ≡ 0 → first-wrong (standing t) fs ≡ 0
-unfolding rec-verdict
-passed-wrong t m fs e = by (eqb (length fs) (width t)) (eqb (first-wrong (standing t) fs) 0) refl refl
-  where
-    by : (a b : Bool) → eqb (length fs) (width t) ≡ a → eqb (first-wrong (standing t) fs) 0 ≡ b → first-wrong (standing t) fs ≡ 0
-    by a true x y = eqb-true (first-wrong (standing t) fs) 0 y
-    by true false x y = rw (x, y) at e
-    by false false x y = absurd (let z : _≡_ {A = ℕ} 10 0 = rw x at e in omega arith)
+module _ (t : ℕ) (o : Order) (m : ℕ) (fs : List Bytes) (e : rec-verdict t o m fs ≡ 0) where
+  pub passed-width : length fs ≡ width t
+  unfolding rec-verdict
+  passed-width = by (eqb (length fs) (width t)) refl
+    where
+      by : (b : Bool) → eqb (length fs) (width t) ≡ b → length fs ≡ width t
+      by true q = eqb-true (length fs) (width t) q
+      by false q = absurd (let z : _≡_ {A = ℕ} 10 0 = rw q at e in omega arith)
+
+  pub passed-wrong : first-wrong (standing t o) fs ≡ 0
+  unfolding rec-verdict
+  passed-wrong = by (eqb (first-wrong (standing t o) fs) 0) refl
+    where
+      by : (b : Bool) → eqb (first-wrong (standing t o) fs) 0 ≡ b → first-wrong (standing t o) fs ≡ 0
+      by true q = eqb-true (first-wrong (standing t o) fs) 0 q
+      by false q = rw (eq-eqb (length fs) (width t) passed-width, q) at e

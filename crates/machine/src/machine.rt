@@ -8,6 +8,7 @@ ghost use Rattle.page.specs.Fields.{fields, numberOf};
 ghost use Rattle.page.specs.Marks.{remarkOf};
 ghost use Rattle.page.specs.Section.{tbl-step, atr-step, frm-step, rec-step, count-step, end-step, mark-step, com-step, line-step, content-step, step};
 ghost use Rattle.page.specs.declared.Phase.the-variants as P;
+ghost use Rattle.tables.specs.Orders.{held, Orderly, Stands};
 ghost use Rattle.machine.specs.Counts.{records-in};
 use judging::judge_record;
 use page::Number;
@@ -15,6 +16,8 @@ use page::Phase;
 use page::Remark;
 use page::Step;
 use tables::TABLES;
+use tables::WIDEST;
+use tables::list_columns;
 
 // "`tbl` 10, 7"
 pub fn step_tbl(w: &[u8]) -> Step
@@ -41,21 +44,22 @@ pub fn step_atr(w: &[u8], t: usize) -> Step
 }
 
 // "`frm` 9"
-pub fn step_frm(w: &[u8], t: usize) -> Step
-    ensures { λ r. ⌜ r ≡ frm-step t (fields (now (w .entry))) ⌝ }
+pub fn step_frm(w: &[u8], t: usize, o: &[u8; WIDEST]) -> Step
+    requires { ⌜ Orderly (now o) ⌝ }
+    ensures { λ r. ⌜ r ≡ frm-step t (held t (now (o .entry))) (fields (now (w .entry))) ⌝ }
 {
-    if names::formats_match(w, t) {
+    if names::formats_match(w, t, o) {
         return Step::Go(Phase::Rows(t, 0, 0));
     }
     Step::Stop(9)
 }
 
 // A record takes the mark that waits with it.
-pub fn step_rec(w: &[u8], t: usize, m: u64, n: usize) -> Step
-    requires { ⌜ n + 1 < 18446744073709551616 ⌝ }
-    ensures { λ r. ⌜ r ≡ rec-step t m n (fields (now (w .entry))) ⌝ }
+pub fn step_rec(w: &[u8], t: usize, o: &[u8; WIDEST], m: u64, n: usize) -> Step
+    requires { ⌜ Stands t (now o) × (n + 1 < 18446744073709551616) ⌝ }
+    ensures { λ r. ⌜ r ≡ rec-step t (held t (now (o .entry))) m n (fields (now (w .entry))) ⌝ }
 {
-    let v = judge_record(w, t, m);
+    let v = judge_record(w, t, o, m);
     if v == 0 {
         return Step::Go(Phase::Rows(t, 0, n + 1));
     }
@@ -100,7 +104,8 @@ pub fn step_mark(p: Phase, i: u64) -> Step
         Phase::Atr(_) => Step::Stop(15),
         Phase::Frm(_) => Step::Stop(15),
         Phase::Rows(t, m, n) => {
-            if !tables::may_mark(t, i) {
+            let o = list_columns();
+            if !tables::may_mark(t, &o, i) {
                 return Step::Stop(15);
             }
             if m < i {
@@ -127,7 +132,8 @@ fn step_rows(w: &[u8], t: usize, m: u64, n: usize, k: u32) -> Step
     ensures { λ r. ⌜ r ≡ line-step (P.Rows t m n) k (now (w .entry)) ⌝ }
 {
     if k == commands::REC {
-        return step_rec(w, t, m, n);
+        let o = list_columns();
+        return step_rec(w, t, &o, m, n);
     }
     if k == commands::END {
         return step_end(w, t, m, n);
@@ -155,7 +161,8 @@ pub fn step_line(w: &[u8], p: Phase, k: u32) -> Step
         }
         Phase::Frm(t) => {
             if k == commands::FRM {
-                return step_frm(w, t);
+                let o = list_columns();
+                return step_frm(w, t, &o);
             }
             Step::Stop(6)
         }

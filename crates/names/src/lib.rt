@@ -1,9 +1,11 @@
 // A table by its name, and the lines that state a table's columns.
 ghost use mathlib.Core.Path.{_≡_};
 ghost use Rattle.page.specs.Bytes.{bytes, same};
-ghost use Rattle.page.specs.Tables.{columns, standing, name-at, table-named};
+ghost use Rattle.page.specs.Tables.{columns, name-at, table-named};
+ghost use Rattle.page.specs.Order.{standing};
 ghost use Rattle.page.specs.Fields.{fields};
 ghost use Rattle.page.specs.Section.{names-same, formats-ok};
+ghost use Rattle.tables.specs.Orders.{held, Orderly};
 ghost use Rattle.tables.specs.Words.{word};
 
 mod formats;
@@ -11,6 +13,7 @@ mod titles;
 
 use tables::NAMES;
 use tables::TABLES;
+use tables::WIDEST;
 use tables::find_width;
 use tables::find_word;
 use tables::is_text;
@@ -69,9 +72,10 @@ pub fn names_match(w: &[u8], t: usize) -> bool
     w.len() < at
 }
 
-// "`frm` with one format a column".
-pub fn formats_match(w: &[u8], t: usize) -> bool
-    ensures { λ r. ⌜ r ≡ formats-ok (standing t) (fields (now (w .entry))) ⌝ }
+// "`frm` with one format a column", as the columns stand.
+pub fn formats_match(w: &[u8], t: usize, o: &[u8; WIDEST]) -> bool
+    requires { ⌜ Orderly (now o) ⌝ }
+    ensures { λ r. ⌜ r ≡ formats-ok (standing t (held t (now (o .entry)))) (fields (now (w .entry))) ⌝ }
 {
     let n = find_width(t);
     let mut k = 0;
@@ -81,7 +85,7 @@ pub fn formats_match(w: &[u8], t: usize) -> bool
             return false;
         }
         let e = commands::field_end(w, at);
-        let text = is_text(t, k);
+        let text = is_text(t, o[k] as usize);
         if !crate::formats::is_format(lines::trimmed(&w[at..e]), text) {
             return false;
         }

@@ -7,7 +7,7 @@ use native.Mathlib.Numerals.{add-one}
 use native.Mathlib.Omega.{arith}
 use borrow.Author.Tests.{lt-ltb, le-ltb, eq-eqb, ne-eqb, ltb-true, ltb-false}
 use lib.Dec.{ltb}
-use lib.Seq.{drop-cons, take-all, take-nil}
+use lib.Seq.{drop-cons, take-all}
 use lib.ListN.{length, getD, take, drop, length-append, length-take, length-drop, drop-of-length-le}
 use Rattle.page.specs.Bytes.{Bytes, bytes, pick, part}
 use Rattle.page.specs.Fields.{quote}
@@ -16,7 +16,7 @@ use Rattle.page.specs.declared.Span.{Span}
 use Rattle.page.specs.declared.Column.{Column}
 use Rattle.page.specs.declared.Date.{Date}
 use Rattle.page.specs.declared.Time.{Time}
-use Rattle.output.specs.Raw.{least, undoubled, raw-text}
+use Rattle.output.specs.Raw.{undoubled, raw-text}
 
 -- texts
 
@@ -157,16 +157,6 @@ plain-quoted t p = rw (p .is)
 
 -- a part of a file, its ends moved into the file
 
-pub least-right : (a b : ℕ) → least a b ≤ b
-least-right a b = by (ltb a b) refl
-  where
-    by : (q : Bool) → ltb a b ≡ q → pick q a b ≤ b
-    by true e = omega (arith, ltb-true a b e)
-    by false e = omega arith
-
-nothing : (n k : ℕ) (s : Bytes) → length s ≤ k → take n (drop k s) ≡ []
-nothing n k s h = rw (drop-of-length-le s h) (take-nil n)
-
 no-more : (n k : ℕ) (s : Bytes) → length s ≤ n → take (length s - k) (drop k s) ≡ take (n - k) (drop k s)
 no-more n k s h =
     let a : length (drop k s) ≤ length s - k = simp length-drop (omega arith) in
@@ -177,32 +167,28 @@ none-between : (a b k : ℕ) (s : Bytes) → a ≤ b → take (a - b) (drop k s)
 none-between a b k s h = let e : a - b ≡ 0 = omega arith in rw e
 
 -- the end within the file, the beginning before it or not
-part-to : (s : Bytes) (f t : ℕ) → take (least t (length s) - f) (drop f s) ≡ take (t - f) (drop f s)
-part-to s f t = by (ltb t (length s)) refl
-  where
-    by : (q : Bool) → ltb t (length s) ≡ q → take (pick q t (length s) - f) (drop f s) ≡ take (t - f) (drop f s)
-    by true e = refl
-    by false e = no-more t f s (ltb-false t (length s) e)
+module _ (s : Bytes) (place : Span) (to from : ℕ) (t : (to ≤ place .to) × (to ≤ length s) × (to < length s → to ≡ place .to))
+    (f : (from ≤ place .from) × (from ≤ to) × (from < to → from ≡ place .from)) where
+  part-to : take (to - place .from) (drop (place .from) s) ≡ part place s
+  part-to = by (ltb to (length s)) refl
+    where
+      by : (q : Bool) → ltb to (length s) ≡ q → take (to - place .from) (drop (place .from) s) ≡ part place s
+      by true e = rw (t .2 (ltb-true to (length s) e))
+      by false e =
+          let n : to ≡ length s = omega (arith, ltb-false to (length s) e) in
+          rw n (no-more (place .to) (place .from) s (omega arith))
 
-part-from : (s : Bytes) (f e : ℕ) → take (e - least f e) (drop (least f e) s) ≡ take (e - f) (drop f s)
-part-from s f e = by (ltb f e) refl
-  where
-    by : (q : Bool) → ltb f e ≡ q → take (e - pick q f e) (drop (pick q f e) s) ≡ take (e - f) (drop f s)
-    by true x = refl
-    by false x = none-between e e e s (omega arith) ∙ sym (none-between e f f s (ltb-false f e x))
-
-module _ (s : Bytes) (place : Span) (to from : ℕ) (t : to ≡ least (place .to) (length s)) (f : from ≡ least (place .from) to) where
-  pub part-inside : (from ≤ to) × (to ≤ length s)
-  part-inside = (omega (arith, least-right (place .from) to), omega (arith, least-right (place .to) (length s)))
-
-  pub part-within : length (take (to - from) (drop from s)) ≤ length s
-  part-within = simp (length-take, length-drop) (omega arith)
+  part-from : take (to - from) (drop from s) ≡ take (to - place .from) (drop (place .from) s)
+  part-from = by (ltb from to) refl
+    where
+      by : (q : Bool) → ltb from to ≡ q → take (to - from) (drop from s) ≡ take (to - place .from) (drop (place .from) s)
+      by true e = rw (f .2 (ltb-true from to e))
+      by false e =
+          let n = ltb-false from to e in
+          none-between to from from s n ∙ sym (none-between to (place .from) (place .from) s (omega arith))
 
   pub part-same : take (to - from) (drop from s) ≡ part place s
-  part-same =
-      let a : take (to - from) (drop from s) ≡ take (to - place .from) (drop (place .from) s) = rw f (part-from s (place .from) to) in
-      let b : take (to - place .from) (drop (place .from) s) ≡ part place s = rw t (part-to s (place .from) (place .to)) in
-      a ∙ b
+  part-same = part-from ∙ part-to
 
 pub part-length : (place : Span) (s : Bytes) → length (part place s) ≤ length s
 part-length place s = simp (length-take, length-drop) (omega arith)

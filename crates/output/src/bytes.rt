@@ -1,13 +1,11 @@
 // Single bytes and runs of bytes.
-ghost use mathlib.Core.Path.{_≡_};
 ghost use mathlib.Core.List.{[], _∷_};
 ghost use Prim.Native.Nat.{_+_, _<_, _≤_, _^_};
 ghost use lib.ListN.{length};
-ghost use Rattle.page.specs.Bytes.{bytes, part};
+ghost use Rattle.page.specs.Bytes.{bytes};
 ghost use Rattle.page.specs.Form.{line-end};
 ghost use Rattle.output.specs.Put.{Put};
-ghost use Rattle.output.specs.Raw.{least};
-use page::Span;
+use page::LineEnd;
 
 pub fn put_byte(out: &mut [u8], at: usize, b: u8) -> usize
     requires { ⌜ at < 2 ^ 62 ⌝ }
@@ -63,25 +61,6 @@ pub fn put_bytes(out: &mut [u8], at: usize, s: &[u8]) -> usize
     clip_bytes(out, at, s)
 }
 
-fn least_of(a: usize, b: usize) -> usize
-    ensures { λ r. ⌜ r ≡ least a b ⌝ }
-{
-    if a < b {
-        return a;
-    }
-    b
-}
-
-// A part of the file; past the file's end nothing stands.
-pub fn put_part(out: &mut [u8], at: usize, file: &[u8], place: Span) -> usize
-    requires { ⌜ at + length (now file) < 2 ^ 62 ⌝ }
-    ensures { λ r. ⌜ Put (now (out .entry)) at (part place (now (file .entry))) (now (out .exit)) r ⌝ }
-{
-    let to = least_of(place.to, file.len());
-    let from = least_of(place.from, to);
-    put_bytes(out, at, &file[from..to])
-}
-
 // "One space after each separating `;`"
 pub fn put_separator(out: &mut [u8], at: usize) -> usize
     requires { ⌜ at + 2 < 2 ^ 62 ⌝ }
@@ -91,9 +70,11 @@ pub fn put_separator(out: &mut [u8], at: usize) -> usize
 }
 
 // "Each line ends in LF": every written line's end is put here.
-pub fn put_line_end(out: &mut [u8], at: usize) -> usize
+pub fn put_line_end(out: &mut [u8], at: usize, ends: LineEnd) -> usize
     requires { ⌜ at + 2 < 2 ^ 62 ⌝ }
-    ensures { λ r. ⌜ Put (now (out .entry)) at line-end (now (out .exit)) r ⌝ }
+    ensures { λ r. ⌜ Put (now (out .entry)) at (line-end ends) (now (out .exit)) r ⌝ }
 {
-    put_bytes(out, at, b"\n")
+    match ends {
+        LineEnd::Lf => put_bytes(out, at, b"\n"),
+    }
 }

@@ -12,4 +12,5 @@ pub use bytes::put_separator;
 pub use own::hand_own;
 pub use room::refuse_room;
 pub use texts::put_quoted;
+pub use texts::put_raw;
 pub use texts::put_raw_part;

@@ -7,7 +7,7 @@ ghost use Rattle.page.specs.Form.{doubled, quoted};
 ghost use Rattle.output.specs.Put.{Put};
 ghost use Rattle.output.specs.Raw.{raw-text};
 use crate::bytes::put_byte;
-use crate::bytes::put_part;
+use crate::bytes::put_bytes;
 use page::Span;
 
 fn put_doubled_byte(out: &mut [u8], at: usize, b: u8) -> usize
@@ -45,12 +45,22 @@ pub fn put_quoted(out: &mut [u8], at: usize, s: &[u8]) -> usize
     put_byte(out, b, 34)
 }
 
-// A text by the place of what stands between its quotes in a file, where a quote is doubled already.
+// A text by what stands between its quotes in a file, where a quote is doubled already.
+pub fn put_raw(out: &mut [u8], at: usize, raw: &[u8]) -> usize
+    requires { ⌜ at + length (now raw) + 2 < 2 ^ 62 ⌝ }
+    ensures { λ r. ⌜ Put (now (out .entry)) at (raw-text (now (raw .entry))) (now (out .exit)) r ⌝ }
+{
+    let a = put_byte(out, at, 34);
+    let b = put_bytes(out, a, raw);
+    put_byte(out, b, 34)
+}
+
+// The same by its place; past the file's end nothing stands.
 pub fn put_raw_part(out: &mut [u8], at: usize, file: &[u8], place: Span) -> usize
     requires { ⌜ at + length (now file) + 2 < 2 ^ 62 ⌝ }
     ensures { λ r. ⌜ Put (now (out .entry)) at (raw-text (part place (now (file .entry)))) (now (out .exit)) r ⌝ }
 {
-    let a = put_byte(out, at, 34);
-    let b = put_part(out, a, file, place);
-    put_byte(out, b, 34)
+    let to = lines::least(place.to, file.len());
+    let from = lines::least(place.from, to);
+    put_raw(out, at, &file[from..to])
 }

@@ -149,15 +149,21 @@ pub place-here : (w : Bytes) (k i at : ℕ) → k ≤ i → field-place (k - i) 
 unfolding field-place
 place-here w k i at h = let n : k - i ≡ 0 = omega arith in rw n
 
--- the fields that are left at the place of field k
-place-left : (w : Bytes) (k at : ℕ) → k < length (from w at) → from w (field-place k at w) ≡ drop k (from w at)
+-- the fields that are left where field k begins
+pub place-left : (w : Bytes) (k at : ℕ) → from w (field-place k at w) ≡ drop k (from w at)
 unfolding field-place
-place-left w zero at h = refl
-place-left w (suc k) at h =
-    let i = from-in w at (omega arith) in
-    let e = at + field-size false (drop at w) in
-    let m = from-more w at e i refl in
-    place-left w k (e + 1) (omega (arith, ap length m)) ∙ sym (ap (drop (suc k)) m)
+place-left w zero at = refl
+place-left w (suc k) at = by (leb at (length w)) refl (place-left w k (at + field-size false (drop at w) + 1))
+  where
+    n : ℕ
+    n = field-size false (drop at w)
+
+    by : (b : Bool) → leb at (length w) ≡ b → from w (field-place k (at + n + 1) w) ≡ drop k (from w (at + n + 1))
+        → from w (field-place k (at + n + 1) w) ≡ drop (suc k) (from w at)
+    by true q ih = ih ∙ sym (ap (drop (suc k)) (from-more w at (at + n) (leb-true at (length w) q) refl))
+    by false q ih =
+        let l = leb-false at (length w) q in
+        ih ∙ ap (drop k) (from-end w (at + n + 1) (omega arith)) ∙ drop-of-length-le [] {i = k} (omega arith) ∙ sym (ap (drop (suc k)) (from-end w at l))
 
 -- the span of the field at a place, whose end is e
 module _ (w : Bytes) (at e : ℕ) (q : e ≡ at + field-size false (drop at w)) (h : (at ≤ e) × (e ≤ length w)) (r : Span)
@@ -186,7 +192,7 @@ module _ (w : Bytes) (k : ℕ) (h : k < length (fields w)) where
   e = at + field-size false (drop at w)
 
   left : from w at ≡ drop k (fields w)
-  left = place-left w k 0 (rw (from-all w) h) ∙ ap (drop k) (from-all w)
+  left = place-left w k 0 ∙ ap (drop k) (from-all w)
 
   begins : at ≤ length w
   begins = left-in w k at h (sym left)

@@ -99,7 +99,7 @@ plain-some : {l : Bytes} → Plain l → 0 < length l
 plain-some (one q) = omega arith
 plain-some (more q h) = omega arith
 
-ended-some : {l : Bytes} → Ended l → 0 < length l
+pub ended-some : {l : Bytes} → Ended l → 0 < length l
 ended-some (lf q) = omega arith
 ended-some (after q h) = omega arith
 

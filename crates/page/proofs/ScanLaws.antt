@@ -12,6 +12,7 @@ use lib.ListN.{length, getD, take, drop, drop-of-length-le, length-take, length-
 use lib.Seq.{drop-cons, take-suc, length-take-le, take-take, drop-drop}
 use Rattle.page.specs.declared.Span.{Span}
 use Rattle.page.specs.Bytes.{Bytes, pick, same, all, until, keep, kept-after, part, moved, space, no-space, trimOf, trim}
+use Rattle.page.proofs.TestLaws.{and-left, and-right}
 
 -- what closes the answers of a function that goes by tests, where its definition goes by `pick`
 pub ruleset tests = (needs, eq-eqb, ne-eqb, lt-ltb, le-ltb, le-leb, lt-leb)
@@ -49,6 +50,12 @@ pub until-le : (p : ℕ → Bool) (s : Bytes) → until p s ≤ length s
 unfolding until
 until-le p [] = omega arith
 until-le p (b ∷ bs) = stop-le (p b) (until p bs) (length bs) (until-le p bs)
+
+pub all-at : (p : ℕ → Bool) (s : Bytes) (i : ℕ) → all p s ≡ true → i < length s → p (getD s i 0) ≡ true
+unfolding all
+all-at p [] i h l = absurd (omega arith)
+all-at p (b ∷ s) zero h l = and-left (p b) (all p s) h
+all-at p (b ∷ s) (suc i) h l = all-at p s i (and-right (p b) (all p s) h) (omega arith)
 
 -- the same bytes
 

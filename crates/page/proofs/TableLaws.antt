@@ -12,9 +12,11 @@ use borrow.Author.Tests.{leb-true, not-true}
 use Rattle.page.specs.declared.Column.{Column}
 use Rattle.page.specs.Bytes.{Bytes, bytes, pick, same}
 use Rattle.page.specs.Lines.{find}
-use Rattle.page.specs.Tables.{Named, Rule, points-differ, rule-number, Table, all-tables, TABLES, WIDEST, MOST, no-table, no-column, table-at, number-at, columns, width, column-at, name-at, rules, standing, table-named}
+use Rattle.page.specs.Tables.{Named, Rule, points-differ, rule-number, Table, all-tables, TABLES, WIDEST, MOST, no-table, no-column, table-at, number-at, columns, width, column-at, name-at, rules, table-named}
+use Rattle.page.specs.Order.{Order, arranged, standing, place}
 use Rattle.page.specs.Marks.{may-mark}
 use Rattle.page.proofs.NameLaws.{found}
+use Rattle.page.proofs.OrderLaws.{place-at, standing-length, standing-column}
 use Rattle.page.proofs.TestLaws.{and-left, and-right}
 
 -- the list is as long as it is said to be, and an entry past its end is no table
@@ -69,21 +71,7 @@ pub past-columns : (t k : ℕ) → width t ≤ k → column-at t k ≡ no-column
 unfolding column-at width
 past-columns t k h = ap (λ (c : Named). c .column) (List·getD-eq-default (columns t) no-column h)
 
--- in the words of `standing`
-
-pub standing-width : (t : ℕ) → length (standing t) ≡ width t
-unfolding standing width
-standing-width t = refl
-
-pub standing-column : (t k : ℕ) → getD (standing t) k no-column .column ≡ column-at t k
-unfolding standing column-at
-standing-column t k = refl
-
 -- the fields that may be marked
-
-pub may-mark-column : (t i : ℕ) → may-mark t i ≡ (leb 1 i && column-at t (i - 1) .fillable)
-unfolding may-mark standing column-at
-may-mark-column t i = refl
 
 pub fillable-within : (t k : ℕ) → column-at t k .fillable ≡ true → (k < width t) × (t < TABLES)
 fillable-within t k e =
@@ -122,23 +110,29 @@ one-fillable t k l e f =
     once-same (λ (c : Named). c .column .fillable) no-column refl (table-at t .columns)
     (table-test (λ (x : Table). once (λ (c : Named). c .column .fillable) (x .columns)) refl refl t) k l e f
 
-mark-parts : (t i : ℕ) → may-mark t i ≡ true → (1 ≤ i) × (column-at t (i - 1) .fillable ≡ true)
-mark-parts t i e =
-    let b : (leb 1 i && column-at t (i - 1) .fillable) ≡ true = sym (may-mark-column t i) ∙ e in
-    (leb-true 1 i (and-left (leb 1 i) (column-at t (i - 1) .fillable) b), and-right (leb 1 i) (column-at t (i - 1) .fillable) b)
+-- a field that may be marked is there, and its column may be filled
+pub mark-parts : (t : ℕ) (o : Order) (i : ℕ) → may-mark t o i ≡ true → (1 ≤ i) × (i ≤ length o) × (column-at t (getD o (i - 1) 0) .fillable ≡ true)
+unfolding may-mark
+mark-parts t o i e =
+    let l : 1 ≤ i = leb-true 1 i (and-left (leb 1 i) (getD (standing t o) (i - 1) no-column .column .fillable) e) in
+    let f = and-right (leb 1 i) (getD (standing t o) (i - 1) no-column .column .fillable) e in
+    let h : i - 1 < length o =
+    lt-of-not-le (λ k. false≢true (sym (ap (λ (c : Named). c .column .fillable) (List·getD-eq-default (standing t o) no-column (omega (arith, standing-length t o)))) ∙ f)) in
+    (l, omega arith, sym (ap (λ (c : Column). c .fillable) (standing-column t o (i - 1) h)) ∙ f)
 
-pub one-markable : (t i j : ℕ) → may-mark t i ≡ true → may-mark t j ≡ true → i ≡ j
-one-markable t i j e f =
-    let a = mark-parts t i e in
-    let b = mark-parts t j f in
-    let k : i - 1 ≡ j - 1 = one-fillable t (i - 1) (j - 1) (a .1) (b .1) in
+pub one-markable : (t : ℕ) (o : Order) → arranged (width t) o ≡ true → (i j : ℕ) → may-mark t o i ≡ true → may-mark t o j ≡ true → i ≡ j
+one-markable t o r i j e f =
+    let a = mark-parts t o i e in
+    let b = mark-parts t o j f in
+    let g : getD o (i - 1) 0 ≡ getD o (j - 1) 0 = one-fillable t (getD o (i - 1) 0) (getD o (j - 1) 0) (a .2) (b .2) in
+    let k : i - 1 ≡ j - 1 =
+    sym (place-at (width t) o r (i - 1) (omega (arith, a .0))) ∙ ap (λ (c : ℕ). place c o) g ∙ place-at (width t) o r (j - 1) (omega (arith, b .0)) in
     omega arith
 
-pub may-mark-within : (t i : ℕ) → may-mark t i ≡ true → (1 ≤ i) × (i ≤ width t) × (t < TABLES)
-may-mark-within t i e =
-    let a = mark-parts t i e in
-    let w = fillable-within t (i - 1) (a .1) in
-    (a .0, omega arith, w .1)
+pub may-mark-within : (t : ℕ) (o : Order) (i : ℕ) → may-mark t o i ≡ true → (1 ≤ i) × (i ≤ length o) × (t < TABLES)
+may-mark-within t o i e =
+    let a = mark-parts t o i e in
+    (a .0, a .1, fillable-within t (getD o (i - 1) 0) (a .2) .1)
 
 -- what two functions of a table's place give alike at each of the tables, computed as one equation
 

@@ -13,7 +13,7 @@ use lib.ListN.{length, getD, take, drop, drop-of-length-le, length-append}
 use lib.Seq.{drop-cons, take-at}
 use Rattle.page.specs.Bytes.{Bytes, pick, same}
 use Rattle.page.specs.Fields.{with-byte, bodyOf, textOf}
-use Rattle.page.specs.Section.{no-bytes}
+use Rattle.page.specs.Section.{own-of, worded, wordsOf, record-text, no-bytes}
 use Rattle.page.specs.Form.{doubled, quoted}
 use Rattle.page.proofs.TestLaws.{false-true, same-refl, same-true, both-ways}
 
@@ -171,3 +171,21 @@ no-bytes-same f = both-ways (no-bytes (textOf f)) (same f (34 ∷ 34 ∷ [])) (t
 
     back : same f (34 ∷ 34 ∷ []) ≡ true → no-bytes (textOf f) ≡ true
     back h = ap (λ (l : Bytes). no-bytes (textOf l)) (same-true f (34 ∷ 34 ∷ []) h) ∙ ap no-bytes empty-text
+
+-- the text of a record's field
+
+pub own-worded : (f : Bytes) (x : Option Bytes) → own-of (worded f x) ≡ x
+own-worded f none = refl
+own-worded f (some t) = refl
+
+pub record-text-is : (f : Bytes) → record-text f ≡ textOf f
+unfolding record-text wordsOf
+record-text-is f = own-worded f (textOf f)
+
+pub worded-none : (f : Bytes) → record-text f ≡ none → wordsOf f ≡ none
+unfolding wordsOf
+worded-none f e = ap (worded f) (sym (record-text-is f) ∙ e)
+
+pub worded-some : (f t : Bytes) → record-text f ≡ some t → wordsOf f ≡ some (record { own = t; span = record { from = 1; to = length f - 1 } })
+unfolding wordsOf
+worded-some f t e = ap (worded f) (sym (record-text-is f) ∙ e)

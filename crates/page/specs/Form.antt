@@ -12,22 +12,24 @@ use Rattle.page.specs.Tables.{Named, Table, table-at}
 use Rattle.page.specs.Head.{Head}
 use Rattle.page.specs.Records.{Datum, number, words, Record}
 use Rattle.page.specs.Model.{Content, Model}
+use Rattle.page.specs.declared.LineEnd.{LineEnd}
+use Rattle.page.specs.declared.LineEnd.the-variants as E
 use Rattle.page.specs.declared.Owner.the-variants as O
 use Rattle.page.specs.declared.Column.{Column}
 use Rattle.page.specs.declared.Date.{Date}
 use Rattle.page.specs.declared.Time.{Time}
 
 -- "Each line ends in LF."
-unfoldable pub line-end : Bytes
-line-end = 10 ∷ []
+unfoldable pub line-end : LineEnd → Bytes
+line-end E.Lf = 10 ∷ []
 
 -- "One space after each separating `;`, none elsewhere outside texts"
 unfoldable pub separated : List Bytes → Bytes
 separated [] = []
 separated (f ∷ fs) = bytes "; " ++ (f ++ separated fs)
 
-unfoldable pub line : String → List Bytes → Bytes
-line command fs = bytes command ++ (separated fs ++ line-end)
+unfoldable pub line : LineEnd → String → List Bytes → Bytes
+line e command fs = bytes command ++ (separated fs ++ line-end e)
 
 -- "Numbers without leading zeros": at most k + 1 digits
 unfoldable pub decimal-in : ℕ → ℕ → Bytes
@@ -63,18 +65,18 @@ charset-name true = bytes "ISO8859-1"
 charset-name false = bytes "ASCII"
 
 -- "present ones only"
-unfoldable pub line-if : String → Option Bytes → Bytes
-line-if command none = []
-line-if command (some t) = line command (quoted t ∷ [])
+unfoldable pub line-if : LineEnd → String → Option Bytes → Bytes
+line-if e command none = []
+line-if e command (some t) = line e command (quoted t ∷ [])
 
 -- "Order mod, src, chs, ver, ifv, dve, fft"
-unfoldable pub head-form : Head → Bytes
-head-form h =
-    line "mod" (bytes "DD.MM.YYYY" ∷ bytes "HH:MM:SS" ∷ bytes "free" ∷ []) ++
-    (line "src" (quoted (h .source) ∷ quoted (date-text (h .date)) ∷ quoted (time-text (h .time)) ∷ []) ++
-    (line "chs" (quoted (charset-name (h .latin)) ∷ []) ++
-    (line "ver" (quoted (h .ver) ∷ []) ++
-    (line "ifv" (quoted (h .ifv) ∷ []) ++ (line-if "dve" (h .dve) ++ line-if "fft" (h .fft))))))
+unfoldable pub head-form : LineEnd → Head → Bytes
+head-form e h =
+    line e "mod" (bytes "DD.MM.YYYY" ∷ bytes "HH:MM:SS" ∷ bytes "free" ∷ []) ++
+    (line e "src" (quoted (h .source) ∷ quoted (date-text (h .date)) ∷ quoted (time-text (h .time)) ∷ []) ++
+    (line e "chs" (quoted (charset-name (h .latin)) ∷ []) ++
+    (line e "ver" (quoted (h .ver) ∷ []) ++
+    (line e "ifv" (quoted (h .ifv) ∷ []) ++ (line-if e "dve" (h .dve) ++ line-if e "fft" (h .fft))))))
 
 -- "formats with the sizes above"
 unfoldable pub format-text : Column → Bytes
@@ -86,40 +88,40 @@ datum-text (number n) = decimal n
 datum-text (words o t) = quoted t
 
 -- a suggestion's mark, of field i
-unfoldable pub mark-line : ℕ → Bytes
-mark-line i = line "com" (quoted (bytes "SUGGESTED " ++ decimal i) ∷ [])
+unfoldable pub mark-line : LineEnd → ℕ → Bytes
+mark-line e i = line e "com" (quoted (bytes "SUGGESTED " ++ decimal i) ∷ [])
 
-unfoldable pub mark-of : ℕ → Datum → Bytes
-mark-of i (number n) = []
-mark-of i (words O.Operator t) = []
-mark-of i (words O.Suggestion t) = mark-line i
+unfoldable pub mark-of : LineEnd → ℕ → Datum → Bytes
+mark-of e i (number n) = []
+mark-of e i (words O.Operator t) = []
+mark-of e i (words O.Suggestion t) = mark-line e i
 
 -- "marks stand directly before their record": those of the values, the first counted as i
-unfoldable pub marks : ℕ → Record → Bytes
-marks i [] = []
-marks i (v ∷ vs) = mark-of i v ++ marks (suc i) vs
+unfoldable pub marks : LineEnd → ℕ → Record → Bytes
+marks e i [] = []
+marks e i (v ∷ vs) = mark-of e i v ++ marks e (suc i) vs
 
-unfoldable pub record-form : Record → Bytes
-record-form vs = marks 1 vs ++ line "rec" (map datum-text vs)
+unfoldable pub record-form : LineEnd → Record → Bytes
+record-form e vs = marks e 1 vs ++ line e "rec" (map datum-text vs)
 
-unfoldable pub records-form : List Record → Bytes
-records-form [] = []
-records-form (r ∷ rs) = record-form r ++ records-form rs
+unfoldable pub records-form : LineEnd → List Record → Bytes
+records-form e [] = []
+records-form e (r ∷ rs) = record-form e r ++ records-form e rs
 
-unfoldable pub table-head : Table → Bytes
-table-head t =
-    line "tbl" (bytes (t .name) ∷ []) ++
-    (line "atr" (map (λ (c : Named). bytes (c .name)) (t .columns)) ++
-    line "frm" (map (λ (c : Named). format-text (c .column)) (t .columns)))
+unfoldable pub table-head : LineEnd → Table → Bytes
+table-head e t =
+    line e "tbl" (bytes (t .name) ∷ []) ++
+    (line e "atr" (map (λ (c : Named). bytes (c .name)) (t .columns)) ++
+    line e "frm" (map (λ (c : Named). format-text (c .column)) (t .columns)))
 
-unfoldable pub content-form : Content → Bytes
-content-form c =
-    table-head (table-at (c .table)) ++ (records-form (c .records) ++ line "end" (decimal (length (c .records)) ∷ []))
+unfoldable pub content-form : LineEnd → Content → Bytes
+content-form e c =
+    table-head e (table-at (c .table)) ++ (records-form e (c .records) ++ line e "end" (decimal (length (c .records)) ∷ []))
 
 -- "sections and records keep their order"
-unfoldable pub tables-form : List Content → Bytes
-tables-form [] = []
-tables-form (c ∷ cs) = content-form c ++ tables-form cs
+unfoldable pub tables-form : LineEnd → List Content → Bytes
+tables-form e [] = []
+tables-form e (c ∷ cs) = content-form e c ++ tables-form e cs
 
-unfoldable pub formOf : Model → Bytes
-formOf m = head-form (m .head) ++ (tables-form (m .tables) ++ line "eof" (decimal (length (m .tables)) ∷ []))
+unfoldable pub formOf : LineEnd → Model → Bytes
+formOf e m = head-form e (m .head) ++ (tables-form e (m .tables) ++ line e "eof" (decimal (length (m .tables)) ∷ []))

@@ -9,7 +9,8 @@ use lib.ListN.{length, getD}
 use Rattle.page.specs.Bytes.{Bytes, bytes, pick}
 use Rattle.page.specs.Lines.{content, blank, command, rest, clean, Tbl, Atr, Frm, Rec, End, Com}
 use Rattle.page.specs.Fields.{fields, numberOf}
-use Rattle.page.specs.Tables.{Named, Rule, points-differ, TABLES, table-at, columns, rules, standing}
+use Rattle.page.specs.Tables.{Named, Rule, points-differ, TABLES, table-at, columns, rules}
+use Rattle.page.specs.Order.{Order, listed-order, standing, by-column, column-in}
 use Rattle.page.specs.Marks.{remarkOf, may-mark}
 use Rattle.page.specs.Section.{format-ok, record-text}
 use Rattle.page.specs.Records.{Datum, number, words, Record}
@@ -48,16 +49,16 @@ pub data Formats : List Named → List Bytes → Type 0 where
   no-format : Formats [] []
   a-format : {c : Named} {cs : List Named} {f : Bytes} {fs : List Bytes} → format-ok (c .column .text) f ≡ true → Formats cs fs → Formats (c ∷ cs) (f ∷ fs)
 
-pub record FrmLine (latin : Bool) (t : ℕ) (l : Bytes) : Type 0 where
+pub record FrmLine (latin : Bool) (t : ℕ) (o : Order) (l : Bytes) : Type 0 where
   pub says : Says latin Frm l
-  pub formats : Formats (standing t) (fields-of l)
+  pub formats : Formats (standing t o) (fields-of l)
 
 -- a field holds a value of its column: a number in its range, a text of its size
 pub data Holds (o : Owner) (c : Column) (f : Bytes) : Datum → Type 0 where
   a-number : {n : ℕ} → c .text ≡ false → numberOf f ≡ N.Plus n → c .lo ≤ n → n ≤ c .hi → Holds o c f (number n)
   a-text : {t : Bytes} → c .text ≡ true → record-text f ≡ some t → length t ≤ c .hi → Holds o c f (words o t)
 
--- whose the text of field i is, where these marks stand before its record
+-- whose the text of column i is, where these are marked
 unfoldable pub marked : ℕ → List ℕ → Bool
 marked i [] = false
 marked i (m ∷ ms) = eqb m i || marked i ms
@@ -65,7 +66,7 @@ marked i (m ∷ ms) = eqb m i || marked i ms
 unfoldable pub owner-by : List ℕ → ℕ → Owner
 owner-by ms i = pick (marked i ms) O.Suggestion O.Operator
 
--- one field a column, the first counted as i
+-- one field a column, by column, the first counted as i
 pub data Values (ms : List ℕ) : ℕ → List Named → List Bytes → Record → Type 0 where
   no-field : {i : ℕ} → Values ms i [] [] []
   a-field : {i : ℕ} {c : Named} {cs : List Named} {f : Bytes} {fs : List Bytes} {v : Datum} {vs : Record} →
@@ -75,10 +76,15 @@ pub data Values (ms : List ℕ) : ℕ → List Named → List Bytes → Record �
 pub data Breaks (vs : Record) : Rule → Type 0 where
   same-points : {p : ℕ} → getD vs p (number 0) ≡ getD vs (p + 2) (number 0) → getD vs (p + 1) (number 0) ≡ getD vs (p + 3) (number 0) → Breaks vs (points-differ p)
 
+-- the values of a record's fields as they stand, after the marks ms
+pub record Reads (t : ℕ) (o : Order) (ms : List ℕ) (fs : List Bytes) (vs : Record) : Type 0 where
+  pub many : length fs ≡ length o
+  pub values : Values (map (column-in o) ms) 1 (columns t) (by-column o fs) vs
+
 -- a `rec` line after the marks ms
-pub record RecLine (latin : Bool) (t : ℕ) (ms : List ℕ) (vs : Record) (l : Bytes) : Type 0 where
+pub record RecLine (latin : Bool) (t : ℕ) (o : Order) (ms : List ℕ) (vs : Record) (l : Bytes) : Type 0 where
   pub says : Says latin Rec l
-  pub fields : Values ms 1 (standing t) (fields-of l) vs
+  pub fields : Reads t o ms (fields-of l) vs
   pub rules : (r : Rule) → List·Memᴰ r (rules t) → ¬ Breaks vs r
   pub filled : ¬ List·Memᴰ (words O.Suggestion []) vs
 
@@ -88,10 +94,10 @@ pub data Rises (i : ℕ) : List ℕ → Type 0 where
   above : {m : ℕ} {ms : List ℕ} → m < i → Rises i (m ∷ ms)
 
 -- a mark of field i, after the marks ms (the last one first)
-pub record MarkLine (latin : Bool) (t : ℕ) (ms : List ℕ) (i : ℕ) (l : Bytes) : Type 0 where
+pub record MarkLine (latin : Bool) (t : ℕ) (o : Order) (ms : List ℕ) (i : ℕ) (l : Bytes) : Type 0 where
   pub says : Says latin Com l
   pub reads : remarkOf (rest (content l)) ≡ R.Mark i
-  pub may : may-mark t i ≡ true
+  pub may : may-mark t o i ≡ true
   pub rises : Rises i ms
 
 -- "`end; count`"
@@ -111,15 +117,16 @@ pub data Silence (latin : Bool) : List Bytes → Type 0 where
   still : {l : Bytes} {ls : List Bytes} → Quiet latin l → Silence latin ls → Silence latin (l ∷ ls)
 
 -- records, each after its marks (ms: those that stand before these lines), then `end` with the count n
-pub data Records (latin : Bool) (t n : ℕ) : List ℕ → List Bytes → List Record → Type 0 where
-  pause : {ms : List ℕ} {l : Bytes} {ls : List Bytes} {rs : List Record} → Quiet latin l → Records latin t n ms ls rs → Records latin t n ms (l ∷ ls) rs
+pub data Records (latin : Bool) (t : ℕ) (o : Order) (n : ℕ) : List ℕ → List Bytes → List Record → Type 0 where
+  pause : {ms : List ℕ} {l : Bytes} {ls : List Bytes} {rs : List Record} → Quiet latin l → Records latin t o n ms ls rs → Records latin t o n ms (l ∷ ls) rs
   a-mark : {ms : List ℕ} {i : ℕ} {l : Bytes} {ls : List Bytes} {rs : List Record} →
-      MarkLine latin t ms i l → Records latin t n (i ∷ ms) ls rs → Records latin t n ms (l ∷ ls) rs
+      MarkLine latin t o ms i l → Records latin t o n (i ∷ ms) ls rs → Records latin t o n ms (l ∷ ls) rs
   a-record : {ms : List ℕ} {vs : Record} {l : Bytes} {ls : List Bytes} {rs : List Record} →
-      RecLine latin t ms vs l → Records latin t n [] ls rs → Records latin t n ms (l ∷ ls) (vs ∷ rs)
-  the-end : {l : Bytes} {ls : List Bytes} → EndLine latin n l → Silence latin ls → Records latin t n [] (l ∷ ls) []
+      RecLine latin t o ms vs l → Records latin t o n [] ls rs → Records latin t o n ms (l ∷ ls) (vs ∷ rs)
+  the-end : {l : Bytes} {ls : List Bytes} → EndLine latin n l → Silence latin ls → Records latin t o n [] (l ∷ ls) []
 
 -- these lines denote table t with the records rs: "The count equals the number of `rec` lines."
 abbrev pub Denotes : Bool → List Bytes → ℕ → List Record → Type 0
 Denotes latin ls t rs =
-    Then latin (TblLine latin t) (Then latin (AtrLine latin t) (Then latin (FrmLine latin t) (λ body. Records latin t (length rs) [] body rs))) ls
+    Then latin (TblLine latin t) (Then latin (AtrLine latin t)
+    (Then latin (FrmLine latin t (listed-order t)) (λ body. Records latin t (listed-order t) (length rs) [] body rs))) ls

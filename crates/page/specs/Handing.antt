@@ -8,12 +8,14 @@ use Rattle.page.specs.Bytes.{Bytes, pick}
 use Rattle.page.specs.Lines.{content, command, Rec}
 use Rattle.page.specs.Fields.{fields}
 use Rattle.page.specs.Tables.{column-at, width}
+use Rattle.page.specs.Order.{Order, place}
+use Rattle.page.specs.Marks.{owner-of}
 use Rattle.page.specs.Cut.{Section}
 use Rattle.page.specs.Section.{record-text}
-use Rattle.page.specs.Records.{own-bytes, waits, table-of}
+use Rattle.page.specs.Records.{own-bytes, waits, table-of, order-in}
 use Rattle.page.specs.Places.{Standing, stands}
 use Rattle.page.specs.Answers.{earlier, refuse-if, written, handed}
-use Rattle.page.specs.Reading.{section-at, row-at, find-refusal, verdict-of, value-refusal, words-in, record-of, value-in}
+use Rattle.page.specs.Reading.{section-at, row-at, find-refusal, verdict-of, value-refusal, record-of, value-in}
 use Rattle.page.specs.Writing.{put-refusal, put-after}
 use Rattle.page.specs.declared.Owner.the-variants as O
 use Rattle.page.specs.declared.Owner.{Owner}
@@ -29,12 +31,16 @@ unfoldable pub text-refusal : Bytes → ℕ → ℕ → ℕ → Refusal
 text-refusal s i r f =
     earlier (value-refusal s i r f) (refuse-if (not (column-at (table-of (section-at s i .lines)) (f - 1) .text)) 11)
 
+-- where column f (from 1) of a section stands, from 0
+unfoldable pub place-of : Bytes → ℕ → ℕ → ℕ
+place-of s i f = place (f - 1) (order-in (section-at s i .lines))
+
 unfoldable pub own-text : Bytes → ℕ → ℕ → ℕ → Bytes
-own-text s i r f = own-bytes (record-text (getD (fields (record-of (section-at s i) r .rest)) (f - 1) []))
+own-text s i r f = own-bytes (record-text (getD (fields (record-of (section-at s i) r .rest)) (place-of s i f) []))
 
 -- "Each text handed out says whose it is": its owner is the one that its value has
 unfoldable pub text-owner : Bytes → ℕ → ℕ → ℕ → Owner
-text-owner s i r f = words-in (record-of (section-at s i) r) f .owner
+text-owner s i r f = owner-of (record-of (section-at s i) r .mark) (suc (place-of s i f))
 
 abbrev pub copied : Bytes → Owner → Copied
 copied t o = record { length = length t; owner = o }
@@ -55,20 +61,20 @@ unfoldable pub cell-of : Value → List ℕ
 cell-of (Va.Number n) = 0 ∷ n ∷ 0 ∷ []
 cell-of (Va.Words x) = owner-cell (x .owner) ∷ x .from ∷ x .to ∷ []
 
--- the values of n fields of a record, the first counted as f
-unfoldable pub record-cells : ℕ → Standing → ℕ → ℕ → List ℕ
-record-cells t x f zero = []
-record-cells t x f (suc n) = cell-of (value-in t x f) ++ record-cells t x (suc f) n
+-- the values of n columns of a record, the first counted as f
+unfoldable pub record-cells : ℕ → Order → Standing → ℕ → ℕ → List ℕ
+record-cells t o x f zero = []
+record-cells t o x f (suc n) = cell-of (value-in t o x f) ++ record-cells t o x (suc f) n
 
 -- all records of a section's lines, which begin at a place, where a mark of field m waits
-unfoldable pub cells-in : ℕ → ℕ → ℕ → List Bytes → List ℕ
-cells-in t m at [] = []
-cells-in t m at (l ∷ ls) =
-    pick (eqb (command (content l)) Rec) (record-cells t (stands at l m) 1 (width t) ++ cells-in t 0 (at + length l) ls)
-    (cells-in t (waits m (content l)) (at + length l) ls)
+unfoldable pub cells-in : ℕ → Order → ℕ → ℕ → List Bytes → List ℕ
+cells-in t o m at [] = []
+cells-in t o m at (l ∷ ls) =
+    pick (eqb (command (content l)) Rec) (record-cells t o (stands at l m) 1 (width t) ++ cells-in t o 0 (at + length l) ls)
+    (cells-in t o (waits m (content l)) (at + length l) ls)
 
 unfoldable pub cellsOf : Section → List ℕ
-cellsOf x = cells-in (table-of (x .lines)) 0 (x .place) (x .lines)
+cellsOf x = cells-in (table-of (x .lines)) (order-in (x .lines)) 0 (x .place) (x .lines)
 
 -- "the first of 1, 2, 24 for the section, the section's verdict", then 21 for too little room
 unfoldable pub table-refusal : Bytes → ℕ → Refusal

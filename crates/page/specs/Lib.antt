@@ -2,6 +2,7 @@ pub mod Bytes
 pub mod Lines
 pub mod Fields
 pub mod Tables
+pub mod Order
 pub mod Cut
 pub mod Dates
 pub mod Header

@@ -6,7 +6,8 @@ use lib.Dec.{eqb, leb}
 use lib.ListN.{getD, take, drop}
 use Rattle.page.specs.Bytes.{Bytes, bytes, pick, same, trim}
 use Rattle.page.specs.Fields.{textOf, digits, value}
-use Rattle.page.specs.Tables.{no-column, standing}
+use Rattle.page.specs.Tables.{no-column}
+use Rattle.page.specs.Order.{Order, standing}
 use Rattle.page.specs.declared.Owner.{Owner}
 use Rattle.page.specs.declared.Owner.the-variants as O
 use Rattle.page.specs.declared.Remark.{Remark}
@@ -28,9 +29,9 @@ mark-in (some t) = mark-text t
 unfoldable pub remarkOf : Bytes → Remark
 remarkOf w = mark-in (textOf (trim w))
 
--- "Only these may be marked": field i of a section of table t, from 1
-unfoldable pub may-mark : ℕ → ℕ → Bool
-may-mark t i = leb 1 i && getD (standing t) (i - 1) no-column .column .fillable
+-- "Only these may be marked": field i, from 1, of a section of table t
+unfoldable pub may-mark : ℕ → Order → ℕ → Bool
+may-mark t o i = leb 1 i && getD (standing t o) (i - 1) no-column .column .fillable
 
 -- whose the text of field i is, where a mark of field m waits (0: none)
 unfoldable pub owner-of : ℕ → ℕ → Owner

@@ -9,6 +9,8 @@ use Rattle.page.specs.Head.{Head, head-values, latinOf}
 use Rattle.page.specs.Records.{Datum, number, words, Record, recordsOf, table-of}
 use Rattle.page.specs.declared.Owner.{Owner}
 use Rattle.page.specs.declared.Owner.the-variants as O
+use Rattle.page.specs.declared.Stays.{Stays}
+use Rattle.page.specs.declared.Stays.the-variants as St
 
 -- a table by its place in the list of tables, and its records
 pub record Content : Type 0 where
@@ -56,6 +58,20 @@ strip-content c = record { table = c .table; records = map (map strip-datum) (c 
 
 unfoldable pub strip-model : Model → Model
 strip-model m = record { head = m .head; tables = map strip-content (m .tables) }
+
+-- What is changed of what a file says: nothing, one text put in, or the marked texts taken out.
+pub data Changes : Type 0 where
+  nothing strip : Changes
+  fill : (i r f : ℕ) → (t : Bytes) → Changes
+
+unfoldable pub changed : Changes → Model → Model
+changed nothing m = m
+changed strip m = strip-model m
+changed (fill i r f t) m = fill-model i r f t m
+
+-- "sections and records keep their order"
+unfoldable pub kept : Stays → Model → Model
+kept St.All m = m
 
 -- a record's value, from 1; past the end, nothing
 unfoldable pub datum-at : ℕ → ℕ → ℕ → Model → Datum

@@ -1,21 +1,25 @@
 -- What a call hands out of a file: the header's values, one row, all rows, one value.
 use mathlib.Core.Bool.{Bool, _||_}
 use mathlib.Core.List.{List, [], _++_}
-use Prim.Native.Nat.{ℕ, _+_, _-_}
+use Prim.Native.Nat.{ℕ, suc, _-_}
 use lib.Dec.{eqb, ltb}
 use lib.ListN.{length, getD, drop}
-use Rattle.page.specs.Bytes.{Bytes, pick}
+use Rattle.page.specs.Bytes.{Bytes, pick, moved}
 use Rattle.page.specs.Fields.{fields}
 use Rattle.page.specs.Tables.{column-at, width}
+use Rattle.page.specs.Order.{Order, place}
 use Rattle.page.specs.Cut.{Section, sections, header-lines}
 use Rattle.page.specs.Head.{header-values, latinOf}
 use Rattle.page.specs.Marks.{owner-of}
-use Rattle.page.specs.Section.{amount-at}
-use Rattle.page.specs.Records.{table-of}
-use Rattle.page.specs.Places.{Standing, field-span, unquoted, record-at}
+use Rattle.page.specs.Section.{fieldOf}
+use Rattle.page.specs.Records.{table-of, order-in}
+use Rattle.page.specs.Places.{Standing, field-span, record-at}
 use Rattle.page.specs.Answers.{refusal, sound, earlier, refuse-if, checked, headed, listed, got}
 use Rattle.page.specs.File.{header-refusal, rowOf, rowsOf, file-refusal}
-use Rattle.page.specs.declared.Text.{Text}
+use Rattle.page.specs.declared.Column.{Column}
+use Rattle.page.specs.declared.Field.{Field}
+use Rattle.page.specs.declared.Field.the-variants as F
+use Rattle.page.specs.declared.Owner.{Owner}
 use Rattle.page.specs.declared.Value.{Value}
 use Rattle.page.specs.declared.Value.the-variants as Va
 use Rattle.page.specs.declared.Row.{Row}
@@ -73,24 +77,34 @@ value-refusal s i r f =
     (earlier (verdict-of i (row-at s i))
     (refuse-if (outside r (row-at s i .records) || outside f (width (table-of (section-at s i .lines)))) 24))
 
--- field f (from 1) of a record of table t that stands so
-unfoldable pub words-in : Standing → ℕ → Text
-words-in x f =
-    record {
-      from = x .at + unquoted (field-span (x .rest) (f - 1)) .from;
-      to = x .at + unquoted (field-span (x .rest) (f - 1)) .to;
-      owner = owner-of (x .mark) f;
-    }
+-- a field that stands k bytes later
+abbrev pub later-field : ℕ → Field → Field
+later-field k (F.Text sp) = F.Text (moved k sp)
+later-field k (F.Number n) = F.Number n
+later-field k (F.Refused v) = F.Refused v
 
-unfoldable pub value-in : ℕ → Standing → ℕ → Value
-value-in t x f = pick (column-at t (f - 1) .text) (Va.Words (words-in x f)) (Va.Number (amount-at (fields (x .rest)) (f - 1)))
+-- the field at place p, from 0, of what follows a line's first `;`
+unfoldable pub field-at : Column → Bytes → ℕ → Field
+field-at c w p = later-field (field-span w p .from) (fieldOf c (getD (fields w) p []))
+
+-- what a field is handed out as: no field of a sound record is refused
+abbrev pub valued : Owner → Field → Value
+valued o (F.Text sp) = Va.Words (record { from = sp .from; to = sp .to; owner = o })
+valued o (F.Number n) = Va.Number n
+valued o (F.Refused v) = Va.Number 0
+
+-- column f (from 1) of a record of table t that stands so
+unfoldable pub value-in : ℕ → Order → Standing → ℕ → Value
+value-in t o x f =
+    valued (owner-of (x .mark) (suc (place (f - 1) o)))
+    (later-field (x .at) (field-at (column-at t (f - 1)) (x .rest) (place (f - 1) o)))
 
 -- record r (from 1) of a section
 unfoldable pub record-of : Section → ℕ → Standing
 record-of x r = record-at (r - 1) 0 (x .place) (x .lines)
 
 unfoldable pub value-at : Section → ℕ → ℕ → Value
-value-at x r f = value-in (table-of (x .lines)) (record-of x r) f
+value-at x r f = value-in (table-of (x .lines)) (order-in (x .lines)) (record-of x r) f
 
 unfoldable pub valueOf : Bytes → ℕ → ℕ → ℕ → Got
 valueOf s i r f = got (value-refusal s i r f) (value-at (section-at s i) r f)

@@ -8,7 +8,8 @@ use lib.ListN.{getD}
 use Rattle.page.specs.Bytes.{Bytes, pick}
 use Rattle.page.specs.Lines.{content, command, rest, Rec, Com}
 use Rattle.page.specs.Fields.{fields, numberOf}
-use Rattle.page.specs.Tables.{Named, standing, table-named}
+use Rattle.page.specs.Tables.{Named, columns, table-named}
+use Rattle.page.specs.Order.{Order, listed-order, by-column, column-in}
 use Rattle.page.specs.Marks.{remarkOf, owner-of}
 use Rattle.page.specs.Section.{record-text, amount, outcome}
 use Rattle.page.specs.declared.Owner.{Owner}
@@ -36,7 +37,7 @@ own-bytes (some t) = t
 unfoldable pub datumOf : Owner → Column → Bytes → Datum
 datumOf o c f = pick (c .text) (words o (own-bytes (record-text f))) (number (amount (numberOf f)))
 
--- the values of a record's fields, the first counted as i, where a mark of field m waits
+-- the values of a record's fields, by column, the first counted as i, where a mark of column m waits
 unfoldable pub valuesOf : ℕ → ℕ → List Named → List Bytes → Record
 valuesOf m i [] fs = []
 valuesOf m i (c ∷ cs) [] = []
@@ -51,24 +52,28 @@ waiting m (R.Mark i) = i
 unfoldable pub waits : ℕ → Bytes → ℕ
 waits m c = pick (eqb (command c) Com) (waiting m (remarkOf (rest c))) m
 
-unfoldable pub record-in : ℕ → ℕ → Bytes → Record
-record-in t m c = valuesOf m 1 (standing t) (fields (rest c))
+unfoldable pub record-in : ℕ → Order → ℕ → Bytes → Record
+record-in t o m c = valuesOf (column-in o m) 1 (columns t) (by-column o (fields (rest c)))
 
 -- the records of a sound section's lines; n lines have been read, and a mark of field m waits
-unfoldable pub entries : ℕ → ℕ → ℕ → List Bytes → List Entry
-entries t m n [] = []
-entries t m n (l ∷ ls) =
-    pick (eqb (command (content l)) Rec) (record { line = suc n; values = record-in t m (content l) } ∷ entries t 0 (suc n) ls)
-    (entries t (waits m (content l)) (suc n) ls)
+unfoldable pub entries : ℕ → Order → ℕ → ℕ → List Bytes → List Entry
+entries t o m n [] = []
+entries t o m n (l ∷ ls) =
+    pick (eqb (command (content l)) Rec) (record { line = suc n; values = record-in t o m (content l) } ∷ entries t o 0 (suc n) ls)
+    (entries t o (waits m (content l)) (suc n) ls)
 
 -- the table that a section's first line names, by its place in the list of tables
 unfoldable pub table-of : List Bytes → ℕ
 table-of [] = table-named []
 table-of (l ∷ ls) = table-named (getD (fields (rest (content l))) 0 [])
 
+-- which column stands where in a sound section's lines
+unfoldable pub order-in : List Bytes → Order
+order-in ls = listed-order (table-of ls)
+
 -- "A refused section hands out no records."
 unfoldable pub entriesOf : Bool → List Bytes → List Entry
-entriesOf latin ls = pick (eqb (outcome latin ls .verdict) 0) (entries (table-of ls) 0 0 ls) []
+entriesOf latin ls = pick (eqb (outcome latin ls .verdict) 0) (entries (table-of ls) (order-in ls) 0 0 ls) []
 
 unfoldable pub recordsOf : Bool → List Bytes → List Record
 recordsOf latin ls = map (λ (e : Entry). e .values) (entriesOf latin ls)

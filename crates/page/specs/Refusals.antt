@@ -10,11 +10,12 @@ use lib.ListN.{length}
 use Rattle.page.specs.Bytes.{Bytes, bytes}
 use Rattle.page.specs.Lines.{content, blank, command, rest, clean, Tbl, Atr, Frm, Rec, End, Com, Unknown, Missing}
 use Rattle.page.specs.Fields.{numberOf}
-use Rattle.page.specs.Tables.{Named, Rule, rule-number, TABLES, table-at, columns, rules, standing}
+use Rattle.page.specs.Tables.{Named, Rule, rule-number, TABLES, table-at, columns, rules}
+use Rattle.page.specs.Order.{Order, listed-order, standing}
 use Rattle.page.specs.Marks.{remarkOf, may-mark}
 use Rattle.page.specs.Section.{record-text, table-in}
 use Rattle.page.specs.Records.{Datum, words, Record}
-use Rattle.page.specs.Grammar.{fields-of, Quiet, TblLine, AtrLine, FrmLine, MarkLine, RecLine, EndLine, Formats, Holds, Values, Breaks, Rises}
+use Rattle.page.specs.Grammar.{fields-of, Quiet, TblLine, AtrLine, FrmLine, MarkLine, RecLine, EndLine, Formats, Holds, Reads, Breaks, Rises}
 use Rattle.page.specs.File.{any}
 use Rattle.page.specs.declared.Number.the-variants as N
 use Rattle.page.specs.declared.Owner.the-variants as O
@@ -72,12 +73,12 @@ rules-laws B [] = []
 rules-laws B (r ∷ rs) = law (rule-number r) (B r) ∷ rules-laws B rs
 
 -- "`rec` 10, each field from the left, 14, 15 for a marked empty text"
-abbrev pub rec-laws : ℕ → List ℕ → List Bytes → List Law
-rec-laws t ms fs =
-    law 10 (¬ (length fs ≡ length (standing t))) ∷
-    (fields-laws (standing t) fs ++
-    (rules-laws (λ (r : Rule). (vs : Record) × Values ms 1 (standing t) fs vs × Breaks vs r) (rules t) ++
-    (law 15 ((vs : Record) × Values ms 1 (standing t) fs vs × List·Memᴰ (words O.Suggestion []) vs) ∷ [])))
+abbrev pub rec-laws : ℕ → Order → List ℕ → List Bytes → List Law
+rec-laws t o ms fs =
+    law 10 (¬ (length fs ≡ length o)) ∷
+    (fields-laws (standing t o) fs ++
+    (rules-laws (λ (r : Rule). (vs : Record) × Reads t o ms fs vs × Breaks vs r) (rules t) ++
+    (law 15 ((vs : Record) × Reads t o ms fs vs × List·Memᴰ (words O.Suggestion []) vs) ∷ [])))
 
 -- "`end` 15 for a mark without record, 10, 12, 16"
 abbrev pub end-laws : List ℕ → ℕ → List Bytes → List Law
@@ -89,8 +90,8 @@ end-laws ms n fs =
 abbrev pub command-laws : Phase → ℕ → List Bytes → List Law
 command-laws P.Tbl k fs = law 10 (¬ One fs) ∷ law 7 (¬ ((t : ℕ) × (t < TABLES) × (fs ≡ bytes (table-at t .name) ∷ []))) ∷ []
 command-laws (P.Atr t) k fs = law 8 (¬ (fs ≡ map (λ (c : Named). bytes (c .name)) (columns t))) ∷ []
-command-laws (P.Frm t) k fs = law 9 (¬ Formats (standing t) fs) ∷ []
-command-laws (P.Rows t m n) k fs = either-laws (eqb k Rec) (rec-laws t (marks-of m) fs) (end-laws (marks-of m) n fs)
+command-laws (P.Frm t) k fs = law 9 (¬ Formats (standing t (listed-order t)) fs) ∷ []
+command-laws (P.Rows t m n) k fs = either-laws (eqb k Rec) (rec-laws t (listed-order t) (marks-of m) fs) (end-laws (marks-of m) n fs)
 command-laws (P.Ended t n) k fs = []
 
 -- "A mark that is unreadable, not allowed, not rising, before `frm` or after `end` is 15 at its own line."
@@ -100,7 +101,7 @@ GoodMark p R.Unreadable = ⊥
 GoodMark P.Tbl (R.Mark i) = ⊥
 GoodMark (P.Atr t) (R.Mark i) = ⊥
 GoodMark (P.Frm t) (R.Mark i) = ⊥
-GoodMark (P.Rows t m n) (R.Mark i) = (may-mark t i ≡ true) × Rises i (marks-of m)
+GoodMark (P.Rows t m n) (R.Mark i) = (may-mark t (listed-order t) i ≡ true) × Rises i (marks-of m)
 GoodMark (P.Ended t n) (R.Mark i) = ⊥
 
 -- "in that line the first of 4, 5, 6, then" its command's own; a blank line has only 4
@@ -117,9 +118,9 @@ pub data Leads (latin : Bool) (l : Bytes) : Phase → Phase → Type 0 where
   quiet : {p : Phase} → Quiet latin l → Leads latin l p p
   tbl : {t : ℕ} → TblLine latin t l → Leads latin l P.Tbl (P.Atr t)
   atr : {t : ℕ} → AtrLine latin t l → Leads latin l (P.Atr t) (P.Frm t)
-  frm : {t : ℕ} → FrmLine latin t l → Leads latin l (P.Frm t) (P.Rows t 0 0)
-  mark : {t m n i : ℕ} → MarkLine latin t (marks-of m) i l → Leads latin l (P.Rows t m n) (P.Rows t i n)
-  record-line : {t m n : ℕ} {vs : Record} → RecLine latin t (marks-of m) vs l → Leads latin l (P.Rows t m n) (P.Rows t 0 (suc n))
+  frm : {t : ℕ} → FrmLine latin t (listed-order t) l → Leads latin l (P.Frm t) (P.Rows t 0 0)
+  mark : {t m n i : ℕ} → MarkLine latin t (listed-order t) (marks-of m) i l → Leads latin l (P.Rows t m n) (P.Rows t i n)
+  record-line : {t m n : ℕ} {vs : Record} → RecLine latin t (listed-order t) (marks-of m) vs l → Leads latin l (P.Rows t m n) (P.Rows t 0 (suc n))
   end : {t n : ℕ} → EndLine latin n l → Leads latin l (P.Rows t 0 n) (P.Ended t n)
 
 -- the lines ls lead from p to q, one after the other

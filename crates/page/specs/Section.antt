@@ -8,11 +8,13 @@ use lib.ListN.{length, getD, take, drop}
 use Rattle.page.specs.Bytes.{Bytes, bytes, pick, same, until}
 use Rattle.page.specs.Lines.{content, blank, command, rest, clean, Tbl, Atr, Frm, Rec, End, Com, Unknown}
 use Rattle.page.specs.Fields.{fields, textOf, numberOf, digit, digits, value}
-use Rattle.page.specs.Tables.{Named, Rule, points-differ, rule-number, TABLES, number-at, width, columns, rules, standing, table-named}
+use Rattle.page.specs.Tables.{Named, Rule, points-differ, rule-number, TABLES, number-at, width, columns, rules, table-named}
+use Rattle.page.specs.Order.{Order, listed-order, standing, by-column}
 use Rattle.page.specs.Marks.{remarkOf, may-mark}
 use Rattle.page.specs.declared.Number.{Number}
 use Rattle.page.specs.declared.Number.the-variants as N
 use Rattle.page.specs.declared.Column.{Column}
+use Rattle.page.specs.declared.Span.{Span}
 use Rattle.page.specs.declared.Field.{Field}
 use Rattle.page.specs.declared.Field.the-variants as F
 use Rattle.page.specs.declared.Remark.{Remark}
@@ -72,17 +74,32 @@ formats-ok [] (f ∷ fs) = false
 formats-ok (c ∷ cs) [] = false
 formats-ok (c ∷ cs) (f ∷ fs) = format-ok (c .column .text) f && formats-ok cs fs
 
-unfoldable pub frm-step : ℕ → List Bytes → Step
-frm-step t fs = choose (formats-ok (standing t) fs) (S.Go (P.Rows t 0 0)) (S.Stop 9)
+unfoldable pub frm-step : ℕ → Order → List Bytes → Step
+frm-step t o fs = choose (formats-ok (standing t o) fs) (S.Go (P.Rows t 0 0)) (S.Stop 9)
 
--- the text of a record's field
+-- the text of a record's field: its own bytes, and where it stands in the field, between the quotes
+pub record Wording : Type 0 where
+  pub own : Bytes
+  pub span : Span
+
+abbrev pub worded : Bytes → Option Bytes → Option Wording
+worded f none = none
+worded f (some t) = some (record { own = t; span = record { from = 1; to = length f - 1 } })
+
+unfoldable pub wordsOf : Bytes → Option Wording
+wordsOf f = worded f (textOf f)
+
+abbrev pub own-of : Option Wording → Option Bytes
+own-of none = none
+own-of (some x) = some (x .own)
+
 unfoldable pub record-text : Bytes → Option Bytes
-record-text f = textOf f
+record-text f = own-of (wordsOf f)
 
 -- "11 or 12, then 13": 13 is a number out of range, or a text over its size, a doubled quote counting once
-unfoldable pub text-field : ℕ → Bytes → Option Bytes → Field
-text-field size f none = F.Refused 11
-text-field size f (some t) = pick (leb (length t) size) (F.Text (record { from = 1; to = length f - 1 })) (F.Refused 13)
+unfoldable pub text-field : ℕ → Option Wording → Field
+text-field size none = F.Refused 11
+text-field size (some x) = pick (leb (length (x .own)) size) (F.Text (x .span)) (F.Refused 13)
 
 unfoldable pub number-field : ℕ → ℕ → Number → Field
 number-field lo hi (N.Plus n) = pick (leb lo n && leb n hi) (F.Number n) (F.Refused 13)
@@ -90,7 +107,7 @@ number-field lo hi (N.Minus n) = F.Refused 13
 number-field lo hi N.Nothing = F.Refused 12
 
 unfoldable pub fieldOf : Column → Bytes → Field
-fieldOf c f = pick (c .text) (text-field (c .hi) f (record-text f)) (number-field (c .lo) (c .hi) (numberOf f))
+fieldOf c f = pick (c .text) (text-field (c .hi) (wordsOf f)) (number-field (c .lo) (c .hi) (numberOf f))
 
 -- the paper's number for what a field is read as
 unfoldable pub field-number : Field → ℕ
@@ -113,7 +130,7 @@ amount N.Nothing = 0
 unfoldable pub amount-at : List Bytes → ℕ → ℕ
 amount-at fs k = amount (numberOf (getD fs k []))
 
--- whether a record's fields break a rule: "the two points are the same"
+-- whether a record's fields, by column, break a rule: "the two points are the same"
 unfoldable pub broken : Rule → List Bytes → Bool
 broken (points-differ p) fs = eqb (amount-at fs p) (amount-at fs (p + 2)) && eqb (amount-at fs (p + 1)) (amount-at fs (p + 3))
 
@@ -132,13 +149,13 @@ unfoldable pub empty-marked : ℕ → List Bytes → Bool
 empty-marked m fs = leb 1 m && no-bytes (record-text (getD fs (m - 1) []))
 
 -- "`rec` 10, each field from the left, 14, 15 for a marked empty text"
-unfoldable pub rec-verdict : ℕ → ℕ → List Bytes → ℕ
-rec-verdict t m fs =
+unfoldable pub rec-verdict : ℕ → Order → ℕ → List Bytes → ℕ
+rec-verdict t o m fs =
     pick (eqb (length fs) (width t))
-    (first-of (first-wrong (standing t) fs) (first-of (first-broken (rules t) fs) (pick (empty-marked m fs) 15 0))) 10
+    (first-of (first-wrong (standing t o) fs) (first-of (first-broken (rules t) (by-column o fs)) (pick (empty-marked m fs) 15 0))) 10
 
-unfoldable pub rec-step : ℕ → ℕ → ℕ → List Bytes → Step
-rec-step t m n fs = choose (eqb (rec-verdict t m fs) 0) (S.Go (P.Rows t 0 (n + 1))) (S.Stop (rec-verdict t m fs))
+unfoldable pub rec-step : ℕ → Order → ℕ → ℕ → List Bytes → Step
+rec-step t o m n fs = choose (eqb (rec-verdict t o m fs) 0) (S.Go (P.Rows t 0 (n + 1))) (S.Stop (rec-verdict t o m fs))
 
 -- "`end` 15 for a mark without record, 10, 12, 16": "The count equals the number of `rec` lines."
 unfoldable pub count-step : ℕ → ℕ → Number → Step
@@ -155,7 +172,7 @@ unfoldable pub mark-step : Phase → ℕ → Step
 mark-step P.Tbl i = S.Stop 15
 mark-step (P.Atr t) i = S.Stop 15
 mark-step (P.Frm t) i = S.Stop 15
-mark-step (P.Rows t m n) i = choose (may-mark t i && ltb m i) (S.Go (P.Rows t i n)) (S.Stop 15)
+mark-step (P.Rows t m n) i = choose (may-mark t (listed-order t) i && ltb m i) (S.Go (P.Rows t i n)) (S.Stop 15)
 mark-step (P.Ended t n) i = S.Stop 15
 
 unfoldable pub com-step : Phase → Remark → Step
@@ -167,9 +184,9 @@ com-step p (R.Mark i) = mark-step p i
 unfoldable pub line-step : Phase → ℕ → Bytes → Step
 line-step P.Tbl k w = choose (eqb k Tbl) (tbl-step (fields w)) (S.Stop 6)
 line-step (P.Atr t) k w = choose (eqb k Atr) (atr-step t (fields w)) (S.Stop 6)
-line-step (P.Frm t) k w = choose (eqb k Frm) (frm-step t (fields w)) (S.Stop 6)
+line-step (P.Frm t) k w = choose (eqb k Frm) (frm-step t (listed-order t) (fields w)) (S.Stop 6)
 line-step (P.Rows t m n) k w =
-    choose (eqb k Rec) (rec-step t m n (fields w)) (choose (eqb k End) (end-step t m n (fields w)) (S.Stop 6))
+    choose (eqb k Rec) (rec-step t (listed-order t) m n (fields w)) (choose (eqb k End) (end-step t m n (fields w)) (S.Stop 6))
 line-step (P.Ended t n) k w = S.Stop 6
 
 -- "in that line the first of 4, 5, 6, then" its command's own; c is the line's content

@@ -153,7 +153,3 @@ rules t = table-at t .rules
 -- a table by its name: its place in the list, or one past the last
 unfoldable pub table-named : Bytes → ℕ
 table-named w = find 0 (map (λ (t : Table). t .name) all-tables) w
-
--- "`atr` with exactly the columns below in this order": the columns of a section of table t, as they stand in its lines
-unfoldable pub standing : ℕ → List Named
-standing t = columns t

@@ -13,8 +13,12 @@ use Rattle.page.specs.Records.{Datum, number, words, table-of}
 use Rattle.page.specs.Answers.{earlier, refuse-if, written}
 use Rattle.page.specs.File.{limit, file-refusal}
 use Rattle.page.specs.Reading.{outside, section-at, row-at}
-use Rattle.page.specs.Model.{modelOf, datum-at, fill-model, strip-model}
+use Rattle.page.specs.Model.{modelOf, Changes, nothing, strip, fill, changed, kept, datum-at}
 use Rattle.page.specs.Form.{formOf}
+use Rattle.page.specs.declared.LineEnd.{LineEnd}
+use Rattle.page.specs.declared.LineEnd.the-variants as E
+use Rattle.page.specs.declared.Stays.{Stays}
+use Rattle.page.specs.declared.Stays.the-variants as St
 use Rattle.page.specs.declared.Refusal.{Refusal}
 use Rattle.page.specs.declared.Written.{Written}
 
@@ -29,9 +33,22 @@ putOf r form room = written (put-refusal r form room) (length form)
 unfoldable pub put-after : Refusal → Bytes → Bytes → Bytes
 put-after r form out = pick (eqb (put-refusal r form (length out) .number) 0) (form ++ drop (length form) out) out
 
+-- How a file is written: how its lines end, what is changed, and which records stay.
+pub record Plan : Type 0 where
+  pub ends : LineEnd
+  pub changes : Changes
+  pub stays : Stays
+
+-- "Each line ends in LF."
+abbrev pub plan : Changes → Plan
+plan c = record { ends = E.Lf; changes = c; stays = St.All }
+
+unfoldable pub form-by : Plan → Bytes → Bytes
+form-by p s = formOf (p .ends) (changed (p .changes) (kept (p .stays) (modelOf s)))
+
 -- "Only a file with verdict 0 is written; else its verdict is given."
 unfoldable pub write-form : Bytes → Bytes
-write-form s = formOf (modelOf s)
+write-form s = form-by (plan nothing) s
 
 unfoldable pub writeOf : Bytes → ℕ → Written
 writeOf s room = putOf (file-refusal s) (write-form s) room
@@ -40,7 +57,7 @@ unfoldable pub write-after : Bytes → Bytes → Bytes
 write-after s out = put-after (file-refusal s) (write-form s) out
 
 unfoldable pub strip-form : Bytes → Bytes
-strip-form s = formOf (strip-model (modelOf s))
+strip-form s = form-by (plan strip) s
 
 unfoldable pub stripOf : Bytes → ℕ → Written
 stripOf s room = putOf (file-refusal s) (strip-form s) room
@@ -67,7 +84,7 @@ fill-refusal s i r f t =
     (earlier (refuse-if (not (all (allowed (latinOf s)) t)) 4) (refuse-if (ltb 40 (length t)) 13))))))
 
 unfoldable pub fill-form : Bytes → ℕ → ℕ → ℕ → Bytes → Bytes
-fill-form s i r f t = formOf (fill-model i r f t (modelOf s))
+fill-form s i r f t = form-by (plan (fill i r f t)) s
 
 unfoldable pub fillOf : Bytes → ℕ → ℕ → ℕ → Bytes → ℕ → Written
 fillOf s i r f t room = putOf (fill-refusal s i r f t) (fill-form s i r f t) room

@@ -196,3 +196,13 @@ pub enum Handed {
     Is(Copied),
     Refused(Refusal),
 }
+
+// How the lines of a written file end.
+pub enum LineEnd {
+    Lf,
+}
+
+// Which records of a file are written.
+pub enum Stays {
+    All,
+}

@@ -8,32 +8,38 @@ use Rattle.page.specs.Bytes.{Bytes, pick}
 use Rattle.page.specs.Lines.{content, command, rest, Rec}
 use Rattle.page.specs.Fields.{fields}
 use Rattle.page.specs.Cut.{Section, sections}
+use Rattle.page.specs.Tables.{columns}
+use Rattle.page.specs.Order.{Order, by-column, column-in}
 use Rattle.page.specs.Section.{rec-verdict}
-use Rattle.page.specs.Records.{Record, waits, record-in, table-of}
+use Rattle.page.specs.Records.{Record, valuesOf, waits, record-in, table-of, order-in}
 use Rattle.page.specs.Model.{Content}
 use Rattle.page.specs.Rules.{Every}
 
--- the records of these lines, where a mark of field m waits
-unfoldable pub rows-of : ℕ → ℕ → List Bytes → List Record
-rows-of t m [] = []
-rows-of t m (l ∷ ls) =
-    pick (eqb (command (content l)) Rec) (record-in t m (content l) ∷ rows-of t 0 ls) (rows-of t (waits m (content l)) ls)
+-- what a record's line says, of which w is what stands after the first `;`
+abbrev pub row : ℕ → Order → ℕ → Bytes → Record
+row t o m w = valuesOf (column-in o m) 1 (columns t) (by-column o (fields w))
+
+-- the records of these lines, in the order o, where a mark of field m waits
+unfoldable pub rows-of : ℕ → Order → ℕ → List Bytes → List Record
+rows-of t o m [] = []
+rows-of t o m (l ∷ ls) =
+    pick (eqb (command (content l)) Rec) (record-in t o m (content l) ∷ rows-of t o 0 ls) (rows-of t o (waits m (content l)) ls)
 
 -- does each of them pass its rules?
-unfoldable pub passes : ℕ → ℕ → List Bytes → Bool
-passes t m [] = true
-passes t m (l ∷ ls) =
-    pick (eqb (command (content l)) Rec) (eqb (rec-verdict t m (fields (rest (content l)))) 0 && passes t 0 ls)
-    (passes t (waits m (content l)) ls)
+unfoldable pub passes : ℕ → Order → ℕ → List Bytes → Bool
+passes t o m [] = true
+passes t o m (l ∷ ls) =
+    pick (eqb (command (content l)) Rec) (eqb (rec-verdict t o m (fields (rest (content l)))) 0 && passes t o 0 ls)
+    (passes t o (waits m (content l)) ls)
 
 unfoldable pub said : List Bytes → Content
-said ls = record { table = table-of ls; records = rows-of (table-of ls) 0 ls }
+said ls = record { table = table-of ls; records = rows-of (table-of ls) (order-in ls) 0 ls }
 
 unfoldable pub said-in : Section → Content
 said-in x = said (x .lines)
 
 unfoldable pub passes-in : Section → Bool
-passes-in x = passes (table-of (x .lines)) 0 (x .lines)
+passes-in x = passes (table-of (x .lines)) (order-in (x .lines)) 0 (x .lines)
 
 -- the records of every section pass
 abbrev pub PassingIn : List Section → Type 0

@@ -1,20 +1,29 @@
 // One section of the written file.
 ghost use mathlib.Core.Path.{_≡_};
 ghost use mathlib.Core.Bool.{true};
+ghost use mathlib.Core.List.{[], _∷_};
 ghost use Prim.Native.Nat.{_+_, _<_, _≤_, _^_};
 ghost use lib.ListN.{length};
 ghost use Rattle.page.specs.Lines.{lines};
-ghost use Rattle.page.specs.Records.{table-of};
-ghost use Rattle.page.specs.Form.{records-form, content-form};
+ghost use Rattle.page.specs.Fields.{fields};
+ghost use Rattle.page.specs.Order.{listed-order};
+ghost use Rattle.page.specs.Section.{rec-verdict};
+ghost use Rattle.page.specs.Records.{table-of, order-in};
 ghost use Rattle.output.specs.Put.{Put};
-ghost use Rattle.recording.specs.Said.{rows-of, passes, said};
-ghost use Rattle.copies.specs.Changed.{changed-records, changed-content};
+ghost use Rattle.tables.specs.Orders.{held, Stands};
+ghost use Rattle.copies.specs.Changed.{kept-records};
+ghost use Rattle.copies.specs.Planned.{records-by, content-by};
+ghost use Rattle.recording.specs.Said.{row, rows-of, passes, said};
 use crate::record::put_record;
-use copies::Change;
-use copies::change_record;
+use copies::Plan;
+use copies::does_stay;
+use copies::plan_record;
 use frames::put_count_line;
 use frames::put_table_head;
 use lines::Cursor;
+use tables::WIDEST;
+use tables::is_listed;
+use tables::list_columns;
 
 // How far the writing has come, and how many records or sections were written.
 pub struct Progress {
@@ -22,29 +31,66 @@ pub struct Progress {
     pub count: usize,
 }
 
-// "records keep their order": s is the bytes of a section of table t whose records all passed their rules.
+// A record that passed its rules, after n that were written: if it stays, it is written. `listed`: the order o is known to be document
+// 01's own.
+fn put_staying(
+    out: &mut [u8],
+    at: usize,
+    n: usize,
+    w: &[u8],
+    t: usize,
+    o: &[u8; WIDEST],
+    listed: bool,
+    m: u64,
+    plan: Plan,
+    text: &[u8],
+) -> Progress
+    requires { ⌜ (at + length (records-by plan n (now text) (row t (held t (now o)) m (now w) ∷ [])) + 512 < 2 ^ 62)
+        × (length (now text) ≤ 40)
+        × Stands t (now o)
+        × (listed ≡ true → held t (now o) ≡ listed-order t)
+        × (rec-verdict t (held t (now o)) m (fields (now w)) ≡ 0)
+        × (n < 18446744073709551615) ⌝ }
+    ensures { λ r.
+        ⌜ Put (now (out .entry)) at
+        (records-by plan n (now (text .entry)) (row t (held t (now (o .entry))) m (now (w .entry)) ∷ [])) (now (out .exit)) (r .at)
+        × (r .count ≡ n + length (kept-records (plan .stays) (row t (held t (now (o .entry))) m (now (w .entry)) ∷ []))) ⌝ }
+{
+    let stays = plan.stays;
+    if does_stay(stays) {
+        let p = put_record(out, at, w, t, o, listed, m, plan_record(plan, n), text);
+        return Progress {
+            at: p,
+            count: n + 1,
+        };
+    }
+    Progress { at: at, count: n }
+}
+
+// "records keep their order": s is the bytes of a section of table t, in the order o, whose records all passed their rules.
 fn put_records(
     out: &mut [u8],
     at: usize,
     s: &[u8],
     t: usize,
-    change: Change,
+    o: &[u8; WIDEST],
+    plan: Plan,
     text: &[u8],
 ) -> Progress
-    requires { ⌜ (at
-        + length (records-form (changed-records (change .strip) (change .rec) (change .field) (now text) (rows-of t 0 (lines (now s)))))
-        + 512 < 2 ^ 62)
+    requires { ⌜ (at + length (records-by plan 0 (now text) (rows-of t (held t (now o)) 0 (lines (now s)))) + 512 < 2 ^ 62)
         × (length (now text) ≤ 40)
-        × (passes t 0 (lines (now s)) ≡ true) ⌝ }
+        × Stands t (now o)
+        × (passes t (held t (now o)) 0 (lines (now s)) ≡ true) ⌝ }
     ensures { λ r.
         ⌜ Put (now (out .entry)) at
-        (records-form (changed-records (change .strip) (change .rec) (change .field) (now (text .entry)) (rows-of t 0 (lines (now (s .entry)))))) (now (out .exit)) (r .at)
-        × (r .count ≡ length (rows-of t 0 (lines (now (s .entry))))) ⌝ }
+        (records-by plan 0 (now (text .entry)) (rows-of t (held t (now (o .entry))) 0 (lines (now (s .entry))))) (now (out .exit)) (r .at)
+        × (r .count ≡ length (kept-records (plan .stays) (rows-of t (held t (now (o .entry))) 0 (lines (now (s .entry)))))) ⌝ }
 {
+    let listed = is_listed(o, t);
     let mut c = Cursor { at: 0 };
     let mut m: u64 = 0;
     let mut n: usize = 0;
-    let mut o = at;
+    let mut p = at;
     while c.at < s.len() {
         let a = c.at;
         let l = c.line(s);
@@ -52,22 +98,15 @@ fn put_records(
         c = l.next;
         let x = lines::content_of(&s[a..e]);
         if commands::command_of(x) == commands::REC {
-            o = put_record(
-                out,
-                o,
-                lines::rest_of(x),
-                t,
-                m,
-                change_record(change, n),
-                text,
-            );
+            let q = put_staying(out, p, n, lines::rest_of(x), t, o, listed, m, plan, text);
+            p = q.at;
+            n = q.count;
             m = 0;
-            n += 1;
         } else {
             m = quoted::wait_on(x, m);
         }
     }
-    Progress { at: o, count: n }
+    Progress { at: p, count: n }
 }
 
 // The table that the section's first line names.
@@ -82,19 +121,18 @@ pub fn read_table(s: &[u8]) -> usize
 }
 
 // s is the bytes of a section whose records all passed their rules.
-pub fn put_section(out: &mut [u8], at: usize, s: &[u8], change: Change, text: &[u8]) -> usize
-    requires { ⌜ (at
-        + length (content-form (changed-content (change .strip) (change .rec) (change .field) (now text) (said (lines (now s)))))
-        + 2560 < 2 ^ 62)
+pub fn put_section(out: &mut [u8], at: usize, s: &[u8], plan: Plan, text: &[u8]) -> usize
+    requires { ⌜ (at + length (content-by plan (now text) (said (lines (now s)))) + 2560 < 2 ^ 62)
         × (length (now text) ≤ 40)
         × (0 < length (now s))
-        × (passes (table-of (lines (now s))) 0 (lines (now s)) ≡ true) ⌝ }
+        × (passes (table-of (lines (now s))) (order-in (lines (now s))) 0 (lines (now s)) ≡ true) ⌝ }
     ensures { λ r.
-        ⌜ Put (now (out .entry)) at
-        (content-form (changed-content (change .strip) (change .rec) (change .field) (now (text .entry)) (said (lines (now (s .entry)))))) (now (out .exit)) r ⌝ }
+        ⌜ Put (now (out .entry)) at (content-by plan (now (text .entry)) (said (lines (now (s .entry))))) (now (out .exit)) r ⌝ }
 {
+    let ends = plan.ends;
     let t = read_table(s);
-    let a = put_table_head(out, at, t);
-    let p = put_records(out, a, s, t, change, text);
-    put_count_line(out, p.at, b"end", p.count as u64)
+    let a = put_table_head(out, at, ends, t);
+    let o = list_columns();
+    let p = put_records(out, a, s, t, &o, plan, text);
+    put_count_line(out, p.at, ends, b"end", p.count as u64)
 }

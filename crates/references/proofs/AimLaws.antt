@@ -11,50 +11,62 @@ use lib.ListN.{length, getD, take, drop}
 use Rattle.page.specs.Bytes.{Bytes, pick}
 use Rattle.page.specs.Lines.{lines, content, command, rest, Rec}
 use Rattle.page.specs.Fields.{fields}
-use Rattle.page.specs.Tables.{MOST, table-at, standing}
-use Rattle.page.specs.Records.{valuesOf}
+use Rattle.page.specs.Tables.{MOST, table-at, width}
+use Rattle.page.specs.Order.{Order, arranged}
 use Rattle.page.specs.File.{any, by-primary, lost, first-record, filedOf}
 use Rattle.page.specs.declared.Refusal.{Refusal}
 use Rattle.page.proofs.TableLaws.{references-le}
-use Rattle.tables.specs.Choices.{key-choice, reference-at, target-at}
-use Rattle.keys.specs.Numbers.{refer-numbers}
+use Rattle.tables.specs.declared.choices.Choice.{Choice}
+use Rattle.tables.specs.Orders.{held}
+use Rattle.tables.specs.Choices.{key-choice, refer-choice, target-at}
+use Rattle.keys.specs.Numbers.{gathered}
+use Rattle.keys.proofs.GatherLaws.{gathered-reference}
 use Rattle.references.specs.declared.aims.Aim.{Aim}
 use Rattle.references.specs.declared.aims.Aims.{Aims}
 use Rattle.seats.specs.declared.seating.Seat.{Seat}
 use Rattle.seats.specs.declared.seating.Seats.{Seats}
 use Rattle.scans.specs.Scan.{is-record, first-line, some}
-use Rattle.seats.specs.Seating.{seat-at, Ready}
+use Rattle.seats.specs.Seating.{seat-at, seat-order, Ready, Ordered}
 use Rattle.seats.specs.Faults.{misses, loses, loses-any, lost-line, Looked}
 use Rattle.references.specs.Aims.{aim-at, reached, lacks, lacks-some, lacks-any, Aimed, Within, Aiming}
-use Rattle.references.proofs.LostLaws.{place-few, reaches-none, reaches-some, lost-none, lost-at}
+use Rattle.references.proofs.LostLaws.{place-few, place-table, reaches-none, reaches-some, lost-none, lost-at}
 use Rattle.seats.proofs.RepeatLaws.{seat-bounds}
 
 pub few-references : (t n : ℕ) → n ≡ length (table-at t .references) → n ≤ MOST
 few-references t n e = let l = references-le t in omega arith
 
-module _ (s : Bytes) (seats : Seats) (z : Ready s seats) (t r u : ℕ) (x : u ≡ target-at t r) (p : ℕ) (q : p ≡ getD (seats .place) u 0) where
+module _ (s : Bytes) (seats : Seats) (z : Ready s seats) (t : ℕ) (o : Order) (y : arranged (width t) o ≡ true)
+    (r : ℕ) (g : Choice) (w : g ≡ refer-choice t r o) (u : ℕ) (x : u ≡ target-at t r) (p : ℕ) (q : p ≡ getD (seats .place) u 0) where
   -- a target without a section
-  pub aimed-none : p ≡ 0 → (f : ℕ) → Aimed s seats t r (record { refer = f; target = u; from = 0; to = 0; key = 0 })
+  pub aimed-none : p ≡ 0 → Aimed s seats t o r (record { refer = g; target = u; from = 0; to = 0; key = record { kinds = 0; slots = 0 } })
   unfolding reached lines any
-  aimed-none e f = record { low = omega arith; high = omega arith; is = λ fs. reaches-none s seats z t r fs u x p q e }
+  aimed-none e = record { low = omega arith; high = omega arith; is = λ fs. reaches-none s seats z t o r fs u x p q e }
 
-  pub aimed-some : (p ≡ 0 → ⊥) → (a : Seat) → a ≡ seat-at seats (p - 1) → (k : ℕ) → k ≡ key-choice by-primary u
-      → (g : ℕ) → Aimed s seats t r (record { refer = g; target = u; from = a .from; to = a .to; key = k })
+  pub aimed-some : (p ≡ 0 → ⊥) → (a : Seat) → a ≡ seat-at seats (p - 1) → (h : List ℕ) → Ordered s (seat-at seats (p - 1)) h
+      → (k : Choice) → k ≡ key-choice by-primary u (held u h) → Aimed s seats t o r (record { refer = g; target = u; from = a .from; to = a .to; key = k })
   unfolding reached
-  aimed-some n a e k f g =
+  aimed-some n a e h v k f =
       let b = seat-bounds s seats z (p - 1) (place-few s seats z u p q n) a e in
-      record { low = b .0; high = b .1; is = λ fs. reaches-some s seats z t r fs u x p q n a e k f _ refl }
+      let m : seat-at seats (p - 1) .table ≡ u = place-table s seats z u p q n in
+      let d : held u h ≡ seat-order s (seat-at seats (p - 1)) = ap (λ (c : ℕ). held c h) (sym m) ∙ v .is in
+      record {
+        low = b .0;
+        high = b .1;
+        is = λ fs.
+            reaches-some s seats z t o r fs u x p q n a e k (f ∙ ap (key-choice by-primary u) d) (gathered g fs)
+            (ap (λ (c : Choice). gathered c fs) w ∙ gathered-reference t r o y 0 fs);
+      }
 
-pub aiming-three : (s : Bytes) (seats : Seats) (t : ℕ) (aims : Aims) → Aimed s seats t 0 (aim-at aims 0) → Aimed s seats t 1 (aim-at aims 1) → Aimed s seats t 2 (aim-at aims 2) → Aiming s seats t aims
-aiming-three s seats t aims a b c = record { each = by }
+pub aiming-three : (s : Bytes) (seats : Seats) (t : ℕ) (o : Order) (aims : Aims) → Aimed s seats t o 0 (aim-at aims 0) → Aimed s seats t o 1 (aim-at aims 1) → Aimed s seats t o 2 (aim-at aims 2) → Aiming s seats t o aims
+aiming-three s seats t o aims a b c = record { each = by }
   where
-    by : (r : ℕ) → r < MOST → Aimed s seats t r (aim-at aims r)
+    by : (r : ℕ) → r < MOST → Aimed s seats t o r (aim-at aims r)
     by zero h = a
     by (suc zero) h = b
     by (suc (suc zero)) h = c
     by (suc (suc (suc r))) h = absurd (omega arith)
 
-pub aims-within : {s : Bytes} {seats : Seats} {t : ℕ} {aims : Aims} → Aiming s seats t aims → Within s aims
+pub aims-within : {s : Bytes} {seats : Seats} {t : ℕ} {o : Order} {aims : Aims} → Aiming s seats t o aims → Within s aims
 aims-within z = record { each = λ r h. (z .each r h .low, z .each r h .high) }
 
 pub aim-bounds : {s : Bytes} {aims : Aims} → Within s aims → (r : ℕ) → r < MOST → (a : Aim) → a ≡ aim-at aims r → (a .from ≤ a .to) × (a .to ≤ length s)
@@ -69,13 +81,13 @@ some-same p q i zero h = refl
 some-same p q i (suc n) h = rw (h i (omega arith), some-same p q (suc i) n (λ k l. h k (omega arith)))
 
 -- a line that lacks a record by its aims loses it
-pub loses-is : {s : Bytes} {seats : Seats} {t : ℕ} {aims : Aims} → Aiming s seats t aims → (l : Bytes) → loses s seats t l ≡ lacks-some s aims t l
+pub loses-is : {s : Bytes} {seats : Seats} {t : ℕ} {o : Order} {aims : Aims} → Aiming s seats t o aims → (l : Bytes) → loses s seats t o l ≡ lacks-some s aims t l
 unfolding loses lacks-some misses lacks
-loses-is {s} {seats} {t} {aims} z l =
+loses-is {s} {seats} {t} {o} {aims} z l =
     let n = length (table-at t .references) in
     let fs = fields (rest (content l)) in
     let few : n ≤ MOST = few-references t n refl in
-    ap (λ (b : Bool). pick (is-record l) b false) (some-same (misses s seats t fs) (lacks s aims t fs) 0 n (λ k h. ap not (z .each k (omega arith) .is fs)))
+    ap (λ (b : Bool). pick (is-record l) b false) (some-same (misses s seats t o fs) (lacks s aims fs) 0 n (λ k h. ap not (z .each k (omega arith) .is fs)))
 
 line-same : (f g : List Bytes → Bytes → Bool) → ((b : List Bytes) (l : Bytes) → f b l ≡ g b l) → (b : List Bytes) (n : ℕ) (ls : List Bytes) → first-line f b n ls ≡ first-line g b n ls
 unfolding first-line
@@ -83,11 +95,12 @@ line-same f g h b n [] = refl
 line-same f g h b n (l ∷ ls) = rw (h b l, line-same f g h (b ++ l ∷ []) (suc n) ls)
 
 -- the first line of a seat that lacks a record is the first that loses one
-pub lost-by : (s : Bytes) (seats : Seats) (i : ℕ) (a : Seat) → a ≡ seat-at seats i → (aims : Aims) → Aiming s seats (a .table) aims
+pub lost-by : (s : Bytes) (seats : Seats) (i : ℕ) (a : Seat) → a ≡ seat-at seats i → (h : List ℕ) → Ordered s (seat-at seats i) h → (aims : Aims) → Aiming s seats (a .table) (held (a .table) h) aims
     → (n : ℕ) → first-line (lacks-any s aims (a .table)) [] 0 (lines (take (a .to - a .from) (drop (a .from) s))) ≡ n → lost-line s seats (seat-at seats i) ≡ n
 unfolding lost-line
-lost-by s seats i a e aims z n q =
-    rw (sym e) (line-same (loses-any s seats (a .table)) (lacks-any s aims (a .table)) (λ b l. loses-is z l) [] 0 (lines (take (a .to - a .from) (drop (a .from) s))) ∙ q)
+lost-by s seats i a e h y aims z n q =
+    let o : seat-order s a ≡ held (a .table) h = rw e (sym (y .is)) in
+    rw (sym e, o) (line-same (loses-any s seats (a .table) (held (a .table) h)) (lacks-any s aims (a .table)) (λ b l. loses-is z l) [] 0 (lines (take (a .to - a .from) (drop (a .from) s))) ∙ q)
 
 -- a table without references loses nothing
 neither : (b : Bool) → pick b false false ≡ false
@@ -99,31 +112,31 @@ unfolding first-line
 never b n [] = refl
 never b n (l ∷ ls) = never (b ++ l ∷ []) (suc n) ls
 
-loses-none : (s : Bytes) (seats : Seats) (t : ℕ) (l : Bytes) → length (table-at t .references) ≡ 0 → loses s seats t l ≡ false
+loses-none : (s : Bytes) (seats : Seats) (t : ℕ) (o : Order) (l : Bytes) → length (table-at t .references) ≡ 0 → loses s seats t o l ≡ false
 unfolding loses some
-loses-none s seats t l z = rw z (neither (is-record l))
+loses-none s seats t o l z = rw z (neither (is-record l))
 
 pub lost-nothing : (s : Bytes) (seats : Seats) (i : ℕ) (a : Seat) → a ≡ seat-at seats i → (n : ℕ) → n ≡ length (table-at (a .table) .references) → n ≡ 0
     → lost-line s seats (seat-at seats i) ≡ 0
 unfolding lost-line
 lost-nothing s seats i a e n x z =
     rw (sym e)
-    (line-same (loses-any s seats (a .table)) (λ before l. false) (λ b l. loses-none s seats (a .table) l (sym x ∙ z)) [] 0 (lines (take (a .to - a .from) (drop (a .from) s)))
+    (line-same (loses-any s seats (a .table) (seat-order s a)) (λ before l. false) (λ b l. loses-none s seats (a .table) (seat-order s a) l (sym x ∙ z)) [] 0 (lines (take (a .to - a .from) (drop (a .from) s)))
     ∙ never [] 0 (lines (take (a .to - a .from) (drop (a .from) s))))
 
 module _ (s : Bytes) (aims : Aims) (t : ℕ) where
-  pub lacks-is : (fs : List Bytes) (k : ℕ) (key : List ℕ) → key ≡ refer-numbers (reference-at t k .columns) (valuesOf 0 1 (standing t) fs)
-      → (x b : Bool) → x ≡ reached s (aim-at aims k) key → not x ≡ b → lacks s aims t fs k ≡ b
+  pub lacks-is : (fs : List Bytes) (k : ℕ) (a : Aim) → a ≡ aim-at aims k → (key : List ℕ) → key ≡ gathered (a .refer) fs
+      → (x b : Bool) → x ≡ reached s (aim-at aims k) key → not x ≡ b → lacks s aims fs k ≡ b
   unfolding lacks
-  lacks-is fs k key e x b q f = rw (sym e, sym q) f
+  lacks-is fs k a y key e x b q f = rw (sym y) (rw (sym e) (ap not (ap (λ (c : Aim). reached s c key) y ∙ sym q) ∙ f))
 
   module _ (l c : Bytes) (k : ℕ) (a : c ≡ content l) (b : k ≡ command c) where
     pub lacks-other : (k ≡ 11 → ⊥) → lacks-some s aims t l ≡ false
-    unfolding lacks-some is-record
+    unfolding lacks-some
     lacks-other n = rw (sym a, sym b, ne-eqb k Rec n)
 
-    pub lacks-record : k ≡ 11 → (f : Bytes) → f ≡ rest c → (n : ℕ) → n ≡ length (table-at t .references) → lacks-some s aims t l ≡ some (lacks s aims t (fields f)) 0 n
-    unfolding lacks-some is-record
+    pub lacks-record : k ≡ 11 → (f : Bytes) → f ≡ rest c → (n : ℕ) → n ≡ length (table-at t .references) → lacks-some s aims t l ≡ some (lacks s aims (fields f)) 0 n
+    unfolding lacks-some
     lacks-record e f x n y = rw (x, y, a, ap command (sym a) ∙ sym b, eq-eqb k Rec e)
 
 -- section after section

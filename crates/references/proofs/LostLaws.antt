@@ -6,27 +6,29 @@ use Prim.Native.Nat.{ℕ, zero, suc, _+_, _-_, _<_}
 use native.Mathlib.Omega.{arith}
 use borrow.Author.Tests.{eq-eqb, ne-eqb}
 use lib.Dec.{eqb}
-use lib.ListN.{length, getD, take, drop}
+use lib.ListN.{length, getD}
 use Rattle.page.specs.Bytes.{Bytes, bytes, pick}
 use Rattle.page.specs.Lines.{lines, content, rest}
 use Rattle.page.specs.Fields.{fields}
-use Rattle.page.specs.Tables.{Reference, table-at, columns, standing, table-named}
+use Rattle.page.specs.Tables.{Reference, table-at, columns, width, table-named}
+use Rattle.page.specs.Order.{Order, arranged, by-column, column-in}
 use Rattle.page.specs.Cut.{Section, sections}
 use Rattle.page.specs.Head.{latinOf}
-use Rattle.page.specs.Records.{record-in, valuesOf, entries, table-of}
+use Rattle.page.specs.Records.{record-in, valuesOf, entries, table-of, order-in}
 use Rattle.page.specs.Answers.{refusal, sound}
 use Rattle.page.specs.File.{any, Filed, filed-in, filed, filedOf, key-of, by-primary, meets, lost, first-record}
 use Rattle.page.proofs.CutLaws.{no-section}
 use Rattle.page.proofs.FileLaws.{first-section, by-section, meets-nowhere, meets-in}
+use Rattle.tables.specs.declared.choices.Choice.{Choice}
 use Rattle.tables.specs.Choices.{key-choice, no-reference, reference-at, target-at}
 use Rattle.keys.specs.Numbers.{key-numbers, refer-numbers}
-use Rattle.keys.proofs.ChoiceLaws.{chosen-key, chosen-reference}
+use Rattle.keys.proofs.GatherLaws.{gathered-key, gathered-reference}
 use Rattle.keys.proofs.SameLaws.{Fitting, reference-same}
 use Rattle.keys.proofs.SoundLaws.{Sound}
 use Rattle.seats.specs.declared.seating.Seat.{Seat}
 use Rattle.seats.specs.declared.seating.Seats.{Seats}
 use Rattle.scans.specs.Scan.{is-record, line-key, bears, first-line, refused-at}
-use Rattle.seats.specs.Seating.{no-seat, seat-at, Sits, Ready}
+use Rattle.seats.specs.Seating.{no-seat, seat-at, seat-lines, seat-order, Sits, Ready}
 use Rattle.seats.specs.Faults.{reaches, misses, loses, loses-any, lost-line}
 use Rattle.scans.proofs.ScanLaws.{any-some}
 use Rattle.seats.proofs.WalkLaws.{sound-at}
@@ -41,30 +43,35 @@ module _ (e : Filed) (t k : ℕ) (fits : Fitting (columns t) (e .values)) where
   abbrev key : List ℕ
   key = refer-numbers (reference-at t k .columns) (e .values)
 
-  line-is : (l : Bytes) (m : ℕ) → line-key (key-choice by-primary u) l ≡ key-numbers by-primary u (record-in u m (content l))
-  unfolding line-key record-in
-  line-is l m = chosen-key by-primary u m (fields (rest (content l)))
+  module _ (o : Order) (y : arranged (width u) o ≡ true) where
+    line-is : (l : Bytes) (m : ℕ) → line-key (key-choice by-primary u o) l ≡ key-numbers by-primary u (record-in u o m (content l))
+    unfolding line-key record-in
+    line-is l m = gathered-key false u o y (column-in o m) (fields (rest (content l)))
 
-  meets-line : (j n m : ℕ) (l : Bytes) → is-record l ≡ true → Fitting (columns u) (record-in u m (content l))
-      → meets e (reference-at t k) (filing j u (entry-of u n m l)) ≡ bears (key-choice by-primary u) key l
-  unfolding meets key-of bears
-  meets-line j n m l r f = rw (eq-eqb u u refl, r, line-is l m) (sym (reference-same t k (e .values) (record-in u m (content l)) fits f))
+    meets-line : (j n m : ℕ) (l : Bytes) → is-record l ≡ true → Fitting (columns u) (record-in u o m (content l))
+        → meets e (reference-at t k) (filing j u (entry-of u o n m l)) ≡ bears (key-choice by-primary u o) key l
+    unfolding meets key-of bears
+    meets-line j n m l r f = rw (eq-eqb u u refl, r, line-is l m) (sym (reference-same t k (e .values) (record-in u o m (content l)) fits f))
 
-  no-line : (l : Bytes) → is-record l ≡ false → bears (key-choice by-primary u) key l ≡ false
-  unfolding bears
-  no-line l r = rw r
+    no-line : (l : Bytes) → is-record l ≡ false → bears (key-choice by-primary u o) key l ≡ false
+    unfolding bears
+    no-line l r = rw r
 
-  meets-section : (latin : Bool) (j : ℕ) (x : Section) → Sound latin (x .lines) → table-of (x .lines) ≡ u
-      → any (meets e (reference-at t k)) (filed-in latin j x) ≡ any (bears (key-choice by-primary u) key) (x .lines)
+  abbrev met-in : List Bytes → Bool
+  met-in ls = any (bears (key-choice by-primary u (order-in ls)) key) ls
+
+  meets-section : (latin : Bool) (j : ℕ) (x : Section) → Sound latin (x .lines) → table-of (x .lines) ≡ u → any (meets e (reference-at t k)) (filed-in latin j x) ≡ met-in (x .lines)
   meets-section latin j x z q =
+      let o = order-in (x .lines) in
+      let y : arranged (width u) o ≡ true = rw q at (z .ordered) in
       rw (filed-is latin j x z, q)
-      (any-lines j u (meets e (reference-at t k)) (bears (key-choice by-primary u) key) (λ l n m r f. meets-line j n m l r f) no-line (x .lines) 0 0 (rw q at (fit-is latin j x z)))
+      (any-lines j u o (meets e (reference-at t k)) (bears (key-choice by-primary u o) key) (λ l n m r f. meets-line o y j n m l r f) (no-line o y) (x .lines) 0 0 (rw q at (fit-is latin j x z)))
 
   module _ (s : Bytes) (r : Seats) (z : Ready s r) where
     -- no section of the target, or one
     found-at : (p : ℕ) → getD (r .place) u 0 ≡ p
         → any (meets e (reference-at t k)) (filedOf s)
-        ≡ pick (eqb p 0) false (any (bears (key-choice by-primary u) key) (lines (take (seat-at r (p - 1) .to - seat-at r (p - 1) .from) (drop (seat-at r (p - 1) .from) s))))
+        ≡ pick (eqb p 0) false (met-in (seat-lines s (seat-at r (p - 1))))
     unfolding filedOf seat-at
     found-at zero y =
         meets-nowhere (latinOf s) e (reference-at t k) 1 (sections s) (λ j h w.
@@ -81,47 +88,51 @@ module _ (e : Filed) (t k : ℕ) (fits : Fitting (columns t) (e .values)) where
         let n : suc p - 1 ≡ p = omega arith in
         meets-in (latinOf s) e (reference-at t k) 1 (sections s) p h (tables-apart s r z) q
         ∙ meets-section (latinOf s) (1 + p) x (sound-at s (z .sound) p h) q
-        ∙ rw (ne-eqb (suc p) 0 (λ v. omega arith), n) (ap (any (bears (key-choice by-primary u) key)) (a .lines))
+        ∙ rw (ne-eqb (suc p) 0 (λ v. omega arith), n) (ap met-in (a .lines))
 
-    reach-is : (m : ℕ) (fs : List Bytes) → e .values ≡ valuesOf m 1 (standing t) fs → any (meets e (reference-at t k)) (filedOf s) ≡ reaches s r t fs k
-    unfolding reaches target-at
-    reach-is m fs q =
-        let v : refer-numbers (reference-at t k .columns) (e .values) ≡ refer-numbers (reference-at t k .columns) (valuesOf 0 1 (standing t) fs) =
-        ap (refer-numbers (reference-at t k .columns)) q ∙ sym (chosen-reference t k m fs) ∙ chosen-reference t k 0 fs in
+    reach-is : (m : ℕ) (o : Order) → arranged (width t) o ≡ true → (fs : List Bytes) → e .values ≡ valuesOf m 1 (columns t) (by-column o fs)
+        → any (meets e (reference-at t k)) (filedOf s) ≡ reaches s r t o fs k
+    unfolding reaches target-at seat-order
+    reach-is m o y fs q =
+        let v : refer-numbers (reference-at t k .columns) (e .values) ≡ refer-numbers (reference-at t k .columns) (valuesOf 0 1 (columns t) (by-column o fs)) =
+        ap (refer-numbers (reference-at t k .columns)) q ∙ sym (gathered-reference t k o y m fs) ∙ gathered-reference t k o y 0 fs in
+        let ls = seat-lines s (seat-at r (getD (r .place) u 0 - 1)) in
         found-at (getD (r .place) u 0) refl
-        ∙ ap (λ (x : List ℕ). pick (eqb (getD (r .place) u 0) 0) false (any (bears (key-choice by-primary u) x) (lines (take (seat-at r (getD (r .place) u 0 - 1) .to - seat-at r (getD (r .place) u 0 - 1) .from) (drop (seat-at r (getD (r .place) u 0 - 1) .from) s))))) v
+        ∙ ap (λ (x : List ℕ). pick (eqb (getD (r .place) u 0) 0) false (any (bears (key-choice by-primary u (order-in ls)) x) ls)) v
 
 module _ (s : Bytes) (r : Seats) (z : Ready s r) where
   reference-is : (t j : ℕ) → getD (table-at t .references) j no-reference ≡ reference-at t j
   unfolding reference-at
   reference-is t j = refl
 
-  lost-is : (i t n m : ℕ) (l : Bytes) → is-record l ≡ true → Fitting (columns t) (record-in t m (content l)) → lost (filedOf s) (filing i t (entry-of t n m l)) ≡ loses s r t l
-  unfolding lost loses misses record-in
-  lost-is i t n m l q f =
-      rw q
-      (any-some (λ (ref : Reference). not (any (meets (filing i t (entry-of t n m l)) ref) (filedOf s))) no-reference (misses s r t (fields (rest (content l)))) (table-at t .references) 0
-      (λ j h.
-      let o : 0 + j ≡ j = omega arith in
-      rw (reference-is t j, o) (ap not (reach-is (filing i t (entry-of t n m l)) t j f s r z m (fields (rest (content l))) refl))))
+  module _ (t : ℕ) (o : Order) (y : arranged (width t) o ≡ true) where
+    lost-is : (i n m : ℕ) (l : Bytes) → is-record l ≡ true → Fitting (columns t) (record-in t o m (content l)) → lost (filedOf s) (filing i t (entry-of t o n m l)) ≡ loses s r t o l
+    unfolding lost loses misses record-in
+    lost-is i n m l q f =
+        rw q
+        (any-some (λ (ref : Reference). not (any (meets (filing i t (entry-of t o n m l)) ref) (filedOf s))) no-reference (misses s r t o (fields (rest (content l)))) (table-at t .references) 0
+        (λ j h.
+        let x : 0 + j ≡ j = omega arith in
+        rw (reference-is t j, x) (ap not (reach-is (filing i t (entry-of t o n m l)) t j f s r z (column-in o m) o y (fields (rest (content l))) refl))))
 
-  loses-not : (t : ℕ) (l : Bytes) → is-record l ≡ false → loses s r t l ≡ false
-  unfolding loses
-  loses-not t l q = rw q
+    loses-not : (l : Bytes) → is-record l ≡ false → loses s r t o l ≡ false
+    unfolding loses
+    loses-not l q = rw q
 
-  section-lost : (v j t : ℕ) (ls : List Bytes) → Fit t 0 0 ls
-      → first-record v (λ before. lost (filedOf s)) [] (map (filing j t) (entries t 0 0 ls)) ≡ refused-at v j (first-line (loses-any s r t) [] 0 ls)
-  section-lost v j t ls f =
-      first-lines v j t (λ before. lost (filedOf s)) (loses-any s r t) (λ b before. Unit {0})
-      (λ b before l n m a q g. (lost-is j t n m l q g, tt)) (λ b before l a q. (loses-not t l q, tt)) ls 0 0 [] [] tt f
+    section-lost : (v j : ℕ) (ls : List Bytes) → Fit t o 0 0 ls
+        → first-record v (λ before. lost (filedOf s)) [] (map (filing j t) (entries t o 0 0 ls)) ≡ refused-at v j (first-line (loses-any s r t o) [] 0 ls)
+    section-lost v j ls f =
+        first-lines v j t o (λ before. lost (filedOf s)) (loses-any s r t o) (λ b before. Unit {0})
+        (λ b before l n m a q g. (lost-is j n m l q g, tt)) (λ b before l a q. (loses-not l q, tt)) ls 0 0 [] [] tt f
 
   seat-lost : (v j : ℕ) (x : Section) (a : Seat) → Sits s x a → Sound (latinOf s) (x .lines)
       → first-record v (λ before. lost (filedOf s)) [] (filed-in (latinOf s) j x) ≡ refused-at v j (lost-line s r a)
-  unfolding lost-line
+  unfolding lost-line seat-order
   seat-lost v j x a here y =
+      let t = table-of (x .lines) in
       rw (filed-is (latinOf s) j x y, here .table)
-      (section-lost v j (table-of (x .lines)) (x .lines) (fit-is (latinOf s) j x y)
-      ∙ ap (λ (ls : List Bytes). refused-at v j (first-line (loses-any s r (table-of (x .lines))) [] 0 ls)) (here .lines))
+      (section-lost t (order-in (x .lines)) (y .ordered) v j (x .lines) (fit-is (latinOf s) j x y)
+      ∙ ap (λ (ls : List Bytes). refused-at v j (first-line (loses-any s r t (order-in ls)) [] 0 ls)) (here .lines))
 
   of-section : (m : ℕ) → m < length (sections s)
       → first-record 20 (λ before. lost (filedOf s)) [] (filed-in (latinOf s) (1 + m) (getD (sections s) m no-section)) ≡ refused-at 20 (1 + m) (lost-line s r (seat-at r m))
@@ -154,13 +165,21 @@ module _ (s : Bytes) (r : Seats) (z : Ready s r) where
         by zero q n = absurd (n refl)
         by (suc k) q n = let w = z .seated .taken u k (sym q) in let o : suc k - 1 ≡ k = omega arith in rw o (w .0)
 
-  module _ (t k : ℕ) (fs : List Bytes) (u : ℕ) (x : u ≡ target-at t k) (p : ℕ) (q : p ≡ getD (r .place) u 0) where
-    pub reaches-none : p ≡ 0 → reaches s r t fs k ≡ false
+    pub place-table : seat-at r (p - 1) .table ≡ u
+    unfolding seat-at
+    place-table = by p q n
+      where
+        by : (p : ℕ) → p ≡ getD (r .place) u 0 → (p ≡ 0 → ⊥) → getD (r .seats) (p - 1) no-seat .table ≡ u
+        by zero q n = absurd (n refl)
+        by (suc k) q n = let w = z .seated .taken u k (sym q) in let o : suc k - 1 ≡ k = omega arith in rw o (w .1)
+
+  module _ (t : ℕ) (o : Order) (k : ℕ) (fs : List Bytes) (u : ℕ) (x : u ≡ target-at t k) (p : ℕ) (q : p ≡ getD (r .place) u 0) where
+    pub reaches-none : p ≡ 0 → reaches s r t o fs k ≡ false
     unfolding reaches
     reaches-none e = rw (sym x, sym q, e)
 
-    pub reaches-some : (p ≡ 0 → ⊥) → (a : Seat) → a ≡ seat-at r (p - 1) → (c : ℕ) → c ≡ key-choice by-primary u
-        → (key : List ℕ) → key ≡ refer-numbers (reference-at t k .columns) (valuesOf 0 1 (standing t) fs)
-        → reaches s r t fs k ≡ any (bears c key) (lines (take (a .to - a .from) (drop (a .from) s)))
+    pub reaches-some : (p ≡ 0 → ⊥) → (a : Seat) → a ≡ seat-at r (p - 1) → (c : Choice) → c ≡ key-choice by-primary u (seat-order s (seat-at r (p - 1)))
+        → (key : List ℕ) → key ≡ refer-numbers (reference-at t k .columns) (valuesOf 0 1 (columns t) (by-column o fs))
+        → reaches s r t o fs k ≡ any (bears c key) (seat-lines s a)
     unfolding reaches
     reaches-some n a e c f key g = rw (sym x, sym q, ne-eqb p 0 n, e, f, g)

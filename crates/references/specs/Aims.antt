@@ -8,11 +8,10 @@ use lib.ListN.{length, take, drop}
 use Rattle.page.specs.Bytes.{Bytes, pick}
 use Rattle.page.specs.Lines.{lines, content, rest}
 use Rattle.page.specs.Fields.{fields}
-use Rattle.page.specs.Tables.{MOST, table-at, standing}
-use Rattle.page.specs.Records.{valuesOf}
+use Rattle.page.specs.Tables.{MOST, table-at}
+use Rattle.page.specs.Order.{Order}
 use Rattle.page.specs.File.{any}
-use Rattle.tables.specs.Choices.{reference-at}
-use Rattle.keys.specs.Numbers.{refer-numbers}
+use Rattle.keys.specs.Numbers.{gathered}
 use Rattle.scans.specs.Scan.{is-record, bears, some}
 use Rattle.seats.specs.Faults.{reaches}
 use Rattle.references.specs.declared.aims.Aim.{Aim}
@@ -26,24 +25,24 @@ aim-at a r = pick (eqb r 0) (a .first) (pick (eqb r 1) (a .second) (a .third))
 unfoldable pub reached : Bytes → Aim → List ℕ → Bool
 reached s a k = any (bears (a .key) k) (lines (take (a .to - a .from) (drop (a .from) s)))
 
--- a record of table t, with the fields fs, has no record where its reference k aims
-unfoldable pub lacks : Bytes → Aims → ℕ → List Bytes → ℕ → Bool
-lacks s aims t fs k = not (reached s (aim-at aims k) (refer-numbers (reference-at t k .columns) (valuesOf 0 1 (standing t) fs)))
+-- a record with the fields fs has no record where its reference k aims
+unfoldable pub lacks : Bytes → Aims → List Bytes → ℕ → Bool
+lacks s aims fs k = not (reached s (aim-at aims k) (gathered (aim-at aims k .refer) fs))
 
 unfoldable pub lacks-some : Bytes → Aims → ℕ → Bytes → Bool
-lacks-some s aims t l = pick (is-record l) (some (lacks s aims t (fields (rest (content l)))) 0 (length (table-at t .references))) false
+lacks-some s aims t l = pick (is-record l) (some (lacks s aims (fields (rest (content l)))) 0 (length (table-at t .references))) false
 
 abbrev pub lacks-any : Bytes → Aims → ℕ → List Bytes → Bytes → Bool
 lacks-any s aims t before l = lacks-some s aims t l
 
--- the aim of reference r of table t
-pub record Aimed (s : Bytes) (seats : Seats) (t r : ℕ) (a : Aim) : Type 0 where
+-- the aim of reference r of table t, where its columns stand in the order o
+pub record Aimed (s : Bytes) (seats : Seats) (t : ℕ) (o : Order) (r : ℕ) (a : Aim) : Type 0 where
   pub low : a .from ≤ a .to
   pub high : a .to ≤ length s
-  pub is : (fs : List Bytes) → reaches s seats t fs r ≡ reached s a (refer-numbers (reference-at t r .columns) (valuesOf 0 1 (standing t) fs))
+  pub is : (fs : List Bytes) → reaches s seats t o fs r ≡ reached s a (gathered (a .refer) fs)
 
 pub record Within (s : Bytes) (aims : Aims) : Type 0 where
   pub each : (r : ℕ) → r < MOST → (aim-at aims r .from ≤ aim-at aims r .to) × (aim-at aims r .to ≤ length s)
 
-pub record Aiming (s : Bytes) (seats : Seats) (t : ℕ) (aims : Aims) : Type 0 where
-  pub each : (r : ℕ) → r < MOST → Aimed s seats t r (aim-at aims r)
+pub record Aiming (s : Bytes) (seats : Seats) (t : ℕ) (o : Order) (aims : Aims) : Type 0 where
+  pub each : (r : ℕ) → r < MOST → Aimed s seats t o r (aim-at aims r)

@@ -1,20 +1,24 @@
 // Where the references of a table go: asked for once a section.
 ghost use mathlib.Core.Path.{_≡_};
 ghost use lib.ListN.{getD};
+ghost use Rattle.tables.specs.Orders.{held, Stands};
 ghost use Rattle.seats.specs.Seating.{Ready};
 ghost use Rattle.references.specs.Aims.{aim-at, Aimed, Aiming};
 use seats::Seats;
+use seats::find_order;
 use seats::find_seat;
+use tables::Choice;
 use tables::TABLES;
+use tables::WIDEST;
 
 // A reference's fields, its target by its place in the list of tables, the bytes of the target's section, none if it has no section, and
 // the fields of the target's key.
 pub struct Aim {
-    pub refer: u64,
+    pub refer: Choice,
     pub target: usize,
     pub from: usize,
     pub to: usize,
-    pub key: u64,
+    pub key: Choice,
 }
 
 // Each has its own field, not a place in an array, so that what a loop needs of them stays in the machine's registers.
@@ -35,11 +39,12 @@ fn find_place(seats: Seats, t: usize) -> usize
     0
 }
 
-fn take_aim(s: &[u8], seats: Seats, t: usize, r: usize) -> Aim
-    requires { ⌜ Ready (now s) seats ⌝ }
-    ensures { λ x. ⌜ Aimed (now (s .entry)) seats t r x ⌝ }
+// Of a section of table t whose columns stand in the order o.
+fn take_aim(s: &[u8], seats: Seats, t: usize, r: usize, o: &[u8; WIDEST]) -> Aim
+    requires { ⌜ Ready (now s) seats × Stands t (now o) ⌝ }
+    ensures { λ x. ⌜ Aimed (now (s .entry)) seats t (held t (now (o .entry))) r x ⌝ }
 {
-    let refer = tables::choose_reference(t, r);
+    let refer = tables::choose_reference(t, r, o);
     let u = tables::find_target(t, r);
     let k = find_place(seats, u);
     if k == 0 {
@@ -48,13 +53,14 @@ fn take_aim(s: &[u8], seats: Seats, t: usize, r: usize) -> Aim
             target: u,
             from: 0,
             to: 0,
-            key: 0,
+            key: Choice { kinds: 0, slots: 0 },
         };
     }
     let seat = find_seat(seats, k - 1);
     let from = seat.from;
     let to = seat.to;
-    let key = tables::choose_key(u, false);
+    let order = find_order(s, seats, k - 1);
+    let key = tables::choose_key(u, false, &order);
     Aim {
         refer: refer,
         target: u,
@@ -64,13 +70,13 @@ fn take_aim(s: &[u8], seats: Seats, t: usize, r: usize) -> Aim
     }
 }
 
-pub fn take_aims(s: &[u8], seats: Seats, t: usize) -> Aims
-    requires { ⌜ Ready (now s) seats ⌝ }
-    ensures { λ x. ⌜ Aiming (now (s .entry)) seats t x ⌝ }
+pub fn take_aims(s: &[u8], seats: Seats, t: usize, o: &[u8; WIDEST]) -> Aims
+    requires { ⌜ Ready (now s) seats × Stands t (now o) ⌝ }
+    ensures { λ x. ⌜ Aiming (now (s .entry)) seats t (held t (now (o .entry))) x ⌝ }
 {
-    let a = take_aim(s, seats, t, 0);
-    let b = take_aim(s, seats, t, 1);
-    let c = take_aim(s, seats, t, 2);
+    let a = take_aim(s, seats, t, 0, o);
+    let b = take_aim(s, seats, t, 1, o);
+    let c = take_aim(s, seats, t, 2, o);
     Aims {
         first: a,
         second: b,

@@ -15,6 +15,7 @@ use guesses::note_key;
 use guesses::note_place;
 use guesses::wipe;
 use lines::Cursor;
+use tables::Choice;
 use tables::MOST;
 
 fn widen(t: usize) -> u64 {
@@ -59,7 +60,7 @@ fn note_records(w: &[u8], at: usize, aims: Aims, known: Known, g: &mut [u32]) ->
     from
 }
 
-fn note_targets(w: &[u8], t: usize, choice: u64, g: &mut [u32]) {
+fn note_targets(w: &[u8], t: usize, choice: Choice, g: &mut [u32]) {
     let mut from: usize = 0;
     while from < w.len() {
         let here = from;

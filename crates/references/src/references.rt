@@ -29,6 +29,7 @@ use page::Refusal;
 use scans::Find;
 use scans::finds_from;
 use seats::Seats;
+use seats::find_order;
 use seats::find_seat;
 
 // Whether a reference finds its record, and what is known then.
@@ -168,7 +169,7 @@ fn loses(
     let mut known = last;
     let mut r: usize = 0;
     while r < n {
-        let key = keys::read_reference(f, t, r);
+        let key = keys::read_chosen(f, find_aim(aims, r).refer);
         let x = reaches(s, w, at, aims, r, key, known, g);
         if !x.met {
             return Loss {
@@ -195,7 +196,8 @@ fn lost_in(s: &[u8], seats: Seats, i: usize, g: &mut [u32]) -> usize
     let to = seat.to;
     let t = seat.table;
     let size = to - from;
-    let aims = take_aims(s, seats, t);
+    let order = find_order(s, seats, i);
+    let aims = take_aims(s, seats, t, &order);
     let mut known = nothing_known();
     let mut at: usize = 0;
     let mut n: usize = 0;

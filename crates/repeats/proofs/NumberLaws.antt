@@ -15,6 +15,7 @@ use Rattle.page.specs.File.{any}
 use Rattle.page.proofs.LineLaws.{line-size, line-in, cut-at, lines-end}
 use Rattle.page.proofs.KeyLaws.{any-no}
 use Rattle.page.proofs.TestLaws.{same-true}
+use Rattle.tables.specs.declared.choices.Choice.{Choice}
 use Rattle.scans.specs.Scan.{is-record, line-key, bears, again, Starts, first-line}
 use Rattle.repeats.specs.Rounds.{again-at}
 use Rattle.scans.proofs.ScanLaws.{starts-first, starts-next, passed-lines}
@@ -57,7 +58,7 @@ module _ (w : Bytes) (at n e : ℕ) (z : Stands w at n) (h : at < length w) (q :
   pub record-here : (b : Bool) → b ≡ is-record (take (e - at) (drop at w)) → is-record (getD (lines w) n []) ≡ b
   record-here b x = ap is-record (head .1) ∙ sym x
 
-  pub again-here : (c : ℕ) (b : Bool) → b ≡ again c (lines (take at w)) (take (e - at) (drop at w)) → again-at c (lines w) n ≡ b
+  pub again-here : (c : Choice) (b : Bool) → b ≡ again c (lines (take at w)) (take (e - at) (drop at w)) → again-at c (lines w) n ≡ b
   unfolding again-at
   again-here c b x = rw (head .1, sym (z .before)) (sym x)
 
@@ -93,7 +94,7 @@ module _ (fault : List Bytes → Bytes → Bool) (ls : List Bytes) where
   unfolding first-line
   line-at i h p e = line-skip i (omega arith) p ∙ rw (drop-cons ls i [] h, e)
 
-module _ (q : ℕ) (ls : List Bytes) where
+module _ (q : Choice) (ls : List Bytes) where
   pub repeat-none : ((m : ℕ) → m < length ls → again-at q ls m ≡ false) → first-line (again q) [] 0 ls ≡ 0
   unfolding again-at
   repeat-none p = line-none (again q) ls p
@@ -129,15 +130,15 @@ module _ (q : ℕ) (ls : List Bytes) where
         by false = refl
 
 -- lines passed of which none is a record whose key stands before it
-pub record Fresh (q : ℕ) (w : Bytes) (at : ℕ) : Type 0 where
+pub record Fresh (q : Choice) (w : Bytes) (at : ℕ) : Type 0 where
   pub count : ℕ
   pub stands : Stands w at count
   pub new : (m : ℕ) → m < count → again-at q (lines w) m ≡ false
 
-pub fresh-first : (q : ℕ) (w : Bytes) → Fresh q w 0
+pub fresh-first : (q : Choice) (w : Bytes) → Fresh q w 0
 fresh-first q w = record { count = 0; stands = stands-first w; new = λ m h. absurd (omega arith) }
 
-pub fresh-next : (q : ℕ) (w : Bytes) (at e : ℕ) → Fresh q w at → at < length w → e ≡ at + line-size (drop at w) → again q (lines (take at w)) (take (e - at) (drop at w)) ≡ false → Fresh q w e
+pub fresh-next : (q : Choice) (w : Bytes) (at e : ℕ) → Fresh q w at → at < length w → e ≡ at + line-size (drop at w) → again q (lines (take at w)) (take (e - at) (drop at w)) ≡ false → Fresh q w e
 fresh-next q w at e f h x y =
     record {
       count = f .count + 1;
@@ -145,5 +146,5 @@ fresh-next q w at e f h x y =
       new = below-more _ _ (f .new) (again-here w at (f .count) e (f .stands) h x q false (sym y));
     }
 
-pub fresh-end : (q : ℕ) (w : Bytes) (at : ℕ) → Fresh q w at → length w ≤ at → first-line (again q) [] 0 (lines w) ≡ 0
+pub fresh-end : (q : Choice) (w : Bytes) (at : ℕ) → Fresh q w at → length w ≤ at → first-line (again q) [] 0 (lines w) ≡ 0
 fresh-end q w at f h = repeat-none q (lines w) (λ m k. f .new m (omega (arith, stands-end w at (f .count) (f .stands) h)))

@@ -14,32 +14,33 @@ use Rattle.page.specs.Bytes.{Bytes}
 use Rattle.page.specs.Lines.{lines}
 use Rattle.page.proofs.LineLaws.{line-size}
 use Rattle.keys.specs.Orders.{hashed}
+use Rattle.tables.specs.declared.choices.Choice.{Choice}
 use Rattle.scans.specs.Scan.{is-record, line-key, again, first-line}
 use Rattle.bits.specs.Bits.{Has, Added, two-of, four-of, lane-of}
 use Rattle.repeats.specs.Rounds.{again-at, hash-of, hash-at, Round, Crowded, Doubtful, Doubted, Settled}
 use Rattle.bits.proofs.BitLaws.{lane-lt}
 use Rattle.repeats.proofs.NumberLaws.{Stands, stands-line, repeat-none, repeat-at, again-other, again-new}
 
-same-hash : (q : ℕ) (a b : Bytes) → line-key q a ≡ line-key q b → hash-of q a ≡ hash-of q b
+same-hash : (q : Choice) (a b : Bytes) → line-key q a ≡ line-key q b → hash-of q a ≡ hash-of q b
 unfolding hash-of
 same-hash q a b e = ap (hashed 0) e
 
-pub hash-here : (w : Bytes) (at i e : ℕ) → Stands w at i → at < length w → e ≡ at + line-size (drop at w) → (q h : ℕ) → h ≡ hash-of q (take (e - at) (drop at w)) → h ≡ hash-at q (lines w) i
+pub hash-here : (w : Bytes) (at i e : ℕ) → Stands w at i → at < length w → e ≡ at + line-size (drop at w) → (q : Choice) (h : ℕ) → h ≡ hash-of q (take (e - at) (drop at w)) → h ≡ hash-at q (lines w) i
 hash-here w at i e z l x q h y = y ∙ ap (hash-of q) (sym (stands-line w at i e z l x))
 
 -- a record whose hash no record before it has
-hash-new : (q : ℕ) (ls : List Bytes) (i h : ℕ) → i < length ls → h ≡ hash-at q ls i
+hash-new : (q : Choice) (ls : List Bytes) (i h : ℕ) → i < length ls → h ≡ hash-at q ls i
     → ((j : ℕ) → j < i → is-record (getD ls j []) ≡ true → hash-at q ls j ≡ h → ⊥) → again-at q ls i ≡ false
 hash-new q ls i h x e f = again-new q ls i x (λ j k y p. f j k y (same-hash q (getD ls j []) (getD ls i []) p ∙ sym e))
 
 -- the first pass: of the lines before line i, those in round r of n are new or doubtful, and the records among them are in the table
 
-abbrev pub Marked : ℕ → List Bytes → ℕ → ℕ → ℕ → List ℕ → ℕ → List ℕ → ℕ → Type 0
+abbrev pub Marked : Choice → List Bytes → ℕ → ℕ → ℕ → List ℕ → ℕ → List ℕ → ℕ → Type 0
 Marked q ls r n nt t na a i =
     (m : ℕ) → m < i → lane-of (hash-at q ls m) n ≡ r
     → ((again-at q ls m ≡ false) ⊎ Doubtful na a (hash-at q ls m)) × (is-record (getD ls m []) ≡ true → Crowded nt t (hash-at q ls m))
 
-module _ (q : ℕ) (ls : List Bytes) (r n i h : ℕ) (e : h ≡ hash-at q ls i) (nt na : ℕ) (t a : List ℕ) (s : Marked q ls r n nt t na a i) where
+module _ (q : Choice) (ls : List Bytes) (r n i h : ℕ) (e : h ≡ hash-at q ls i) (nt na : ℕ) (t a : List ℕ) (s : Marked q ls r n nt t na a i) where
   -- a line of another round
   pub marked-skip : (lane-of h n ≡ r → ⊥) → Marked q ls r n nt t na a (i + 1)
   marked-skip d = below-more _ _ s (λ l. absurd (d (rw e l)))
@@ -61,12 +62,12 @@ module _ (q : ℕ) (ls : List Bytes) (r n i h : ℕ) (e : h ≡ hash-at q ls i) 
 
 -- the second pass: of the lines before line i, the doubtful ones are new, and the records among them are in the table
 
-abbrev pub Told : ℕ → List Bytes → ℕ → List ℕ → ℕ → List ℕ → ℕ → Type 0
+abbrev pub Told : Choice → List Bytes → ℕ → List ℕ → ℕ → List ℕ → ℕ → Type 0
 Told q ls na a nt t i =
     (m : ℕ) → m < i → Doubtful na a (hash-at q ls m)
     → (again-at q ls m ≡ false) × (is-record (getD ls m []) ≡ true → Has t nt (hash-at q ls m) (four-of (hash-at q ls m)))
 
-module _ (q : ℕ) (ls : List Bytes) (i h : ℕ) (e : h ≡ hash-at q ls i) (na nt : ℕ) (a t : List ℕ) (s : Told q ls na a nt t i) where
+module _ (q : Choice) (ls : List Bytes) (i h : ℕ) (e : h ≡ hash-at q ls i) (na nt : ℕ) (a t : List ℕ) (s : Told q ls na a nt t i) where
   pub told-skip : (Has a na h (four-of h) → ⊥) → Told q ls na a nt t (i + 1)
   told-skip d = below-more _ _ s (λ l. absurd (d (rw e l)))
 
@@ -80,7 +81,7 @@ module _ (q : ℕ) (ls : List Bytes) (i h : ℕ) (e : h ≡ hash-at q ls i) (na 
     pub told-new : i < length ls → Has a na h (four-of h) → b ≡ false → Told q ls na a nt t′ (i + 1)
     told-new x o f = told-met (hash-new q ls i h x e (λ j k y z. p .fresh f (rw z at (s j k (rw z o) .1 y))))
 
-pub round-done : (q : ℕ) (ls : List Bytes) (r n last na nb : ℕ) (a : List ℕ) (e : ℕ) → nb ≡ na → Doubted q ls r n last na a → Settled q ls nb a last e
+pub round-done : (q : Choice) (ls : List Bytes) (r n last na nb : ℕ) (a : List ℕ) (e : ℕ) → nb ≡ na → Doubted q ls r n last na a → Settled q ls nb a last e
     → Round q ls r n last e
 round-done q ls r n last na nb a e b d s =
     record {
@@ -92,7 +93,7 @@ round-done q ls r n last na nb a e b d s =
 -- ---- all rounds
 
 -- the lines before `last` of the rounds before r are new, and line `last` is not, if there is one
-abbrev pub Done : ℕ → List Bytes → ℕ → ℕ → ℕ → ℕ → Type 0
+abbrev pub Done : Choice → List Bytes → ℕ → ℕ → ℕ → ℕ → Type 0
 Done q ls size n last r =
     (last ≤ size) × (last < size → (last < length ls) × (again-at q ls last ≡ true))
     × ((m : ℕ) → m < last → m < length ls → lane-of (hash-at q ls m) n < r → again-at q ls m ≡ false)
@@ -104,7 +105,7 @@ by-less {G} a b f g = go (ltb a b) refl
     go true e = f (ltb-true a b e)
     go false e = g (ltb-false a b e)
 
-module _ (q : ℕ) (ls : List Bytes) (size n : ℕ) where
+module _ (q : Choice) (ls : List Bytes) (size n : ℕ) where
   pub done-more : (last r e : ℕ) → Done q ls size n last r → Round q ls r n last e → Done q ls size n e (r + 1)
   done-more last r e d p = (
     omega (arith, p .within),

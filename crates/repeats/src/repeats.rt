@@ -12,7 +12,9 @@ use page::Refusal;
 use scans::find_rise;
 use seats::Seat;
 use seats::Seats;
+use seats::find_order;
 use seats::find_seat;
+use tables::Choice;
 
 fn repeat_number(second: bool) -> u32
     ensures { λ r. ⌜ r ≡ repeat-number second ⌝ }
@@ -21,10 +23,14 @@ fn repeat_number(second: bool) -> u32
 }
 
 // A table without the key has nothing to repeat.
-fn find_end(seat: Seat, choice: u64) -> usize
+fn find_end(seat: Seat, choice: Choice) -> usize
     ensures { λ r. ⌜ r ≡ scan-end seat choice ⌝ }
 {
-    if choice == 0 { seat.from } else { seat.to }
+    if choice.kinds == 0 {
+        seat.from
+    } else {
+        seat.to
+    }
 }
 
 // "each at the first record in file order that breaks it"
@@ -43,7 +49,8 @@ pub fn first_repeat(s: &[u8], seats: Seats, second: bool) -> Refusal
     'scan: while i < count {
         let seat = find_seat(seats, i);
         let from = seat.from;
-        let choice = tables::choose_key(seat.table, second);
+        let order = find_order(s, seats, i);
+        let choice = tables::choose_key(seat.table, second, &order);
         let to = find_end(seat, choice);
         let size = to - from;
         let mut top = Key { k: [0; 7] };

@@ -10,9 +10,10 @@ use bits::find_lane;
 use bits::has_four;
 use bits::put_four;
 use bits::put_two;
+use commands::is_record;
 use lines::Cursor;
 use scans::is_again;
-use scans::is_record;
+use tables::Choice;
 
 // Words of the table that all records of a round are put into, and of that of the doubtful ones.
 const CROWD: usize = 20480;
@@ -26,7 +27,7 @@ const LITTLE_CROWD: usize = 512;
 
 const LITTLE_DOUBTS: usize = 128;
 
-fn hash_line(l: &[u8], choice: u64) -> u64
+fn hash_line(l: &[u8], choice: Choice) -> u64
     ensures { λ r. ⌜ r ≡ hash-of choice (now (l .entry)) ⌝ }
 {
     let c = lines::content_of(l);
@@ -37,7 +38,7 @@ fn hash_line(l: &[u8], choice: u64) -> u64
 // doubtful ones.
 fn mark_doubts(
     w: &[u8],
-    choice: u64,
+    choice: Choice,
     r: u64,
     n: u64,
     last: usize,
@@ -72,7 +73,7 @@ fn mark_doubts(
 }
 
 // One more pass, over the doubtful records alone: they leave most bits clear, and only those whose bits were all set are searched for.
-fn settle_doubts(w: &[u8], choice: u64, last: usize, doubts: &[u64], t: &mut [u64]) -> usize
+fn settle_doubts(w: &[u8], choice: Choice, last: usize, doubts: &[u64], t: &mut [u64]) -> usize
     requires { ⌜ (0 < length (now doubts)) × (0 < length (now t)) ⌝ }
     ensures { λ e. ⌜ Settled choice (lines (now (w .entry))) (length (now (doubts .entry))) (now (doubts .entry)) last e ⌝ }
 {
@@ -115,7 +116,7 @@ fn wipe(t: &mut [u64]) {
 // The first line before `last`, of those in round r of n, whose key stands before it; or `last`. Both tables are empty.
 fn sift_in(
     w: &[u8],
-    choice: u64,
+    choice: Choice,
     r: u64,
     n: u64,
     last: usize,
@@ -130,7 +131,7 @@ fn sift_in(
     settle_doubts(w, choice, last, &doubts[..], t)
 }
 
-fn sift_few(w: &[u8], choice: u64, r: u64, n: u64, last: usize) -> usize
+fn sift_few(w: &[u8], choice: Choice, r: u64, n: u64, last: usize) -> usize
     requires { ⌜ n < 2 ^ 32 ⌝ }
     ensures { λ e. ⌜ Round choice (lines (now (w .entry))) r n last e ⌝ }
 {
@@ -139,7 +140,7 @@ fn sift_few(w: &[u8], choice: u64, r: u64, n: u64, last: usize) -> usize
     sift_in(w, choice, r, n, last, &mut t, &mut doubts)
 }
 
-fn sift_many(w: &[u8], choice: u64, r: u64, n: u64, last: usize) -> usize
+fn sift_many(w: &[u8], choice: Choice, r: u64, n: u64, last: usize) -> usize
     requires { ⌜ n < 2 ^ 32 ⌝ }
     ensures { λ e. ⌜ Round choice (lines (now (w .entry))) r n last e ⌝ }
 {
@@ -148,7 +149,7 @@ fn sift_many(w: &[u8], choice: u64, r: u64, n: u64, last: usize) -> usize
     sift_in(w, choice, r, n, last, &mut t, &mut doubts)
 }
 
-fn sift_round(w: &[u8], choice: u64, r: u64, n: u64, last: usize) -> usize
+fn sift_round(w: &[u8], choice: Choice, r: u64, n: u64, last: usize) -> usize
     requires { ⌜ n < 2 ^ 32 ⌝ }
     ensures { λ e. ⌜ Round choice (lines (now (w .entry))) r n last e ⌝ }
 {
@@ -184,7 +185,7 @@ fn count_rounds(w: &[u8]) -> u64
 }
 
 // The number of the first line whose key stands before it, from 1; 0 if there is none. Each round looks only before the line found.
-pub fn find_repeat(w: &[u8], choice: u64) -> usize
+pub fn find_repeat(w: &[u8], choice: Choice) -> usize
     ensures { λ r. ⌜ r ≡ first-line (again choice) [] 0 (lines (now (w .entry))) ⌝ }
 {
     let size = w.len();

@@ -16,12 +16,14 @@ use Rattle.page.specs.Head.{head-values, latinOf}
 use Rattle.page.specs.Section.{outcome}
 use Rattle.page.specs.Records.{recordsOf, table-of}
 use Rattle.page.specs.Trailer.{trailerOf}
-use Rattle.page.specs.Model.{contentOf, modelOf}
+use Rattle.page.specs.Model.{contentOf, modelOf, changed, kept}
 use Rattle.page.specs.Answers.{refusal, sound, earlier, refuse-if}
 use Rattle.page.specs.File.{limit, too-long, found, header-refusal, row-of, rowOf, rowsOf, first-unsound, first-again, filedOf, record-refusal, section-refusal, file-refusal}
 use Rattle.page.specs.Form.{formOf}
-use Rattle.page.specs.Writing.{write-form}
+use Rattle.page.specs.Writing.{form-by, write-form}
 use Rattle.page.specs.Rules.{Every, none-left, one-more, SoundHeader}
+use Rattle.page.specs.declared.LineEnd.{LineEnd}
+use Rattle.page.specs.declared.LineEnd.the-variants as E
 use Rattle.page.specs.declared.Row.{Row}
 use Rattle.page.specs.declared.Finding.{Finding}
 use Rattle.page.specs.declared.Outcome.{Outcome}
@@ -111,16 +113,27 @@ module _ (s : Bytes) (h : file-refusal s .number ≡ 0) where
   pub accepted-keys : KeysHold (modelOf s .tables)
   accepted-keys = sound-keys s accepted-sections (the-parts .1)
 
+  -- written, however its lines end, it is read back; and written once more, however they end then, it is what it would have been at once
+  module _ (ends : LineEnd) (short : length (formOf ends (modelOf s)) ≤ limit) where
+    pub any-accepted : file-refusal (formOf ends (modelOf s)) ≡ sound
+    any-accepted = form-sound ends (modelOf s) accepted-model short accepted-keys
+
+    pub any-model : modelOf (formOf ends (modelOf s)) ≡ modelOf s
+    any-model = form-model ends (modelOf s) accepted-model short
+
+    pub any-form : (other : LineEnd) → formOf other (modelOf (formOf ends (modelOf s))) ≡ formOf other (modelOf s)
+    any-form other = ap (formOf other) any-model
+
   -- the round trip
   module _ (short : length (write-form s) ≤ limit) where
     pub round-accepted : file-refusal (write-form s) ≡ sound
-    unfolding write-form
-    round-accepted = form-sound (modelOf s) accepted-model short accepted-keys
+    unfolding write-form form-by changed kept
+    round-accepted = any-accepted E.Lf short
 
     pub round-model : modelOf (write-form s) ≡ modelOf s
-    unfolding write-form
-    round-model = form-model (modelOf s) accepted-model short
+    unfolding write-form form-by changed kept
+    round-model = any-model E.Lf short
 
     pub round-form : write-form (write-form s) ≡ write-form s
-    unfolding write-form
-    round-form = ap formOf round-model
+    unfolding write-form form-by changed kept
+    round-form = any-form E.Lf short E.Lf

@@ -18,6 +18,7 @@ use Rattle.page.specs.Model.{Content, Model}
 use Rattle.page.specs.Head.{Head}
 use Rattle.page.specs.Form.{separated, line, decimal, tables-form, formOf}
 use Rattle.page.specs.Rules.{Every, none-left, one-more}
+use Rattle.page.specs.declared.LineEnd.{LineEnd}
 use Rattle.page.specs.declared.Owner.the-variants as O
 use Rattle.page.proofs.LineLaws.{Ended, Laid, none as no-line, next, joined-append, lines-joined}
 use Rattle.round.specs.Round.{PrintedIf, SoundRecord, SoundContent, SoundHead, SoundModel}
@@ -27,7 +28,7 @@ use Rattle.round.proofs.WrittenFields.{no-field, a-field, decimal-field
 use Rattle.round.proofs.WrittenLines.{commands, Seen, seen, separated-more, separated-none}
 use Rattle.round.proofs.RoundRecords.{digit-allowed, width-back}
 use Rattle.round.proofs.RoundSteps.{mark-lines-of, mark-lines, mark-seen, end-seen, rec-seen}
-use Rattle.round.proofs.RoundHeads.{Heads, heads, tbl-line, tbl-ended, atr-ended, frm-ended}
+use Rattle.round.proofs.RoundHeads.{Heads, heads, tbl-line}
 use Rattle.round.proofs.RoundSections.{record-lines, body-lines, after-tbl, content-lines, joined-content, some-columns}
 use Rattle.round.proofs.RoundHeader.{text-line, lines-if, head-lines, joined-head, mod-seen, src-seen, chs-seen, text-seen}
 use Rattle.laws.proofs.Lists.{every-append, every-map}
@@ -48,55 +49,55 @@ inner-of s a b = record { whole = record { ended = s .ended; no-end = rw (s .nam
 
 -- the lines of a header, of a record, of a section after its first
 
-inner-if : (s : String) (d : Option Bytes) → ((t : Bytes) → PrintedIf (some t) → Inner (text-line s t)) → PrintedIf d → Every Inner (lines-if s d)
+inner-if : (ends : LineEnd) (s : String) (d : Option Bytes) → ((t : Bytes) → PrintedIf (some t) → Inner (text-line ends s t)) → PrintedIf d → Every Inner (lines-if ends s d)
 unfolding lines-if
-inner-if s none f p = none-left
-inner-if s (some t) f p = one-more (f t p) none-left
+inner-if ends s none f p = none-left
+inner-if ends s (some t) f p = one-more (f t p) none-left
 
-pub inner-head : (h : Head) → SoundHead h → Every Inner (head-lines h)
+pub inner-head : (ends : LineEnd) (h : Head) → SoundHead h → Every Inner (head-lines ends h)
 unfolding head-lines
-inner-head h s =
-    one-more (inner-of mod-seen refl refl) (one-more (inner-of (src-seen h s) refl refl) (one-more (inner-of (chs-seen h) refl refl)
-    (one-more (inner-of (text-seen (commands .3) (h .ver) (s .ver)) refl refl) (one-more (inner-of (text-seen (commands .4) (h .ifv) (s .ifv)) refl refl)
-    (every-append (inner-if "dve" (h .dve) (λ t p. inner-of (text-seen (commands .5) t p) refl refl) (s .dve))
-    (inner-if "fft" (h .fft) (λ t p. inner-of (text-seen (commands .6) t p) refl refl) (s .fft)))))))
+inner-head ends h s =
+    one-more (inner-of (mod-seen ends) refl refl) (one-more (inner-of (src-seen ends h s) refl refl) (one-more (inner-of (chs-seen ends h) refl refl)
+    (one-more (inner-of (text-seen ends (commands .3) (h .ver) (s .ver)) refl refl) (one-more (inner-of (text-seen ends (commands .4) (h .ifv) (s .ifv)) refl refl)
+    (every-append (inner-if ends "dve" (h .dve) (λ t p. inner-of (text-seen ends (commands .5) t p) refl refl) (s .dve))
+    (inner-if ends "fft" (h .fft) (λ t p. inner-of (text-seen ends (commands .6) t p) refl refl) (s .fft)))))))
 
-module _ (latin : Bool) (t : ℕ) (known : t < TABLES) where
-  inner-marks : (i : ℕ) (vs : Record) → Every Inner (mark-lines i vs)
+module _ (ends : LineEnd) (latin : Bool) (t : ℕ) (known : t < TABLES) where
+  inner-marks : (i : ℕ) (vs : Record) → Every Inner (mark-lines ends i vs)
   unfolding mark-lines mark-lines-of
   inner-marks i [] = none-left
   inner-marks i (number n ∷ vs) = inner-marks (suc i) vs
   inner-marks i (words O.Operator u ∷ vs) = inner-marks (suc i) vs
-  inner-marks i (words O.Suggestion u ∷ vs) = one-more (inner-of (mark-seen latin t i) refl refl) (inner-marks (suc i) vs)
+  inner-marks i (words O.Suggestion u ∷ vs) = one-more (inner-of (mark-seen ends latin t i) refl refl) (inner-marks (suc i) vs)
 
-  inner-record : (vs : Record) → SoundRecord latin t vs → Every Inner (record-lines vs)
+  inner-record : (vs : Record) → SoundRecord latin t vs → Every Inner (record-lines ends vs)
   unfolding record-lines
-  inner-record [] r = absurd (let z : ⊥ = omega (arith, width-back latin (r .fit), some-columns latin t known) in z)
-  inner-record (v ∷ vs) r = every-append (inner-marks 1 (v ∷ vs)) (one-more (inner-of (rec-seen latin t v vs r) refl refl) none-left)
+  inner-record [] r = absurd (let z : ⊥ = omega (arith, width-back latin (r .fit), some-columns ends latin t known) in z)
+  inner-record (v ∷ vs) r = every-append (inner-marks 1 (v ∷ vs)) (one-more (inner-of (rec-seen ends latin t v vs r) refl refl) none-left)
 
-  inner-body : {rs : List Record} (c : ℕ) → Every (SoundRecord latin t) rs → Every Inner (body-lines c rs)
+  inner-body : {rs : List Record} (c : ℕ) → Every (SoundRecord latin t) rs → Every Inner (body-lines ends c rs)
   unfolding body-lines
-  inner-body c none-left = one-more (inner-of (end-seen latin t c) refl refl) none-left
+  inner-body c none-left = one-more (inner-of (end-seen ends latin t c) refl refl) none-left
   inner-body c (one-more {x} r rs) = every-append (inner-record x r) (inner-body c rs)
 
-module _ (latin : Bool) (c : Content) (s : SoundContent latin c) where
-  the-heads : Heads latin (c .table) (table-at (c .table))
-  the-heads = heads latin (c .table) (s .known)
+module _ (ends : LineEnd) (latin : Bool) (c : Content) (s : SoundContent latin c) where
+  the-heads : Heads ends latin (c .table) (table-at (c .table))
+  the-heads = heads ends latin (c .table) (s .known)
 
-  inner-after : Every Inner (after-tbl c)
+  inner-after : Every Inner (after-tbl ends c)
   unfolding after-tbl begins-table begins-end
   inner-after =
       let h = the-heads in
-      one-more (record { whole = record { ended = atr-ended latin (c .table) (table-at (c .table)) h; no-end = rw (h .atr-named) }; no-table = rw (h .atr-named) })
-      (one-more (record { whole = record { ended = frm-ended latin (c .table) (table-at (c .table)) h; no-end = rw (h .frm-named) }; no-table = rw (h .frm-named) })
-      (inner-body latin (c .table) (s .known) (length (c .records)) (s .records)))
+      one-more (record { whole = record { ended = h .atr-ended; no-end = rw (h .atr-named) }; no-table = rw (h .atr-named) })
+      (one-more (record { whole = record { ended = h .frm-ended; no-end = rw (h .frm-named) }; no-table = rw (h .frm-named) })
+      (inner-body ends latin (c .table) (s .known) (length (c .records)) (s .records)))
 
-  pub line-content : Every Line (content-lines c)
+  pub line-content : Every Line (content-lines ends c)
   unfolding content-lines begins-end
   line-content =
-      one-more (record { ended = tbl-ended latin (c .table) (table-at (c .table)) the-heads; no-end = rw (the-heads .tbl-named) }) (every-map (λ l i. i .whole) inner-after)
+      one-more (record { ended = the-heads .tbl-ended; no-end = rw (the-heads .tbl-named) }) (every-map (λ l i. i .whole) inner-after)
 
-  tbl-begins : begins-table (tbl-line (table-at (c .table))) ≡ true
+  tbl-begins : begins-table (tbl-line ends (table-at (c .table))) ≡ true
   unfolding begins-table
   tbl-begins = rw (the-heads .tbl-named)
 
@@ -107,71 +108,71 @@ unfolding cut put
 cut-inner none-left more = refl
 cut-inner (one-more {x} {xs} i is) more = rw (i .no-table, i .whole .no-end, cut-inner is more)
 
-pub cut-content : (latin : Bool) (c : Content) → SoundContent latin c → (more : List Bytes) → cut more .front ≡ [] →
-    cut (content-lines c ++ more) ≡ record { front = []; pieces = a-table (content-lines c) ∷ cut more .pieces }
+pub cut-content : (ends : LineEnd) (latin : Bool) (c : Content) → SoundContent latin c → (more : List Bytes) → cut more .front ≡ [] →
+    cut (content-lines ends c ++ more) ≡ record { front = []; pieces = a-table (content-lines ends c) ∷ cut more .pieces }
 unfolding cut put content-lines
-cut-content latin c s more e = rw (tbl-begins latin c s, cut-inner (inner-after latin c s) more, e, append-nil (after-tbl c))
+cut-content ends latin c s more e = rw (tbl-begins ends latin c s, cut-inner (inner-after ends latin c s) more, e, append-nil (after-tbl ends c))
 
-unfoldable pub tables-lines : List Content → List Bytes
-tables-lines [] = []
-tables-lines (c ∷ cs) = content-lines c ++ tables-lines cs
+unfoldable pub tables-lines : LineEnd → List Content → List Bytes
+tables-lines ends [] = []
+tables-lines ends (c ∷ cs) = content-lines ends c ++ tables-lines ends cs
 
-unfoldable pub eof-line : ℕ → Bytes
-eof-line n = line "eof" (decimal n ∷ [])
+unfoldable pub eof-line : LineEnd → ℕ → Bytes
+eof-line ends n = line ends "eof" (decimal n ∷ [])
 
-unfoldable pub form-lines : Model → List Bytes
-form-lines m = head-lines (m .head) ++ (tables-lines (m .tables) ++ (eof-line (length (m .tables)) ∷ []))
+unfoldable pub form-lines : LineEnd → Model → List Bytes
+form-lines ends m = head-lines ends (m .head) ++ (tables-lines ends (m .tables) ++ (eof-line ends (length (m .tables)) ∷ []))
 
-unfoldable pub table-pieces : List Content → Bytes → List Piece
-table-pieces [] e = a-trailer (e ∷ []) ∷ []
-table-pieces (c ∷ cs) e = a-table (content-lines c) ∷ table-pieces cs e
+unfoldable pub table-pieces : LineEnd → List Content → Bytes → List Piece
+table-pieces ends [] e = a-trailer (e ∷ []) ∷ []
+table-pieces ends (c ∷ cs) e = a-table (content-lines ends c) ∷ table-pieces ends cs e
 
 decimal-printed : (n : ℕ) → all (allowed false) (separated (decimal n ∷ [])) ≡ true
 decimal-printed n = separated-more false (decimal n) [] (all-mono digit (allowed false) (digit-allowed false) (decimal n) (decimal-all n)) (separated-none false)
 
-pub eof-seen : (n : ℕ) → Seen false (eof-line n) Eof (decimal n) []
+pub eof-seen : (ends : LineEnd) (n : ℕ) → Seen false (eof-line ends n) Eof (decimal n) []
 unfolding eof-line
-eof-seen n = seen (commands .13) (decimal n) [] false (a-field (decimal-field n) no-field) (decimal-printed n)
+eof-seen ends n = seen ends (commands .13) (decimal n) [] false (a-field (decimal-field n) no-field) (decimal-printed n)
 
-eof-begins : (n : ℕ) → begins-end (eof-line n) ≡ true
+eof-begins : (ends : LineEnd) (n : ℕ) → begins-end (eof-line ends n) ≡ true
 unfolding begins-end
-eof-begins n = rw (eof-seen n .named)
+eof-begins ends n = rw (eof-seen ends n .named)
 
-eof-no-table : (n : ℕ) → begins-table (eof-line n) ≡ false
+eof-no-table : (ends : LineEnd) (n : ℕ) → begins-table (eof-line ends n) ≡ false
 unfolding begins-table
-eof-no-table n = rw (eof-seen n .named)
+eof-no-table ends n = rw (eof-seen ends n .named)
 
-pub cut-tables : (latin : Bool) {cs : List Content} → Every (SoundContent latin) cs → (n : ℕ) →
-    cut (tables-lines cs ++ (eof-line n ∷ [])) ≡ record { front = []; pieces = table-pieces cs (eof-line n) }
+pub cut-tables : (ends : LineEnd) (latin : Bool) {cs : List Content} → Every (SoundContent latin) cs → (n : ℕ) →
+    cut (tables-lines ends cs ++ (eof-line ends n ∷ [])) ≡ record { front = []; pieces = table-pieces ends cs (eof-line ends n) }
 unfolding cut put tables-lines table-pieces
-cut-tables latin none-left n = rw (eof-no-table n, eof-begins n)
-cut-tables latin (one-more {x} {xs} s ss) n =
-    let ih = cut-tables latin ss n in
+cut-tables ends latin none-left n = rw (eof-no-table ends n, eof-begins ends n)
+cut-tables ends latin (one-more {x} {xs} s ss) n =
+    let ih = cut-tables ends latin ss n in
     rw (
-      append-assoc (content-lines x) (tables-lines xs) (eof-line n ∷ []),
-      cut-content latin x s (tables-lines xs ++ (eof-line n ∷ [])) (rw ih),
+      append-assoc (content-lines ends x) (tables-lines ends xs) (eof-line ends n ∷ []),
+      cut-content ends latin x s (tables-lines ends xs ++ (eof-line ends n ∷ [])) (rw ih),
       ih,
     )
 
-joined-tables : (cs : List Content) → joined (tables-lines cs) ≡ tables-form cs
+joined-tables : (ends : LineEnd) (cs : List Content) → joined (tables-lines ends cs) ≡ tables-form ends cs
 unfolding tables-lines tables-form joined
-joined-tables [] = refl
-joined-tables (c ∷ cs) = joined-append (content-lines c) (tables-lines cs) ∙ rw (joined-content c, joined-tables cs)
+joined-tables ends [] = refl
+joined-tables ends (c ∷ cs) = joined-append (content-lines ends c) (tables-lines ends cs) ∙ rw (joined-content ends c, joined-tables ends cs)
 
-pub joined-form : (m : Model) → joined (form-lines m) ≡ formOf m
+pub joined-form : (ends : LineEnd) (m : Model) → joined (form-lines ends m) ≡ formOf ends m
 unfolding form-lines formOf joined eof-line
-joined-form m =
-    joined-append (head-lines (m .head)) (tables-lines (m .tables) ++ (eof-line (length (m .tables)) ∷ []))
-    ∙ rw (joined-head (m .head), joined-append (tables-lines (m .tables)) (eof-line (length (m .tables)) ∷ []), joined-tables (m .tables), append-nil (eof-line (length (m .tables))))
+joined-form ends m =
+    joined-append (head-lines ends (m .head)) (tables-lines ends (m .tables) ++ (eof-line ends (length (m .tables)) ∷ []))
+    ∙ rw (joined-head ends (m .head), joined-append (tables-lines ends (m .tables)) (eof-line ends (length (m .tables)) ∷ []), joined-tables ends (m .tables), append-nil (eof-line ends (length (m .tables))))
 
 laid-lines : {ls : List Bytes} → Every Ended ls → Laid ls
 laid-lines none-left = no-line
 laid-lines (one-more e es) = next e (laid-lines es)
 
-lines-tables : (latin : Bool) {cs : List Content} → Every (SoundContent latin) cs → Every Line (tables-lines cs)
+lines-tables : (ends : LineEnd) (latin : Bool) {cs : List Content} → Every (SoundContent latin) cs → Every Line (tables-lines ends cs)
 unfolding tables-lines
-lines-tables latin none-left = none-left
-lines-tables latin (one-more {x} s ss) = every-append (line-content latin x s) (lines-tables latin ss)
+lines-tables ends latin none-left = none-left
+lines-tables ends latin (one-more {x} s ss) = every-append (line-content ends latin x s) (lines-tables ends latin ss)
 
 -- the trailer begins at the first `eof` line
 end-after : {ls : List Bytes} → Every Line ls → (more : List Bytes) → from-end (ls ++ more) ≡ from-end more
@@ -179,44 +180,44 @@ unfolding from-end
 end-after none-left more = refl
 end-after (one-more l ls) more = rw (l .no-end, end-after ls more)
 
-map-lines : (at : ℕ) (cs : List Content) (e : Bytes) → map (λ (x : Section). x .lines) (placed at (table-pieces cs e)) ≡ map content-lines cs
+map-lines : (ends : LineEnd) (at : ℕ) (cs : List Content) (e : Bytes) → map (λ (x : Section). x .lines) (placed at (table-pieces ends cs e)) ≡ map (content-lines ends) cs
 unfolding placed table-pieces
-map-lines at [] e = refl
-map-lines at (c ∷ cs) e = rw (map-lines (at + length (joined (content-lines c))) cs e)
+map-lines ends at [] e = refl
+map-lines ends at (c ∷ cs) e = rw (map-lines ends (at + length (joined (content-lines ends c))) cs e)
 
-module _ (m : Model) (s : SoundModel m) where
-  before-end : Every Line (head-lines (m .head) ++ tables-lines (m .tables))
-  before-end = every-append (every-map (λ l i. i .whole) (inner-head (m .head) (s .head))) (lines-tables (m .head .latin) (s .tables))
+module _ (ends : LineEnd) (m : Model) (s : SoundModel m) where
+  before-end : Every Line (head-lines ends (m .head) ++ tables-lines ends (m .tables))
+  before-end = every-append (every-map (λ l i. i .whole) (inner-head ends (m .head) (s .head))) (lines-tables ends (m .head .latin) (s .tables))
 
-  form-split : form-lines m ≡ (head-lines (m .head) ++ tables-lines (m .tables)) ++ (eof-line (length (m .tables)) ∷ [])
+  form-split : form-lines ends m ≡ (head-lines ends (m .head) ++ tables-lines ends (m .tables)) ++ (eof-line ends (length (m .tables)) ∷ [])
   unfolding form-lines
-  form-split = sym (append-assoc (head-lines (m .head)) (tables-lines (m .tables)) (eof-line (length (m .tables)) ∷ []))
+  form-split = sym (append-assoc (head-lines ends (m .head)) (tables-lines ends (m .tables)) (eof-line ends (length (m .tables)) ∷ []))
 
   -- the lines of the form are the written ones
-  pub lines-form : lines (formOf m) ≡ form-lines m
+  pub lines-form : lines (formOf ends m) ≡ form-lines ends m
   lines-form =
-      rw (← joined-form m)
-      (lines-joined (laid-lines (rw form-split (every-append (every-map (λ l i. i .ended) before-end) (one-more (eof-seen (length (m .tables)) .ended) none-left)))))
+      rw (← joined-form ends m)
+      (lines-joined (laid-lines (rw form-split (every-append (every-map (λ l i. i .ended) before-end) (one-more (eof-seen ends (length (m .tables)) .ended) none-left)))))
 
-  pub cut-form : cut (lines (formOf m)) ≡ record { front = head-lines (m .head); pieces = table-pieces (m .tables) (eof-line (length (m .tables))) }
+  pub cut-form : cut (lines (formOf ends m)) ≡ record { front = head-lines ends (m .head); pieces = table-pieces ends (m .tables) (eof-line ends (length (m .tables))) }
   unfolding form-lines
   cut-form =
       rw (
         lines-form,
-        cut-inner (inner-head (m .head) (s .head)) (tables-lines (m .tables) ++ (eof-line (length (m .tables)) ∷ [])),
-        cut-tables (m .head .latin) (s .tables) (length (m .tables)),
-        append-nil (head-lines (m .head)),
+        cut-inner (inner-head ends (m .head) (s .head)) (tables-lines ends (m .tables) ++ (eof-line ends (length (m .tables)) ∷ [])),
+        cut-tables ends (m .head .latin) (s .tables) (length (m .tables)),
+        append-nil (head-lines ends (m .head)),
       )
 
-  pub header-form : header-lines (formOf m) ≡ head-lines (m .head)
+  pub header-form : header-lines (formOf ends m) ≡ head-lines ends (m .head)
   unfolding header-lines
   header-form = ap (λ (c : Cut). c .front) cut-form
 
-  pub section-lines : map (λ (x : Section). x .lines) (sections (formOf m)) ≡ map content-lines (m .tables)
+  pub section-lines : map (λ (x : Section). x .lines) (sections (formOf ends m)) ≡ map (content-lines ends) (m .tables)
   unfolding sections
   section-lines =
-      rw (ap (λ (c : Cut). c .pieces) cut-form) (map-lines (length (joined (header-lines (formOf m)))) (m .tables) (eof-line (length (m .tables))))
+      rw (ap (λ (c : Cut). c .pieces) cut-form) (map-lines ends (length (joined (header-lines (formOf ends m)))) (m .tables) (eof-line ends (length (m .tables))))
 
-  pub trailer-form : trailer-lines (formOf m) ≡ eof-line (length (m .tables)) ∷ []
+  pub trailer-form : trailer-lines (formOf ends m) ≡ eof-line ends (length (m .tables)) ∷ []
   unfolding trailer-lines from-end
-  trailer-form = rw (lines-form, form-split, end-after before-end (eof-line (length (m .tables)) ∷ []), eof-begins (length (m .tables)))
+  trailer-form = rw (lines-form, form-split, end-after before-end (eof-line ends (length (m .tables)) ∷ []), eof-begins ends (length (m .tables)))

@@ -19,6 +19,8 @@ use Rattle.page.specs.Answers.{sound, earlier, refuse-if}
 use Rattle.page.specs.File.{limit, too-long, header-refusal, file-refusal}
 use Rattle.page.specs.Form.{line, line-end, separated, datum-text, decimal, marks, record-form, records-form, table-head, content-form, tables-form, head-form, formOf}
 use Rattle.page.specs.Rules.{Every, none-left, one-more}
+use Rattle.page.specs.declared.LineEnd.{LineEnd}
+use Rattle.page.proofs.LineEndLaws.{line-end-some}
 use Rattle.round.specs.Round.{SoundContent, SoundModel}
 use Rattle.round.specs.RoundKeys.{KeysHold}
 use Rattle.round.proofs.WrittenNumbers.{number-decimal}
@@ -30,52 +32,52 @@ use Rattle.round.proofs.RoundKeys.{SoundSection, keys-sound}
 
 -- a form has at least as many bytes as records
 
-line-some : (c : String) (fs : List Bytes) → 0 < length (line c fs)
-unfolding line line-end
-line-some c fs = omega (arith, length-append (bytes c) (separated fs ++ (10 ∷ [])), length-append (separated fs) (10 ∷ []))
+line-some : (ends : LineEnd) (c : String) (fs : List Bytes) → 0 < length (line ends c fs)
+unfolding line
+line-some ends c fs = omega (arith, length-append (bytes c) (separated fs ++ line-end ends), length-append (separated fs) (line-end ends), line-end-some ends)
 
-records-size : (rs : List Record) → length rs ≤ length (records-form rs)
+records-size : (ends : LineEnd) (rs : List Record) → length rs ≤ length (records-form ends rs)
 unfolding records-form record-form
-records-size [] = omega arith
-records-size (r ∷ rs) =
-    omega (arith, records-size rs, length-append (record-form r) (records-form rs), length-append (marks 1 r) (line "rec" (map datum-text r)), line-some "rec" (map datum-text r))
+records-size ends [] = omega arith
+records-size ends (r ∷ rs) =
+    omega (arith, records-size ends rs, length-append (record-form ends r) (records-form ends rs), length-append (marks ends 1 r) (line ends "rec" (map datum-text r)), line-some ends "rec" (map datum-text r))
 
-content-size : (c : Content) → length (c .records) ≤ length (content-form c)
+content-size : (ends : LineEnd) (c : Content) → length (c .records) ≤ length (content-form ends c)
 unfolding content-form
-content-size c =
+content-size ends c =
     omega (
       arith,
-      records-size (c .records),
-      length-append (table-head (Tables.table-at (c .table))) (records-form (c .records) ++ line "end" (decimal (length (c .records)) ∷ [])),
-      length-append (records-form (c .records)) (line "end" (decimal (length (c .records)) ∷ [])),
+      records-size ends (c .records),
+      length-append (table-head ends (Tables.table-at (c .table))) (records-form ends (c .records) ++ line ends "end" (decimal (length (c .records)) ∷ [])),
+      length-append (records-form ends (c .records)) (line ends "end" (decimal (length (c .records)) ∷ [])),
     )
 
-content-some : (c : Content) → 0 < length (content-form c)
+content-some : (ends : LineEnd) (c : Content) → 0 < length (content-form ends c)
 unfolding content-form
-content-some c =
+content-some ends c =
     omega (
       arith,
-      line-some "end" (decimal (length (c .records)) ∷ []),
-      length-append (table-head (Tables.table-at (c .table))) (records-form (c .records) ++ line "end" (decimal (length (c .records)) ∷ [])),
-      length-append (records-form (c .records)) (line "end" (decimal (length (c .records)) ∷ [])),
+      line-some ends "end" (decimal (length (c .records)) ∷ []),
+      length-append (table-head ends (Tables.table-at (c .table))) (records-form ends (c .records) ++ line ends "end" (decimal (length (c .records)) ∷ [])),
+      length-append (records-form ends (c .records)) (line ends "end" (decimal (length (c .records)) ∷ [])),
     )
 
-tables-size : (cs : List Content) → length cs ≤ length (tables-form cs)
+tables-size : (ends : LineEnd) (cs : List Content) → length cs ≤ length (tables-form ends cs)
 unfolding tables-form
-tables-size [] = omega arith
-tables-size (c ∷ cs) = omega (arith, tables-size cs, content-some c, length-append (content-form c) (tables-form cs))
+tables-size ends [] = omega arith
+tables-size ends (c ∷ cs) = omega (arith, tables-size ends cs, content-some ends c, length-append (content-form ends c) (tables-form ends cs))
 
 -- a section that may be said, of few enough records to be counted
 record Readable (latin : Bool) (c : Content) : Type 0 where
   good : SoundContent latin c
   few : length (c .records) < 10 ^ 18
 
-readable : (latin : Bool) {cs : List Content} → Every (SoundContent latin) cs → length (tables-form cs) ≤ limit → Every (Readable latin) cs
+readable : (ends : LineEnd) (latin : Bool) {cs : List Content} → Every (SoundContent latin) cs → length (tables-form ends cs) ≤ limit → Every (Readable latin) cs
 unfolding tables-form
-readable latin none-left h = none-left
-readable latin (one-more {x} {xs} s ss) h =
-    one-more (record { good = s; few = omega (arith, content-size x, length-append (content-form x) (tables-form xs)) })
-    (readable latin ss (omega (arith, length-append (content-form x) (tables-form xs))))
+readable ends latin none-left h = none-left
+readable ends latin (one-more {x} {xs} s ss) h =
+    one-more (record { good = s; few = omega (arith, content-size ends x, length-append (content-form ends x) (tables-form ends xs)) })
+    (readable ends latin ss (omega (arith, length-append (content-form ends x) (tables-form ends xs))))
 
 -- what a section says is its lines' to say
 said : Bool → List Bytes → Content
@@ -86,65 +88,65 @@ unfolding contentOf said
 said-lines latin [] = refl
 said-lines latin (x ∷ xs) = rw (said-lines latin xs)
 
-said-back : (latin : Bool) {cs : List Content} → Every (Readable latin) cs → map (said latin) (map content-lines cs) ≡ cs
+said-back : (ends : LineEnd) (latin : Bool) {cs : List Content} → Every (Readable latin) cs → map (said latin) (map (content-lines ends) cs) ≡ cs
 unfolding said
-said-back latin none-left = refl
-said-back latin (one-more {x} r rs) = rw (table-back latin x (r .good) (r .few), records-back latin x (r .good) (r .few), said-back latin rs)
+said-back ends latin none-left = refl
+said-back ends latin (one-more {x} r rs) = rw (table-back ends latin x (r .good) (r .few), records-back ends latin x (r .good) (r .few), said-back ends latin rs)
 
-sound-lines : (latin : Bool) (xs : List Section) {cs : List Content} → map (λ (x : Section). x .lines) xs ≡ map content-lines cs → Every (Readable latin) cs →
+sound-lines : (ends : LineEnd) (latin : Bool) (xs : List Section) {cs : List Content} → map (λ (x : Section). x .lines) xs ≡ map (content-lines ends) cs → Every (Readable latin) cs →
     Every (SoundSection latin) xs
-sound-lines latin [] e none-left = none-left
-sound-lines latin [] e (one-more r rs) = absurd (let z : ⊥ = omega (arith, ap length e) in z)
-sound-lines latin (x ∷ xs) e none-left = absurd (let z : ⊥ = omega (arith, ap length e) in z)
-sound-lines latin (x ∷ xs) e (one-more {x = c} {xs = cs} r rs) =
-    let h : x .lines ≡ content-lines c = cc in
-    let t : map (λ (y : Section). y .lines) xs ≡ map content-lines cs = cc in
+sound-lines ends latin [] e none-left = none-left
+sound-lines ends latin [] e (one-more r rs) = absurd (let z : ⊥ = omega (arith, ap length e) in z)
+sound-lines ends latin (x ∷ xs) e none-left = absurd (let z : ⊥ = omega (arith, ap length e) in z)
+sound-lines ends latin (x ∷ xs) e (one-more {x = c} {xs = cs} r rs) =
+    let h : x .lines ≡ content-lines ends c = cc in
+    let t : map (λ (y : Section). y .lines) xs ≡ map (content-lines ends) cs = cc in
     one-more {x = x}
-    (record { verdict = rw (h, outcome-back latin c (r .good) (r .few)); table = rw (h, outcome-back latin c (r .good) (r .few), table-back latin c (r .good) (r .few)) })
-    (sound-lines latin xs t rs)
+    (record { verdict = rw (h, outcome-back ends latin c (r .good) (r .few)); table = rw (h, outcome-back ends latin c (r .good) (r .few), table-back ends latin c (r .good) (r .few)) })
+    (sound-lines ends latin xs t rs)
 
-module _ (m : Model) (s : SoundModel m) (short : length (formOf m) ≤ limit) where
-  tables-short : length (tables-form (m .tables)) ≤ limit
+module _ (ends : LineEnd) (m : Model) (s : SoundModel m) (short : length (formOf ends m) ≤ limit) where
+  tables-short : length (tables-form ends (m .tables)) ≤ limit
   unfolding formOf
   tables-short =
       omega (
         arith,
-        length-append (head-form (m .head)) (tables-form (m .tables) ++ line "eof" (decimal (length (m .tables)) ∷ [])),
-        length-append (tables-form (m .tables)) (line "eof" (decimal (length (m .tables)) ∷ [])),
+        length-append (head-form ends (m .head)) (tables-form ends (m .tables) ++ line ends "eof" (decimal (length (m .tables)) ∷ [])),
+        length-append (tables-form ends (m .tables)) (line ends "eof" (decimal (length (m .tables)) ∷ [])),
       )
 
   all-readable : Every (Readable (m .head .latin)) (m .tables)
-  all-readable = readable (m .head .latin) (s .tables) tables-short
+  all-readable = readable ends (m .head .latin) (s .tables) tables-short
 
-  pub latin-form : latinOf (formOf m) ≡ m .head .latin
+  pub latin-form : latinOf (formOf ends m) ≡ m .head .latin
   unfolding latinOf
-  latin-form = rw (header-form m s) (latin-back (m .head) (s .head))
+  latin-form = rw (header-form ends m s) (latin-back ends (m .head) (s .head))
 
   -- the written form says what was written
-  pub form-model : modelOf (formOf m) ≡ m
+  pub form-model : modelOf (formOf ends m) ≡ m
   unfolding modelOf
   form-model =
-      rw (header-form m s, values-back (m .head) (s .head), latin-form, said-lines (m .head .latin) (sections (formOf m)), section-lines m s, said-back (m .head .latin) all-readable)
+      rw (header-form ends m s, values-back ends (m .head) (s .head), latin-form, said-lines (m .head .latin) (sections (formOf ends m)), section-lines ends m s, said-back ends (m .head .latin) all-readable)
 
-  pub form-sections : Every (SoundSection (latinOf (formOf m))) (sections (formOf m))
-  form-sections = rw latin-form (sound-lines (m .head .latin) (sections (formOf m)) (section-lines m s) all-readable)
+  pub form-sections : Every (SoundSection (latinOf (formOf ends m))) (sections (formOf ends m))
+  form-sections = rw latin-form (sound-lines ends (m .head .latin) (sections (formOf ends m)) (section-lines ends m s) all-readable)
 
-  count-back : length (sections (formOf m)) ≡ length (m .tables)
+  count-back : length (sections (formOf ends m)) ≡ length (m .tables)
   count-back =
-      sym (length-map (sections (formOf m)) (λ (x : Section). x .lines)) ∙ ap length (section-lines m s) ∙ length-map (m .tables) content-lines
+      sym (length-map (sections (formOf ends m)) (λ (x : Section). x .lines)) ∙ ap length (section-lines ends m s) ∙ length-map (m .tables) (content-lines ends)
 
-  pub trailer-back : trailerOf (formOf m) ≡ record { verdict = 0; line = 0 }
+  pub trailer-back : trailerOf (formOf ends m) ≡ record { verdict = 0; line = 0 }
   unfolding trailerOf trailer-of eof-ok all-blank
   trailer-back =
-      let e = eof-seen (length (m .tables)) in
-      let n : length (m .tables) < 10 ^ 18 = omega (arith, tables-size (m .tables), tables-short) in
-      rw (trailer-form m s, e .clean, e .split, number-decimal (length (m .tables)) n, count-back, eq-eqb (length (m .tables)) (length (m .tables)) refl)
+      let e = eof-seen ends (length (m .tables)) in
+      let n : length (m .tables) < 10 ^ 18 = omega (arith, tables-size ends (m .tables), tables-short) in
+      rw (trailer-form ends m s, e .clean, e .split, number-decimal (length (m .tables)) n, count-back, eq-eqb (length (m .tables)) (length (m .tables)) refl)
 
-  header-sound : header-refusal (formOf m) ≡ sound
+  header-sound : header-refusal (formOf ends m) ≡ sound
   unfolding header-refusal too-long earlier refuse-if
-  header-sound = rw (le-ltb limit (length (formOf m)) short, header-form m s, header-back (m .head) (s .head))
+  header-sound = rw (le-ltb limit (length (formOf ends m)) short, header-form ends m s, header-back ends (m .head) (s .head))
 
   -- and is accepted
-  pub form-sound : KeysHold (m .tables) → file-refusal (formOf m) ≡ sound
+  pub form-sound : KeysHold (m .tables) → file-refusal (formOf ends m) ≡ sound
   unfolding file-refusal earlier
-  form-sound k = rw (header-sound, trailer-back) (keys-sound (formOf m) form-sections (rw form-model k))
+  form-sound k = rw (header-sound, trailer-back) (keys-sound (formOf ends m) form-sections (rw form-model k))

@@ -12,7 +12,7 @@ use Rattle.page.specs.Lines.{allowed}
 use Rattle.page.specs.Fields.{digit, digits, numberOf}
 use Rattle.page.specs.Tables.{Named, Table, all-tables, WIDEST, no-column, columns, width}
 use Rattle.page.specs.Marks.{owner-of}
-use Rattle.page.specs.Section.{record-text, text-field, number-field, fieldOf, field-number, first-wrong, amount, amount-at}
+use Rattle.page.specs.Section.{wordsOf, record-text, text-field, number-field, fieldOf, field-number, first-wrong, amount, amount-at}
 use Rattle.page.specs.Records.{Datum, number, words, Record, datumOf, valuesOf}
 use Rattle.page.specs.Form.{separated, decimal, datum-text}
 use Rattle.page.specs.declared.Column.{Column}
@@ -65,7 +65,7 @@ digit-allowed wide b h =
 
 module _ (latin : Bool) (c : Column) where
   pub field-back : (v : Datum) → Fits latin c v → c .hi < 10 ^ 18 → field-number (fieldOf c (datum-text v)) ≡ 0
-  unfolding fieldOf field-number number-field text-field record-text datum-text
+  unfolding fieldOf field-number number-field text-field wordsOf datum-text
   field-back (number n) (a-number k l h) s =
       let z : n < 10 ^ 18 = omega arith in
       rw (k, number-decimal n z, le-leb (c .lo) n l, le-leb n (c .hi) h)
@@ -78,7 +78,7 @@ module _ (latin : Bool) (c : Column) where
   Owns o (words p t) = p ≡ o
 
   datum-back : (o : Owner) (v : Datum) → Fits latin c v → c .hi < 10 ^ 18 → Owns o v → datumOf o c (datum-text v) ≡ v
-  unfolding datumOf record-text datum-text
+  unfolding datumOf record-text wordsOf datum-text
   datum-back o (number n) (a-number k l h) s w =
       let z : n < 10 ^ 18 = omega arith in
       rw (k, number-decimal n z)

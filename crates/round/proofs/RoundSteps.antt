@@ -9,11 +9,13 @@ use borrow.Author.Tests.{eq-eqb, ne-eqb, lt-ltb, not-true}
 use Rattle.page.specs.Bytes.{Bytes, bytes, all}
 use Rattle.page.specs.Lines.{content, rest, allowed, Rec, End, Com}
 use Rattle.page.specs.Fields.{digit}
-use Rattle.page.specs.Tables.{Named, no-column, columns, width, rules, standing}
+use Rattle.page.specs.Tables.{Named, no-column, width, rules}
+use Rattle.page.specs.Order.{listed-order, by-column}
 use Rattle.page.specs.Marks.{remarkOf, may-mark, owner-of}
 use Rattle.page.specs.Section.{choose, first-broken, empty-marked, rec-verdict, rec-step, count-step, end-step, mark-step, com-step, line-step, content-step, step}
 use Rattle.page.specs.Records.{Datum, number, words, Record}
 use Rattle.page.specs.Form.{separated, line, decimal, quoted, datum-text, mark-line}
+use Rattle.page.specs.declared.LineEnd.{LineEnd}
 use Rattle.page.specs.declared.Owner.the-variants as O
 use Rattle.page.specs.declared.Phase.the-variants as P
 use Rattle.page.specs.declared.Remark.the-variants as R
@@ -27,23 +29,24 @@ use Rattle.round.proofs.WrittenLines.{commands, Seen, seen, separated-m
 use Rattle.round.proofs.WrittenDates.{mark-again}
 use Rattle.round.proofs.RoundRecords.{tame, small, fillable-in, one-fillable, digit-allowed, Owned, no-owner, of-number, of-words, wrong-back, width-back, fields-stand, separated-allowed, number-back}
 use Rattle.page.proofs.TestLaws.{and-left, and-right, neither}
+use Rattle.page.proofs.OrderLaws.{listed-standing, listed-column}
 use Rattle.grammar.proofs.Values.{rule-decided, rules-kept}
 
 -- the marks of a record, line by line
-unfoldable pub mark-lines-of : ℕ → Datum → List Bytes
-mark-lines-of i (number n) = []
-mark-lines-of i (words O.Operator t) = []
-mark-lines-of i (words O.Suggestion t) = mark-line i ∷ []
+unfoldable pub mark-lines-of : LineEnd → ℕ → Datum → List Bytes
+mark-lines-of ends i (number n) = []
+mark-lines-of ends i (words O.Operator t) = []
+mark-lines-of ends i (words O.Suggestion t) = mark-line ends i ∷ []
 
-unfoldable pub mark-lines : ℕ → Record → List Bytes
-mark-lines i [] = []
-mark-lines i (v ∷ vs) = mark-lines-of i v ++ mark-lines (suc i) vs
+unfoldable pub mark-lines : LineEnd → ℕ → Record → List Bytes
+mark-lines ends i [] = []
+mark-lines ends i (v ∷ vs) = mark-lines-of ends i v ++ mark-lines ends (suc i) vs
 
 -- the one mark of a record whose values, counted from i, fit the columns cs: none, or one with its text
-pub data Marked (i : ℕ) (cs : List Named) (vs : Record) : ℕ → Type 0 where
-  unmarked : mark-lines i vs ≡ [] → Owned 0 i vs → Marked i cs vs 0
+pub data Marked (ends : LineEnd) (i : ℕ) (cs : List Named) (vs : Record) : ℕ → Type 0 where
+  unmarked : mark-lines ends i vs ≡ [] → Owned 0 i vs → Marked ends i cs vs 0
   marked : (j : ℕ) (b : ℕ) (u : Bytes) → j < length cs → getD cs j no-column .column .fillable ≡ true → getD (map datum-text vs) j [] ≡ quoted (b ∷ u) →
-      mark-lines i vs ≡ mark-line (i + j) ∷ [] → Owned (i + j) i vs → Marked i cs vs (i + j)
+      mark-lines ends i vs ≡ mark-line ends (i + j) ∷ [] → Owned (i + j) i vs → Marked ends i cs vs (i + j)
 
 owner-other : (m i : ℕ) → ¬ (m ≡ i) → owner-of m i ≡ O.Operator
 unfolding owner-of
@@ -54,8 +57,8 @@ unfolding owner-of
 owner-same i = rw (eq-eqb i i refl)
 
 -- columns of which none may be marked hold no suggestion
-module _ (latin : Bool) where
-  none-marked : (i : ℕ) {cs : List Named} {vs : Record} → FitAll latin cs vs → fillable-in cs ≡ false → mark-lines i vs ≡ []
+module _ (ends : LineEnd) (latin : Bool) where
+  none-marked : (i : ℕ) {cs : List Named} {vs : Record} → FitAll latin cs vs → fillable-in cs ≡ false → mark-lines ends i vs ≡ []
   unfolding mark-lines mark-lines-of fillable-in
   none-marked i no-value e = refl
   none-marked i (a-value {c} {cs} (a-number x l h) g) e = none-marked (suc i) g (neither (c .column .fillable) (fillable-in cs) e .1)
@@ -71,15 +74,15 @@ module _ (latin : Bool) where
   none-owned m i (a-value {c} {cs} (a-suggestion x f p q a) g) e h = absurd (false≢true (sym (neither (c .column .fillable) (fillable-in cs) e .0) ∙ f))
 
   -- a value of the operator's, or a number, in front
-  onto : (i m : ℕ) (c : Named) {cs : List Named} {v : Datum} {vs : Record} → mark-lines-of i v ≡ [] →
-      ((k : ℕ) → ¬ (k ≡ i) → Owned k (suc i) vs → Owned k i (v ∷ vs)) → 0 < i → Marked (suc i) cs vs m → Marked i (c ∷ cs) (v ∷ vs) m
+  onto : (i m : ℕ) (c : Named) {cs : List Named} {v : Datum} {vs : Record} → mark-lines-of ends i v ≡ [] →
+      ((k : ℕ) → ¬ (k ≡ i) → Owned k (suc i) vs → Owned k i (v ∷ vs)) → 0 < i → Marked ends (suc i) cs vs m → Marked ends i (c ∷ cs) (v ∷ vs) m
   unfolding mark-lines
   onto i m c q w p (unmarked e o) = unmarked (rw (q, e)) (w 0 (λ (z : 0 ≡ i). omega arith) o)
   onto i m c q w p (marked j b u h f t e o) =
       let z : suc i + j ≡ i + suc j = omega arith in
       rw z (marked (suc j) b u (omega arith) f t (rw (q, e, z)) (w (i + suc j) (λ (y : i + suc j ≡ i). omega arith) (rw z at o)))
 
-  pub marks-back : (i : ℕ) {cs : List Named} {vs : Record} → 0 < i → FitAll latin cs vs → one-fillable cs ≡ true → (m : ℕ) × Marked i cs vs m
+  pub marks-back : (i : ℕ) {cs : List Named} {vs : Record} → 0 < i → FitAll latin cs vs → one-fillable cs ≡ true → (m : ℕ) × Marked ends i cs vs m
   unfolding one-fillable mark-lines mark-lines-of datum-text
   marks-back i p no-value e = (0, unmarked refl no-owner)
   marks-back i p (a-value {c} {cs} (a-number x l q) g) e =
@@ -96,7 +99,7 @@ module _ (latin : Bool) where
 
 -- one line
 
-module _ (latin : Bool) (t : ℕ) where
+module _ (ends : LineEnd) (latin : Bool) (t : ℕ) where
   and-false : (latin && false) ≡ false
   and-false = by latin
     where
@@ -121,17 +124,17 @@ module _ (latin : Bool) (t : ℕ) where
       separated-more false (quoted (bytes "SUGGESTED " ++ decimal i)) []
       (quoted-all (allowed false) (bytes "SUGGESTED " ++ decimal i) quote-allowed (suggested i)) (separated-none false)
 
-  pub mark-seen : (i : ℕ) → Seen latin (mark-line i) Com (quoted (bytes "SUGGESTED " ++ decimal i)) []
+  pub mark-seen : (i : ℕ) → Seen latin (mark-line ends i) Com (quoted (bytes "SUGGESTED " ++ decimal i)) []
   unfolding mark-line
   mark-seen i =
-      seen (commands .12) (quoted (bytes "SUGGESTED " ++ decimal i)) [] latin (a-field (quoted-field (bytes "SUGGESTED " ++ decimal i)) no-field)
+      seen ends (commands .12) (quoted (bytes "SUGGESTED " ++ decimal i)) [] latin (a-field (quoted-field (bytes "SUGGESTED " ++ decimal i)) no-field)
       (rw and-false (mark-allowed i))
 
-  pub mark-reads : (i : ℕ) → 1 ≤ i → i < 10 ^ 18 → remarkOf (rest (content (mark-line i))) ≡ R.Mark i
+  pub mark-reads : (i : ℕ) → 1 ≤ i → i < 10 ^ 18 → remarkOf (rest (content (mark-line ends i))) ≡ R.Mark i
   unfolding separated
   mark-reads i l h = rw (mark-seen i .behind, append-nil (quoted (bytes "SUGGESTED " ++ decimal i))) (mark-again i l h)
 
-  pub mark-step-back : (i n : ℕ) → 1 ≤ i → i < 10 ^ 18 → may-mark t i ≡ true → step latin (P.Rows t 0 n) (mark-line i) ≡ S.Go (P.Rows t i n)
+  pub mark-step-back : (i n : ℕ) → 1 ≤ i → i < 10 ^ 18 → may-mark t (listed-order t) i ≡ true → step latin (P.Rows t 0 n) (mark-line ends i) ≡ S.Go (P.Rows t i n)
   unfolding step content-step com-step mark-step choose
   mark-step-back i n l h m =
       let s = mark-seen i in
@@ -141,33 +144,43 @@ module _ (latin : Bool) (t : ℕ) where
   decimal-allowed : (n : ℕ) → all (allowed false) (separated (decimal n ∷ [])) ≡ true
   decimal-allowed n = separated-more false (decimal n) [] (all-mono digit (allowed false) (digit-allowed false) (decimal n) (decimal-all n)) (separated-none false)
 
-  pub end-seen : (n : ℕ) → Seen latin (line "end" (decimal n ∷ [])) End (decimal n) []
-  end-seen n = seen (commands .11) (decimal n) [] latin (a-field (decimal-field n) no-field) (rw and-false (decimal-allowed n))
+  pub end-seen : (n : ℕ) → Seen latin (line ends "end" (decimal n ∷ [])) End (decimal n) []
+  end-seen n = seen ends (commands .11) (decimal n) [] latin (a-field (decimal-field n) no-field) (rw and-false (decimal-allowed n))
 
-  pub end-step-back : (n : ℕ) → n < 10 ^ 18 → step latin (P.Rows t 0 n) (line "end" (decimal n ∷ [])) ≡ S.Go (P.Ended t n)
+  pub end-step-back : (n : ℕ) → n < 10 ^ 18 → step latin (P.Rows t 0 n) (line ends "end" (decimal n ∷ [])) ≡ S.Go (P.Ended t n)
   unfolding step content-step line-step end-step count-step choose
   end-step-back n h =
       let s = end-seen n in
       rw (s .clean, s .shown, s .named, s .split, number-decimal n h, eq-eqb n n refl)
 
 -- `rec` with a record's values
-module _ (latin : Bool) (t : ℕ) (v : Datum) (vs : Record) (r : SoundRecord latin t (v ∷ vs)) where
+module _ (ends : LineEnd) (latin : Bool) (t : ℕ) (v : Datum) (vs : Record) (r : SoundRecord latin t (v ∷ vs)) where
   abbrev rec-line : Bytes
-  rec-line = line "rec" (map datum-text (v ∷ vs))
+  rec-line = line ends "rec" (map datum-text (v ∷ vs))
 
   pub rec-seen : Seen latin rec-line Rec (datum-text v) (map datum-text vs)
-  rec-seen = seen (commands .10) (datum-text v) (map datum-text vs) latin (fields-stand latin (v ∷ vs)) (rw (and-true latin t) (separated-allowed latin (r .fit)))
+  rec-seen = seen ends (commands .10) (datum-text v) (map datum-text vs) latin (fields-stand latin (v ∷ vs)) (rw (and-true ends latin t) (separated-allowed latin (r .fit)))
+
+  wide : length (map datum-text (v ∷ vs)) ≡ width t
+  unfolding width
+  wide = length-map (v ∷ vs) datum-text ∙ width-back latin (r .fit)
 
   rules-back : first-broken (rules t) (map datum-text (v ∷ vs)) ≡ 0
   rules-back =
       rules-kept (map datum-text (v ∷ vs)) (v ∷ vs) (rules t)
       (rule-decided t (map datum-text (v ∷ vs)) (v ∷ vs) (number-back latin (r .fit) (tame t .small))) (r .rules)
 
-  verdict-back : (m : ℕ) → empty-marked m (map datum-text (v ∷ vs)) ≡ false → rec-verdict t m (map datum-text (v ∷ vs)) ≡ 0
-  unfolding rec-verdict width standing
+  -- its fields stand by column
+  pub fields-back : by-column (listed-order t) (map datum-text (v ∷ vs)) ≡ map datum-text (v ∷ vs)
+  fields-back = listed-column t (map datum-text (v ∷ vs)) wide
+
+  verdict-back : (m : ℕ) → empty-marked m (map datum-text (v ∷ vs)) ≡ false → rec-verdict t (listed-order t) m (map datum-text (v ∷ vs)) ≡ 0
+  unfolding rec-verdict
   verdict-back m e =
       rw (
-        eq-eqb (length (map datum-text (v ∷ vs))) (length (columns t)) (length-map (v ∷ vs) datum-text ∙ width-back latin (r .fit)),
+        eq-eqb (length (map datum-text (v ∷ vs))) (width t) wide,
+        listed-standing t,
+        fields-back,
         wrong-back latin (r .fit) (tame t .small),
         rules-back,
         e,

@@ -1,52 +1,24 @@
 -- A written line: its content, command, rest and fields, and that it is one line. Assumes nothing.
-use mathlib.Core.Path.{_≡_, refl, sym, _∙_}
+use mathlib.Core.Path.{_≡_, refl, sym}
 use mathlib.Core.Bool.{Bool, true, false, _&&_}
 use mathlib.Core.List.{List, [], _∷_, _++_, append-assoc}
-use Prim.Native.Nat.{ℕ, zero, suc, _+_, _-_, _<_}
+use Prim.Native.Nat.{ℕ, _<_}
 use Prim.Native.String.{String}
 use native.Mathlib.Omega.{arith}
 use lib.Dec.{eqb, leb}
-use lib.ListN.{length, getD, length-append, List·getD-append}
-use lib.Seq.{take-append-seam, drop-append-add, getD-append-seam}
+use lib.ListN.{length, length-append}
+use lib.Seq.{take-append-seam, drop-append-add}
 use borrow.Author.Tests.{ne-eqb, lt-ltb, le-leb, leb-true}
 use Rattle.page.specs.Bytes.{Bytes, bytes, same, all, until, keep, no-space, trim}
-use Rattle.page.specs.Lines.{content-size, content, blank, known, find, semicolon, command, rest, allowed, clean, Mod, Src, Chs, Ver, Ifv, Dve, Fft, Tbl, Atr, Frm, Rec, End, Com, Eof}
+use Rattle.page.specs.Lines.{content, blank, known, find, semicolon, command, rest, allowed, clean, Mod, Src, Chs, Ver, Ifv, Dve, Fft, Tbl, Atr, Frm, Rec, End, Com, Eof}
 use Rattle.page.specs.Fields.{fields}
 use Rattle.page.specs.Form.{line-end, separated, line}
-use Rattle.page.proofs.LineLaws.{Ended, lf, after}
-use Rattle.page.proofs.ContentLaws.{content-lf}
-use Rattle.laws.proofs.WrittenScans.{all-mono, all-append, differ}
+use Rattle.page.specs.declared.LineEnd.{LineEnd}
+use Rattle.page.proofs.LineLaws.{Ended}
+use Rattle.page.proofs.LineEndLaws.{content-of, ended-of}
+use Rattle.laws.proofs.WrittenScans.{all-mono, all-append}
 use Rattle.round.proofs.WrittenFields.{Fields, fields-again}
-use Rattle.page.proofs.TestLaws.{and-left, and-right}
-
--- bytes from 32 on: neither CR nor LF
-pub all-at : (f : ℕ → Bool) (w : Bytes) (i : ℕ) → all f w ≡ true → i < length w → f (getD w i 0) ≡ true
-unfolding all
-all-at f [] i h p = absurd (omega arith)
-all-at f (b ∷ w) zero h p = and-left (f b) (all f w) h
-all-at f (b ∷ w) (suc i) h p = all-at f w i (and-right (f b) (all f w) h) (omega arith)
-
-no-return : (w : Bytes) → all (leb 32) w ≡ true → getD (w ++ 10 ∷ []) (length w - 1) 0 ≡ 13 → ⊥
-no-return [] h e = let z : _≡_ {A = ℕ} 10 13 = e in omega arith
-no-return (b ∷ w) h e =
-    let p : length (b ∷ w) - 1 < length (b ∷ w) = omega arith in
-    let q : getD (b ∷ w) (length (b ∷ w) - 1) 0 ≡ 13 = sym (List·getD-append (b ∷ w) (10 ∷ []) 0 (length (b ∷ w) - 1) p) ∙ e in
-    omega (arith, leb-true 32 (getD (b ∷ w) (length (b ∷ w) - 1) 0) (all-at (leb 32) (b ∷ w) (length (b ∷ w) - 1) h p))
-
-pub content-of : (w : Bytes) → all (leb 32) w ≡ true → content (w ++ 10 ∷ []) ≡ w
-unfolding content
-content-of w h =
-    let n : length (w ++ 10 ∷ []) ≡ length w + 1 = length-append w (10 ∷ []) in
-    let a : length (w ++ 10 ∷ []) - 1 ≡ length w = omega arith in
-    let c : length (w ++ 10 ∷ []) - 2 ≡ length w - 1 = omega arith in
-    let z : content-size (w ++ 10 ∷ []) ≡ length (w ++ 10 ∷ []) - 1 =
-    content-lf (w ++ 10 ∷ []) (rw a (getD-append-seam w 10 [] 0)) (λ (k : getD (w ++ 10 ∷ []) (length (w ++ 10 ∷ []) - 2) 0 ≡ 13). no-return w h (rw c at k)) in
-    rw (z, a) (take-append-seam w (10 ∷ []))
-
-pub ended-of : (w : Bytes) → all (leb 32) w ≡ true → Ended (w ++ 10 ∷ [])
-unfolding all
-ended-of [] h = lf refl
-ended-of (b ∷ w) h = after (differ (leb 32) b 10 (and-left (leb 32 b) (all (leb 32) w) h) refl) (ended-of w (and-right (leb 32 b) (all (leb 32) w) h))
+use Rattle.page.proofs.TestLaws.{and-left}
 
 -- an allowed byte is one from 32 on
 pub allowed-printed : (wide : Bool) (b : ℕ) → allowed wide b ≡ true → leb 32 b ≡ true
@@ -104,7 +76,7 @@ pub record Seen (latin : Bool) (l : Bytes) (k : ℕ) (f : Bytes) (fs : List Byte
   pub split : fields (rest (content l)) ≡ f ∷ fs
   pub ended : Ended l
 
-module _ {s : String} {k : ℕ} (n : Named s k) (f : Bytes) (fs : List Bytes) where
+module _ (ends : LineEnd) {s : String} {k : ℕ} (n : Named s k) (f : Bytes) (fs : List Bytes) where
   abbrev body : Bytes
   body = bytes s ++ separated (f ∷ fs)
 
@@ -124,24 +96,24 @@ module _ {s : String} {k : ℕ} (n : Named s k) (f : Bytes) (fs : List Bytes) wh
   unfolding rest separated bytes
   body-rest = rw body-cut (drop-append-add (bytes s) (separated (f ∷ fs)) 1)
 
-  line-body : line s (f ∷ fs) ≡ body ++ 10 ∷ []
-  unfolding line line-end
-  line-body = sym (append-assoc (bytes s) (separated (f ∷ fs)) (10 ∷ []))
+  line-body : line ends s (f ∷ fs) ≡ body ++ line-end ends
+  unfolding line
+  line-body = sym (append-assoc (bytes s) (separated (f ∷ fs)) (line-end ends))
 
-  pub seen : (latin : Bool) → Fields (f ∷ fs) → all (allowed (latin && eqb k Rec)) (separated (f ∷ fs)) ≡ true → Seen latin (line s (f ∷ fs)) k f fs
+  pub seen : (latin : Bool) → Fields (f ∷ fs) → all (allowed (latin && eqb k Rec)) (separated (f ∷ fs)) ≡ true → Seen latin (line ends s (f ∷ fs)) k f fs
   unfolding clean blank
   seen latin d a =
       let ok : all (allowed (latin && eqb k Rec)) body ≡ true =
       all-append (allowed (latin && eqb k Rec)) (bytes s) (separated (f ∷ fs)) (n .printed (latin && eqb k Rec)) a in
       let pr : all (leb 32) body ≡ true = all-mono (allowed (latin && eqb k Rec)) (leb 32) (allowed-printed (latin && eqb k Rec)) body ok in
-      let e : content (line s (f ∷ fs)) ≡ body = rw line-body (content-of body pr) in
+      let e : content (line ends s (f ∷ fs)) ≡ body = rw line-body (content-of ends body pr) in
       record {
         named = rw e body-command;
         clean = rw (e, body-command) ok;
         shown = rw (e, n .starts (separated (f ∷ fs))) (ne-eqb 0 (length body) (λ (z : 0 ≡ length body). omega (arith, body-length)));
         behind = rw e body-rest;
         split = rw (e, body-rest) (fields-again d);
-        ended = rw line-body (ended-of body pr);
+        ended = rw line-body (ended-of ends body pr);
       }
 
 -- the bytes of the fields, with what separates them

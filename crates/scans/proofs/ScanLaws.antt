@@ -17,7 +17,8 @@ use Rattle.page.proofs.ScanLaws.{part-length}
 use Rattle.page.proofs.LineLaws.{line-size, line-in, cut-at, lines-end, joined-lines, joined-length, run-lines, ends, lines-append}
 use Rattle.page.proofs.PartLaws.{part-rest}
 use Rattle.page.proofs.KeyLaws.{any-append}
-use Rattle.keys.specs.Numbers.{seven, chosen}
+use Rattle.tables.specs.declared.choices.Choice.{Choice}
+use Rattle.keys.specs.Numbers.{gathered}
 use Rattle.scans.specs.Scan.{is-record, line-key, bears, again, Starts, first-line, some}
 use Rattle.page.proofs.TestLaws.{or-false}
 
@@ -132,9 +133,8 @@ any-some f d p (x ∷ xs) i h =
     rw (b, any-some f d p xs (suc i) (λ j l. h (suc j) (omega arith) ∙ ap p (let n : i + suc j ≡ suc i + j = omega arith in n)))
 
 -- a line's content c, its command k, what follows its `;`, and what that has in the fields of a choice
-module _ (q : ℕ) (l c : Bytes) (k : ℕ) (a : c ≡ content l) (b : k ≡ command c) where
+module _ (q : Choice) (l c : Bytes) (k : ℕ) (a : c ≡ content l) (b : k ≡ command c) where
   pub recorded : (x : Bool) → eqb k Rec ≡ x → is-record l ≡ x
-  unfolding is-record
   recorded x e = rw (sym a, sym b) e
 
   pub bears-other : (key : List ℕ) → (k ≡ 11 → ⊥) → bears q key l ≡ false
@@ -145,10 +145,10 @@ module _ (q : ℕ) (l c : Bytes) (k : ℕ) (a : c ≡ content l) (b : k ≡ comm
   unfolding again
   again-other before n = rw (recorded false (ne-eqb k Rec n))
 
-  module _ (e : k ≡ 11) (w : Bytes) (r : w ≡ rest c) (x : List ℕ) (y : x ≡ seven (chosen q (fields w))) where
+  module _ (e : k ≡ 11) (w : Bytes) (r : w ≡ rest c) (x : List ℕ) (y : x ≡ gathered q (fields w)) where
     pub keyed : line-key q l ≡ x
     unfolding line-key
-    keyed = sym (y ∙ ap (λ (v : Bytes). seven (chosen q (fields v))) (r ∙ ap rest a))
+    keyed = sym (y ∙ ap (λ (v : Bytes). gathered q (fields v)) (r ∙ ap rest a))
 
     pub bears-record : (key : List ℕ) → bears q key l ≡ same x key
     unfolding bears

@@ -10,18 +10,19 @@ use Rattle.page.specs.Fields.{fields}
 use Rattle.page.specs.File.{any}
 use Rattle.page.proofs.KeyLaws.{any-append}
 use Rattle.page.proofs.TestLaws.{same-true, neither}
-use Rattle.keys.specs.Numbers.{seven, chosen}
+use Rattle.tables.specs.declared.choices.Choice.{Choice}
+use Rattle.keys.specs.Numbers.{gathered}
 use Rattle.keys.specs.Orders.{less}
 use Rattle.keys.proofs.OrderLaws.{less-self, less-new, less-top}
 use Rattle.scans.specs.Scan.{is-record, line-key, bears, again, above, rises, raised, Topped}
 use Rattle.scans.proofs.ScanLaws.{recorded, keyed}
 
-pub topped-none : (q : ℕ) (k : List ℕ) → Topped q k []
+pub topped-none : (q : Choice) (k : List ℕ) → Topped q k []
 unfolding any
 topped-none q k = record { none = refl }
 
 -- a key above the largest one
-module _ (q : ℕ) (top k : List ℕ) (h : less top k ≡ true) where
+module _ (q : Choice) (top k : List ℕ) (h : less top k ≡ true) where
   one-new : (l : Bytes) → above q top l ≡ false → (bears q k l ≡ false) × (above q k l ≡ false)
   unfolding above bears
   one-new l e = by (is-record l) (same (line-key q l) k) refl e
@@ -42,12 +43,12 @@ module _ (q : ℕ) (top k : List ℕ) (h : less top k ≡ true) where
       (rw (a .0) (b .0), rw (a .1) (b .1))
 
 -- a line more that is not above the largest key
-topped-line : (q : ℕ) (k : List ℕ) (ls : List Bytes) (l : Bytes) → any (above q k) ls ≡ false → above q k l ≡ false → Topped q k (ls ++ l ∷ [])
+topped-line : (q : Choice) (k : List ℕ) (ls : List Bytes) (l : Bytes) → any (above q k) ls ≡ false → above q k l ≡ false → Topped q k (ls ++ l ∷ [])
 unfolding any
 topped-line q k ls l a b = record { none = any-append (above q k) ls (l ∷ []) ∙ rw (a, b) }
 
 -- a line that rises
-module _ (q : ℕ) (top : List ℕ) (ls : List Bytes) (l : Bytes) (z : Topped q top ls) (e : rises q top l ≡ true) where
+module _ (q : Choice) (top : List ℕ) (ls : List Bytes) (l : Bytes) (z : Topped q top ls) (e : rises q top l ≡ true) where
   pub rise-new : again q ls l ≡ false
   unfolding rises again
   rise-new = by (is-record l) e
@@ -65,12 +66,12 @@ module _ (q : ℕ) (top : List ℕ) (ls : List Bytes) (l : Bytes) (z : Topped q 
       by false r m = topped-line q top ls l (z .none) (rw r)
 
 -- a line's content c, its command k, what follows its `;`, and what that has in the fields of a choice
-module _ (q : ℕ) (l c : Bytes) (k : ℕ) (a : c ≡ content l) (b : k ≡ command c) (top : List ℕ) where
+module _ (q : Choice) (l c : Bytes) (k : ℕ) (a : c ≡ content l) (b : k ≡ command c) (top : List ℕ) where
   pub rises-other : (k ≡ 11 → ⊥) → (true ≡ rises q top l) × (top ≡ raised q top l)
   unfolding rises raised
   rises-other n = let r = recorded q l c k a b false (ne-eqb k Rec n) in (rw r, rw r)
 
-  pub rises-record : k ≡ 11 → (w : Bytes) → w ≡ rest c → (x : List ℕ) → x ≡ seven (chosen q (fields w)) → (less top x ≡ rises q top l) × (x ≡ raised q top l)
+  pub rises-record : k ≡ 11 → (w : Bytes) → w ≡ rest c → (x : List ℕ) → x ≡ gathered q (fields w) → (less top x ≡ rises q top l) × (x ≡ raised q top l)
   unfolding rises raised
   rises-record e w r x y =
       let i = recorded q l c k a b true (eq-eqb k Rec e) in

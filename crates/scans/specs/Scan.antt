@@ -11,38 +11,39 @@ use Rattle.page.specs.Fields.{fields}
 use Rattle.page.specs.Answers.{refusal, sound}
 use Rattle.page.specs.File.{any}
 use Rattle.page.specs.declared.Refusal.{Refusal}
-use Rattle.keys.specs.Numbers.{seven, chosen}
+use Rattle.tables.specs.declared.choices.Choice.{Choice}
+use Rattle.keys.specs.Numbers.{gathered}
 use Rattle.keys.specs.Orders.{less}
 
-unfoldable pub is-record : Bytes → Bool
+abbrev pub is-record : Bytes → Bool
 is-record l = eqb (command (content l)) Rec
 
 -- what a line has in the fields of a choice
-unfoldable pub line-key : ℕ → Bytes → List ℕ
-line-key q l = seven (chosen q (fields (rest (content l))))
+unfoldable pub line-key : Choice → Bytes → List ℕ
+line-key q l = gathered q (fields (rest (content l)))
 
 -- a line is a record that has the key k
-unfoldable pub bears : ℕ → List ℕ → Bytes → Bool
+unfoldable pub bears : Choice → List ℕ → Bytes → Bool
 bears q k l = pick (is-record l) (same (line-key q l) k) false
 
 -- a line is a record whose key stands in the lines before it
-unfoldable pub again : ℕ → List Bytes → Bytes → Bool
+unfoldable pub again : Choice → List Bytes → Bytes → Bool
 again q before l = pick (is-record l) (any (bears q (line-key q l)) before) false
 
 -- a line is a record whose key lies above the key k
-unfoldable pub above : ℕ → List ℕ → Bytes → Bool
+unfoldable pub above : Choice → List ℕ → Bytes → Bool
 above q k l = pick (is-record l) (less k (line-key q l)) false
 
 -- a line is no record, or its key lies above the key k
-unfoldable pub rises : ℕ → List ℕ → Bytes → Bool
+unfoldable pub rises : Choice → List ℕ → Bytes → Bool
 rises q k l = pick (is-record l) (less k (line-key q l)) true
 
 -- the largest key up to a line that rises
-unfoldable pub raised : ℕ → List ℕ → Bytes → List ℕ
+unfoldable pub raised : Choice → List ℕ → Bytes → List ℕ
 raised q k l = pick (is-record l) (line-key q l) k
 
 -- no record's key lies above the key k
-pub record Topped (q : ℕ) (k : List ℕ) (ls : List Bytes) : Type 0 where
+pub record Topped (q : Choice) (k : List ℕ) (ls : List Bytes) : Type 0 where
   pub none : any (above q k) ls ≡ false
 
 -- a place where a line begins, or the end

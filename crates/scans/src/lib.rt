@@ -7,4 +7,3 @@ pub use scan::find_rise;
 pub use scan::find_start;
 pub use scan::finds_from;
 pub use scan::is_again;
-pub use scan::is_record;

@@ -4,12 +4,13 @@ ghost use Prim.Native.Nat.{_-_, _≤_};
 ghost use lib.ListN.{length, take, drop};
 ghost use Rattle.page.specs.Lines.{lines};
 ghost use Rattle.page.specs.File.{any};
-ghost use Rattle.scans.specs.Scan.{is-record, bears, again, rises, raised, Starts};
+ghost use Rattle.scans.specs.Scan.{bears, again, rises, raised, Starts};
 use keys::Key;
 use lines::Cursor;
+use tables::Choice;
 
 // Is a line a record that has a key in the fields of a choice?
-pub fn bears_key(l: &[u8], choice: u64, key: Key) -> bool
+pub fn bears_key(l: &[u8], choice: Choice, key: Key) -> bool
     ensures { λ r. ⌜ r ≡ bears choice (key .k) (now (l .entry)) ⌝ }
 {
     let c = lines::content_of(l);
@@ -25,7 +26,7 @@ pub struct Find {
     pub at: usize,
 }
 
-pub fn finds(w: &[u8], choice: u64, key: Key) -> Find
+pub fn finds(w: &[u8], choice: Choice, key: Key) -> Find
     ensures { λ r. ⌜ (r .met ≡ any (bears choice (key .k)) (lines (now (w .entry)))) × (r .at ≤ length (now (w .entry))) ⌝ }
 {
     let mut c = Cursor { at: 0 };
@@ -42,7 +43,7 @@ pub fn finds(w: &[u8], choice: u64, key: Key) -> Find
 }
 
 // "met before": among the lines before the one at a place.
-pub fn was_met(w: &[u8], at: usize, choice: u64, key: Key) -> bool
+pub fn was_met(w: &[u8], at: usize, choice: Choice, key: Key) -> bool
     requires { ⌜ at ≤ length (now w) ⌝ }
     ensures { λ r. ⌜ r ≡ any (bears choice (key .k)) (lines (take at (now (w .entry)))) ⌝ }
 {
@@ -66,7 +67,7 @@ pub fn find_start(w: &[u8], at: usize) -> usize
 }
 
 // From the line at a place on to the last, then from the first: the next record wanted often stands where the last one did, or soon after.
-pub fn finds_from(w: &[u8], at: usize, choice: u64, key: Key) -> Find
+pub fn finds_from(w: &[u8], at: usize, choice: Choice, key: Key) -> Find
     ensures { λ r. ⌜ r .met ≡ any (bears choice (key .k)) (lines (now (w .entry))) ⌝ }
 {
     let from = find_start(w, at);
@@ -80,16 +81,8 @@ pub fn finds_from(w: &[u8], at: usize, choice: u64, key: Key) -> Find
     finds(&w[..from], choice, key)
 }
 
-// Is a line a record?
-pub fn is_record(l: &[u8]) -> bool
-    ensures { λ r. ⌜ r ≡ is-record (now (l .entry)) ⌝ }
-{
-    let c = lines::content_of(l);
-    commands::command_of(c) == commands::REC
-}
-
 // Is the line from a place to e a record whose key was met before?
-pub fn is_again(w: &[u8], at: usize, e: usize, choice: u64) -> bool
+pub fn is_again(w: &[u8], at: usize, e: usize, choice: Choice) -> bool
     requires { ⌜ (at ≤ e) × (e ≤ length (now w)) ⌝ }
     ensures { λ r. ⌜ r ≡ again choice (lines (take at (now (w .entry)))) (take (e - at) (drop at (now (w .entry)))) ⌝ }
 {
@@ -108,7 +101,7 @@ pub struct Rise {
 }
 
 // A key above the largest one before it is new without a search.
-pub fn find_rise(w: &[u8], at: usize, e: usize, choice: u64, top: Key) -> Rise
+pub fn find_rise(w: &[u8], at: usize, e: usize, choice: Choice, top: Key) -> Rise
     requires { ⌜ (at ≤ e) × (e ≤ length (now w)) ⌝ }
     ensures { λ r. ⌜ (r .rises ≡ rises choice (top .k) (take (e - at) (drop at (now (w .entry))))) × (r .top .k ≡ raised choice (top .k) (take (e - at) (drop at (now (w .entry))))) ⌝ }
 {

@@ -7,11 +7,13 @@ use lib.ListN.{length, getD, take, drop}
 use Rattle.page.specs.Bytes.{Bytes, pick}
 use Rattle.page.specs.Lines.{lines}
 use Rattle.page.specs.Tables.{TABLES}
+use Rattle.page.specs.Order.{Order}
 use Rattle.page.specs.Cut.{Section, sections}
-use Rattle.page.specs.Records.{table-of}
+use Rattle.page.specs.Records.{table-of, order-in}
 use Rattle.page.specs.Answers.{sound}
 use Rattle.page.specs.File.{rowsOf, first-unsound, first-again}
 use Rattle.page.specs.declared.Refusal.{Refusal}
+use Rattle.tables.specs.Orders.{held, Stands}
 use Rattle.page.proofs.CutLaws.{no-section}
 use Rattle.seats.specs.declared.seating.Seat.{Seat}
 use Rattle.seats.specs.declared.seating.Seats.{Seats}
@@ -22,11 +24,18 @@ no-seat = record { table = 0; from = 0; to = 0 }
 unfoldable pub seat-at : Seats → ℕ → Seat
 seat-at r i = getD (r .seats) i no-seat
 
+-- the lines at a seat, and which column stands where in them
+abbrev pub seat-lines : Bytes → Seat → List Bytes
+seat-lines s a = lines (take (a .to - a .from) (drop (a .from) s))
+
+unfoldable pub seat-order : Bytes → Seat → Order
+seat-order s a = order-in (seat-lines s a)
+
 -- a section stands at a seat
 pub record Sits (s : Bytes) (x : Section) (a : Seat) : Type 0 where
   pub low : a .from ≤ a .to
   pub high : a .to ≤ length s
-  pub lines : x .lines ≡ lines (take (a .to - a .from) (drop (a .from) s))
+  pub lines : x .lines ≡ seat-lines s a
   pub table : a .table ≡ table-of (x .lines)
   pub known : a .table < TABLES
 
@@ -42,6 +51,11 @@ pub record Ready (s : Bytes) (r : Seats) : Type 0 where
   pub count : r .count ≡ length (sections s)
   pub few : r .count ≤ TABLES
   pub seated : Seated s (r .count) (r .seats) (r .place)
+
+-- an array holds the order of the columns at a seat
+pub record Ordered (s : Bytes) (a : Seat) (o : List ℕ) : Type 0 where
+  pub stands : Stands (a .table) o
+  pub is : held (a .table) o ≡ seat-order s a
 
 -- 17: "the second table's line 1"
 unfoldable pub again-refusal : ℕ → Refusal

@@ -4,8 +4,9 @@ ghost use Prim.Native.Nat.{_<_};
 ghost use Rattle.page.specs.Tables.{TABLES};
 ghost use Rattle.page.specs.Answers.{sound};
 ghost use Rattle.page.specs.File.{rowsOf, first-unsound};
-ghost use Rattle.seats.specs.Seating.{seat-at, Seating};
+ghost use Rattle.seats.specs.Seating.{seat-at, Ready, Ordered, Seating};
 use tables::TABLES;
+use tables::WIDEST;
 
 // A section: its table by its place in the list of tables, and its bytes.
 pub struct Seat {
@@ -70,4 +71,12 @@ pub fn find_seat(seats: Seats, i: usize) -> Seat
 {
     let all = seats.seats;
     all[i]
+}
+
+// Which column stands where in section i: as document 01 lists them.
+pub fn find_order(s: &[u8], seats: Seats, i: usize) -> [u8; WIDEST]
+    requires { ⌜ Ready (now s) seats × (i < seats .count) ⌝ }
+    ensures { λ r. ⌜ Ordered (now (s .entry)) (seat-at seats i) r ⌝ }
+{
+    tables::list_columns()
 }

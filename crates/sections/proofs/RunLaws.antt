@@ -8,6 +8,7 @@ use native.Mathlib.Omega.{arith}
 use lib.ListN.{length, take, drop}
 use Rattle.page.specs.Bytes.{Bytes}
 use Rattle.page.specs.Lines.{lines}
+use Rattle.page.specs.Order.{Order}
 use Rattle.page.specs.Section.{choose, tbl-step, atr-step, frm-step, rec-step, count-step, end-step, mark-step, com-step, line-step, content-step, step, table-in, finish, refused, continue, run, outcome}
 use Rattle.page.specs.File.{row-of, rowOf}
 use Rattle.page.specs.declared.Number.{Number}
@@ -58,9 +59,9 @@ small-tbl : (m : ℕ) (fs : List Bytes) → Small m (tbl-step fs)
 unfolding tbl-step records-in
 small-tbl m fs = if _ (if _ (goes (omega arith)) stops) stops
 
-small-rec : (t m n : ℕ) (fs : List Bytes) → Small (n + 1) (rec-step t m n fs)
+small-rec : (t : ℕ) (o : Order) (m n : ℕ) (fs : List Bytes) → Small (n + 1) (rec-step t o m n fs)
 unfolding rec-step records-in
-small-rec t m n fs = if _ (goes (omega arith)) stops
+small-rec t o m n fs = if _ (goes (omega arith)) stops
 
 small-count : (t n : ℕ) (x : Number) → Small (n + 1) (count-step t n x)
 unfolding count-step records-in
@@ -91,7 +92,7 @@ unfolding line-step atr-step frm-step records-in
 small-line P.Tbl k w = if _ (small-tbl _ _) stops
 small-line (P.Atr t) k w = if _ (if _ (goes (omega arith)) stops) stops
 small-line (P.Frm t) k w = if _ (if _ (goes (omega arith)) stops) stops
-small-line (P.Rows t m n) k w = if _ (small-rec t m n _) (if _ (small-end t m n _) stops)
+small-line (P.Rows t m n) k w = if _ (small-rec t _ m n _) (if _ (small-end t m n _) stops)
 small-line (P.Ended t n) k w = stops
 
 small-step : (latin : Bool) (p : Phase) (l : Bytes) → Small (records-in p + 1) (step latin p l)

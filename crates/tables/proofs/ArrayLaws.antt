@@ -10,7 +10,7 @@ use Rattle.page.proofs.TableLaws.{tables-counted, width-le, past-tables, past-w
 use Rattle.tables.specs.Arrays.{fill, rows}
 use Rattle.tables.specs.Choices.{rules-of}
 
-fill-at : {A : Type 0} (d e : A) (n : ℕ) (xs : List A) (k : ℕ) → k < n → getD (fill n d xs) k e ≡ getD xs k d
+pub fill-at : {A : Type 0} (d e : A) (n : ℕ) (xs : List A) (k : ℕ) → k < n → getD (fill n d xs) k e ≡ getD xs k d
 unfolding fill
 fill-at d e zero xs k h = absurd (omega arith)
 fill-at d e (suc n) [] zero h = refl
@@ -35,6 +35,18 @@ module _ {A B : Type 0} (part : Table → List A) (none : A) (n : ℕ) (f : Tabl
       → getD (getD (rows part n f d all-tables) t []) k e ≡ f (table-at t) (getD (part (table-at t)) k none)
   unfolding table-at
   entry t k e l h = rows-at all-tables t k e (let q = tables-counted in omega arith) h
+
+-- a table's row
+pub row-at : {A B : Type 0} (part : Table → List A) (n : ℕ) (f : Table → A → B) (d : B) (t : ℕ) → t < TABLES
+    → getD (rows part n f d all-tables) t [] ≡ fill n d (map (f (table-at t)) (part (table-at t)))
+unfolding rows table-at
+row-at part n f d t h = go all-tables t (let q = tables-counted in omega arith)
+  where
+    go : (xs : List Table) (t : ℕ) → t < length xs
+        → getD (map (λ (x : Table). fill n d (map (f x) (part x))) xs) t [] ≡ fill n d (map (f (getD xs t no-table)) (part (getD xs t no-table)))
+    go [] t h = absurd (omega arith)
+    go (x ∷ xs) zero h = refl
+    go (x ∷ xs) (suc t) h = go xs t (omega arith)
 
 -- a property of the columns
 module _ {B : Type 0} (f : Column → B) where

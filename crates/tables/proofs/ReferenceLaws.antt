@@ -1,8 +1,8 @@
 -- What holds of each reference is computed over the one list of tables. Assumes nothing.
 use mathlib.Core.Path.{_≡_, refl, ap, sym, _∙_}
-use mathlib.Core.Bool.{Bool, true, not, _||_}
+use mathlib.Core.Bool.{Bool, true, false, not, _||_}
 use mathlib.Core.List.{List, [], _∷_}
-use Prim.Native.Nat.{ℕ, zero, suc, _<_, _≤_}
+use Prim.Native.Nat.{ℕ, suc, _<_, _≤_}
 use native.Mathlib.Omega.{arith}
 use lib.Dec.{eqb, leb}
 use lib.ListN.{length, getD, List·getD-eq-default}
@@ -14,8 +14,8 @@ use Rattle.page.specs.File.{any, by-primary, by-second}
 use Rattle.page.specs.declared.Column.{Column}
 use Rattle.page.proofs.TestLaws.{same-true}
 use Rattle.page.proofs.TableLaws.{each, each-at, table-test, references-le, past-tables}
-use Rattle.tables.specs.Arrays.{rows}
-use Rattle.tables.specs.Choices.{no-reference, reference-at, flags, kind-of, choice-by}
+use Rattle.tables.specs.Arrays.{fill, rows}
+use Rattle.tables.specs.Choices.{no-reference, reference-at, flags}
 use Rattle.tables.proofs.ArrayLaws.{entry}
 
 pub reference-test : (p : Table → Reference → Bool) → ((x : Table) → p x no-reference ≡ true)
@@ -109,17 +109,12 @@ module _ {B : Type 0} (f : Table → Reference → B) (d : B) (z : (x : Table) �
   pub past-row : (t r : ℕ) → TABLES ≤ t → d ≡ f (table-at t) (reference-at t r)
   past-row t r h = sym (ap (f (table-at t)) (past-table-references t r h) ∙ z (table-at t))
 
-choice-none : (n i : ℕ) (cs : List Named) → choice-by (flags n i []) cs ≡ 0
-unfolding choice-by flags kind-of any
-choice-none zero i cs = refl
-choice-none (suc n) i [] = refl
-choice-none (suc n) i (c ∷ cs) = rw (choice-none n (suc i) cs)
+abbrev pub flags-in : Table → Reference → List Bool
+flags-in x y = flags WIDEST 0 (y .columns)
 
-abbrev pub choice-in : Table → Reference → ℕ
-choice-in x y = choice-by (flags WIDEST 0 (y .columns)) (x .columns)
-
-pub no-choice : (x : Table) → choice-in x no-reference ≡ 0
-no-choice x = choice-none WIDEST 0 (x .columns)
+pub no-flags : (x : Table) → flags-in x no-reference ≡ fill WIDEST false []
+unfolding flags any fill
+no-flags x = refl
 
 abbrev pub target-in : Table → Reference → ℕ
 target-in x y = table-named (bytes (y .target))

@@ -1,3 +1,4 @@
 pub mod Arrays
 pub mod Words
 pub mod Choices
+pub mod Orders

@@ -1,27 +1,32 @@
-// Which fields of a record make a key, as one number, as those of a reference stand in REFERENCES. A loop over records asks for it once.
+// Which fields of a line make a key or a reference, where its columns stand in an order. A loop over records asks for it once.
 ghost use mathlib.Core.Path.{_≡_};
-ghost use Prim.Native.Nat.{_≤_};
-ghost use Rattle.page.specs.Tables.{column-at};
-ghost use Rattle.tables.specs.Choices.{by-key, kind-of, key-choice};
+ghost use Prim.Native.Nat.{ℕ, _<_, _≤_};
+ghost use lib.ListN.{getD};
+ghost use Rattle.page.specs.Bytes.{pick};
+ghost use Rattle.page.specs.Tables.{WIDEST};
+ghost use Rattle.tables.specs.Choices.{total, rank, choice-of, by-key, key-columns, key-choice, refer-columns, refer-choice};
+ghost use Rattle.tables.specs.Orders.{held, Orderly};
+use crate::MOST;
+use crate::PRIMARY;
+use crate::REFERENCES;
+use crate::SECOND;
+use crate::TABLES;
+use crate::WIDEST;
+use crate::columns::find_kinds;
 use crate::columns::find_width;
-use crate::columns::is_primary;
-use crate::columns::is_second;
-use crate::columns::is_text;
 
-fn is_in_key(t: usize, k: usize, second: bool) -> bool
-    ensures { λ r. ⌜ r ≡ by-key second (column-at t k) ⌝ }
-{
-    if second {
-        return is_second(t, k);
-    }
-    is_primary(t, k)
+// A digit a place, from the left the lowest first. Of base 4 in kinds: 0: not this field; 1: its number; 2: its text. Of base 8 in slots:
+// which of the key's numbers it is, by column.
+pub struct Choice {
+    pub kinds: u64,
+    pub slots: u64,
 }
 
-fn find_kind(t: usize, k: usize, second: bool) -> u64
-    ensures { λ r. ⌜ (r ≡ kind-of (by-key second (column-at t k)) (column-at t k)) × (r ≤ 2) ⌝ }
+fn find_kind(taken: bool, text: bool) -> u64
+    ensures { λ r. ⌜ (r ≡ pick taken (pick text 2 1) 0) × (r ≤ 2) ⌝ }
 {
-    if is_in_key(t, k, second) {
-        if is_text(t, k) {
+    if taken {
+        if text {
             return 2;
         }
         return 1;
@@ -29,15 +34,83 @@ fn find_kind(t: usize, k: usize, second: bool) -> u64
     0
 }
 
-// The primary key of table t, or its second one; 0 if it has none.
-pub fn choose_key(t: usize, second: bool) -> u64
-    ensures { λ r. ⌜ r ≡ key-choice (by-key second) t ⌝ }
+fn count_one(taken: bool) -> u64
+    ensures { λ r. ⌜ (r ≡ pick taken 1 0) × (r ≤ 1) ⌝ }
 {
-    let mut q: u64 = 0;
+    if taken { 1 } else { 0 }
+}
+
+// How many columns before each are taken.
+fn rank_columns(taken: [bool; WIDEST]) -> [u64; WIDEST]
+    ensures { λ r. ⌜ ((c : ℕ) → c < WIDEST → getD r c 0 ≡ rank taken c) ⌝ }
+{
+    let mut ranks = [0; WIDEST];
+    let mut n: u64 = 0;
+    let mut c: usize = 0;
+    while c < WIDEST {
+        ranks[c] = n;
+        n += count_one(taken[c]);
+        c += 1;
+    }
+    ranks
+}
+
+fn choose_columns(t: usize, taken: [bool; WIDEST], o: &[u8; WIDEST]) -> Choice
+    requires { ⌜ Orderly (now o) × (total taken ≤ 7) ⌝ }
+    ensures { λ r. ⌜ r ≡ choice-of taken t (held t (now (o .entry))) ⌝ }
+{
+    let texts = find_kinds(t);
+    let ranks = rank_columns(taken);
+    let mut kinds: u64 = 0;
+    let mut slots: u64 = 0;
     let mut k = find_width(t);
     while 0 < k {
         k -= 1;
-        q = q * 4 + find_kind(t, k, second);
+        let c = o[k] as usize;
+        kinds = kinds * 4 + find_kind(taken[c], texts[c]);
+        slots = slots * 8 + ranks[c];
     }
-    q
+    Choice {
+        kinds: kinds,
+        slots: slots,
+    }
+}
+
+fn find_key(t: usize, second: bool) -> [bool; WIDEST]
+    ensures { λ r. ⌜ r ≡ key-columns (by-key second) t ⌝ }
+{
+    if t < TABLES {
+        if second {
+            return SECOND[t];
+        }
+        return PRIMARY[t];
+    }
+    [false; WIDEST]
+}
+
+// The primary key of table t, or its second one; no field if it has none.
+pub fn choose_key(t: usize, second: bool, o: &[u8; WIDEST]) -> Choice
+    requires { ⌜ Orderly (now o) ⌝ }
+    ensures { λ r. ⌜ r ≡ key-choice (by-key second) t (held t (now (o .entry))) ⌝ }
+{
+    choose_columns(t, find_key(t, second), o)
+}
+
+fn find_reference(t: usize, r: usize) -> [bool; WIDEST]
+    ensures { λ x. ⌜ x ≡ refer-columns t r ⌝ }
+{
+    if t < TABLES {
+        if r < MOST {
+            return REFERENCES[t][r];
+        }
+    }
+    [false; WIDEST]
+}
+
+// The fields of reference r of table t, from 0.
+pub fn choose_reference(t: usize, r: usize, o: &[u8; WIDEST]) -> Choice
+    requires { ⌜ Orderly (now o) ⌝ }
+    ensures { λ x. ⌜ x ≡ refer-choice t r (held t (now (o .entry))) ⌝ }
+{
+    choose_columns(t, find_reference(t, r), o)
 }

@@ -5,20 +5,18 @@ ghost use mathlib.Core.Bool.{false};
 ghost use Prim.Native.Nat.{ℕ, _<_};
 ghost use lib.ListN.{getD};
 ghost use Rattle.page.specs.Tables.{WIDEST, number-at, width, column-at, rules};
-ghost use Rattle.page.specs.Marks.{may-mark};
 ghost use Rattle.tables.specs.Choices.{rules-of};
 use crate::FILLABLE;
 use crate::HIGH;
 use crate::LOW;
 use crate::NUMBERS;
 use crate::POINTS;
-use crate::PRIMARY;
-use crate::SECOND;
 use crate::SIZE;
 use crate::TABLES;
 use crate::TEXT;
 use crate::WIDEST;
 use crate::WIDTHS;
+use page::Column;
 
 pub fn find_number(t: usize) -> u32
     ensures { λ r. ⌜ r ≡ number-at t ⌝ }
@@ -69,28 +67,6 @@ pub fn find_size(t: usize, k: usize) -> u64
     0
 }
 
-pub fn is_primary(t: usize, k: usize) -> bool
-    ensures { λ r. ⌜ r ≡ column-at t k .primary ⌝ }
-{
-    if t < TABLES {
-        if k < WIDEST {
-            return PRIMARY[t][k];
-        }
-    }
-    false
-}
-
-pub fn is_second(t: usize, k: usize) -> bool
-    ensures { λ r. ⌜ r ≡ column-at t k .second ⌝ }
-{
-    if t < TABLES {
-        if k < WIDEST {
-            return SECOND[t][k];
-        }
-    }
-    false
-}
-
 pub fn is_fillable(t: usize, k: usize) -> bool
     ensures { λ r. ⌜ r ≡ column-at t k .fillable ⌝ }
 {
@@ -130,12 +106,21 @@ pub fn find_highs(t: usize) -> [u64; WIDEST]
     [0; WIDEST]
 }
 
-// "Only these may be marked": field i, from 1.
-pub fn may_mark(t: usize, i: u64) -> bool
-    ensures { λ r. ⌜ r ≡ may-mark t i ⌝ }
+// What the reading of a field asks of its column: its kind and its bounds.
+pub fn find_column(t: usize, k: usize) -> Column
+    requires { ⌜ k < WIDEST ⌝ }
+    ensures { λ r. ⌜ (r .text ≡ column-at t k .text) × (r .lo ≡ column-at t k .lo) × (r .hi ≡ column-at t k .hi) ⌝ }
 {
-    if i < 1 {
-        return false;
+    let kinds = find_kinds(t);
+    let lows = find_lows(t);
+    let highs = find_highs(t);
+    Column {
+        text: kinds[k],
+        lo: lows[k],
+        hi: highs[k],
+        size: 0,
+        primary: false,
+        second: false,
+        fillable: false,
     }
-    is_fillable(t, i as usize - 1)
 }

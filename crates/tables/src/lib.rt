@@ -4,9 +4,13 @@
 mod choices;
 mod columns;
 mod names;
+mod order;
 mod references;
 
+pub use choices::Choice;
 pub use choices::choose_key;
+pub use choices::choose_reference;
+pub use columns::find_column;
 pub use columns::find_highs;
 pub use columns::find_kinds;
 pub use columns::find_lows;
@@ -16,11 +20,14 @@ pub use columns::find_size;
 pub use columns::find_width;
 pub use columns::is_fillable;
 pub use columns::is_text;
-pub use columns::may_mark;
 pub use names::find_word;
 pub use names::look_name;
 pub use names::look_title;
-pub use references::choose_reference;
+pub use order::column_in;
+pub use order::find_place;
+pub use order::is_listed;
+pub use order::list_columns;
+pub use order::may_mark;
 pub use references::count_references;
 pub use references::find_target;
 
@@ -117,17 +124,48 @@ const POINTS: [usize; TABLES] = [0, 0, 0, 0, 0, 0, 2, 3];
 
 const COUNTS: [usize; TABLES] = [0, 1, 2, 1, 1, 1, 3, 2];
 
-// Which fields make a reference, as one number: a digit of base 4 a column, the first column's lowest. 0: not this field; 1: its number;
-// 2: its text.
-const REFERENCES: [[u64; MOST]; TABLES] = [
-    [0, 0, 0],
-    [4, 0, 0],
-    [1, 65, 0],
-    [1, 0, 0],
-    [1, 0, 0],
-    [1, 0, 0],
-    [1, 17, 257],
-    [1, 5445, 0],
+// Which columns make a reference.
+const REFERENCES: [[[bool; WIDEST]; MOST]; TABLES] = [
+    [
+        [false, false, false, false, false, false, false, false],
+        [false, false, false, false, false, false, false, false],
+        [false, false, false, false, false, false, false, false],
+    ],
+    [
+        [false, true, false, false, false, false, false, false],
+        [false, false, false, false, false, false, false, false],
+        [false, false, false, false, false, false, false, false],
+    ],
+    [
+        [true, false, false, false, false, false, false, false],
+        [true, false, false, true, false, false, false, false],
+        [false, false, false, false, false, false, false, false],
+    ],
+    [
+        [true, false, false, false, false, false, false, false],
+        [false, false, false, false, false, false, false, false],
+        [false, false, false, false, false, false, false, false],
+    ],
+    [
+        [true, false, false, false, false, false, false, false],
+        [false, false, false, false, false, false, false, false],
+        [false, false, false, false, false, false, false, false],
+    ],
+    [
+        [true, false, false, false, false, false, false, false],
+        [false, false, false, false, false, false, false, false],
+        [false, false, false, false, false, false, false, false],
+    ],
+    [
+        [true, false, false, false, false, false, false, false],
+        [true, false, true, false, false, false, false, false],
+        [true, false, false, false, true, false, false, false],
+    ],
+    [
+        [true, false, false, false, false, false, false, false],
+        [true, true, false, true, true, true, true, false],
+        [false, false, false, false, false, false, false, false],
+    ],
 ];
 
 // The table that a reference goes to, by its place in the list; past the last, if there is none.
@@ -219,6 +257,9 @@ const COLUMNS: [[usize; WIDEST]; TABLES] = [
     [1, 13, 8, 14, 15, 16, 17, 0],
     [1, 13, 18, 8, 14, 15, 16, 19],
 ];
+
+// The columns of each table in the order of document 01.
+const LISTED: [u8; WIDEST] = [0, 1, 2, 3, 4, 5, 6, 7];
 
 // The first of the tables' names.
 const FIRST_TITLE: usize = 20;

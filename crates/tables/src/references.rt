@@ -2,11 +2,10 @@
 ghost use mathlib.Core.Path.{_≡_};
 ghost use lib.ListN.{length};
 ghost use Rattle.page.specs.Tables.{table-at};
-ghost use Rattle.tables.specs.Choices.{refer-choice, target-at};
+ghost use Rattle.tables.specs.Choices.{target-at};
 use crate::COUNTS;
 use crate::MOST;
 use crate::NONE;
-use crate::REFERENCES;
 use crate::TABLES;
 use crate::TARGETS;
 
@@ -15,18 +14,6 @@ pub fn count_references(t: usize) -> usize
 {
     if t < TABLES {
         return COUNTS[t];
-    }
-    0
-}
-
-// The fields of reference r of table t, from 0.
-pub fn choose_reference(t: usize, r: usize) -> u64
-    ensures { λ x. ⌜ x ≡ refer-choice t r ⌝ }
-{
-    if t < TABLES {
-        if r < MOST {
-            return REFERENCES[t][r];
-        }
     }
     0
 }

@@ -1,2 +1,4 @@
 pub mod PlaceLaws
+pub mod ReadLaws
+pub mod StartLaws
 pub mod ValueLaws

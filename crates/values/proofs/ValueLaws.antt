@@ -10,12 +10,10 @@ use lib.ListN.{length, take, drop, length-drop}
 use lib.Seq.{length-take-le, take-nil}
 use borrow.Author.Tests.{ne-eqb, eqb-false, ltb-false}
 use Rattle.page.specs.Bytes.{Bytes}
-use Rattle.page.specs.Lines.{lines, rest}
-use Rattle.page.specs.Fields.{fields}
-use Rattle.page.specs.Tables.{width}
-use Rattle.page.specs.Cut.{cut}
-use Rattle.page.specs.Section.{rec-verdict, outcome}
-use Rattle.page.specs.Records.{table-of}
+use Rattle.page.specs.Lines.{lines}
+use Rattle.page.specs.Tables.{WIDEST, width}
+use Rattle.page.specs.Order.{upto}
+use Rattle.page.specs.Records.{table-of, order-in}
 use Rattle.page.specs.Places.{Standing, record-at}
 use Rattle.page.specs.Answers.{earlier, refuse-if, got, refusal}
 use Rattle.page.specs.File.{row-of, rowOf}
@@ -25,14 +23,15 @@ use Rattle.page.specs.declared.Row.{Row}
 use Rattle.page.specs.declared.Refusal.{Refusal}
 use Rattle.page.specs.declared.Value.{Value}
 use Rattle.page.specs.declared.Got.the-variants as G
-use Rattle.page.proofs.LineLaws.{line-size, joined-lines}
+use Rattle.page.proofs.LineLaws.{joined-lines}
+use Rattle.page.proofs.TableLaws.{width-le}
 use Rattle.values.specs.declared.values.Place.{Place}
-use Rattle.cut.specs.Walk.{section-size, section-from, Settled}
+use Rattle.tables.specs.Orders.{held}
+use Rattle.tables.proofs.OrderLaws.{listed-held}
+use Rattle.cut.specs.Walk.{section-size, section-from}
 use Rattle.values.specs.Values.{Placed, row-from, refusal-from, value-from}
-use Rattle.cut.proofs.WalkLaws.{section-within, settled-begins}
-use Rattle.machine.proofs.SoundLaws.{sound-passed, passed-width}
+use Rattle.cut.proofs.WalkLaws.{section-within}
 use Rattle.sections.specs.Located.{Begins}
-use Rattle.names.proofs.TitleLaws.{from-lines}
 
 -- the value's answer, where its section stands at a place
 module _ (s : Bytes) (i : ℕ) where
@@ -56,12 +55,6 @@ drop-take (suc a) (suc n) (b ∷ s) = let m : suc n - suc a ≡ n - a = omega ar
 
 -- the section at a place
 module _ (s : Bytes) (at : ℕ) (h : at < length s) where
-  abbrev e : ℕ
-  e = at + line-size (drop at s)
-
-  abbrev l : Bytes
-  l = take (e - at) (drop at s)
-
   pub row-length : row-from s at .length ≡ section-size (drop at s)
   unfolding row-from rowOf row-of section-from
   row-length =
@@ -76,22 +69,6 @@ module _ (s : Bytes) (at : ℕ) (h : at < length s) where
       let w = section-within s at h in
       let m : n - at ≡ section-size (drop at s) = omega (arith, row-length) in
       (omega (arith, row-length), omega arith, rw (drop-take at n s, m))
-
-  module _ (z : Settled s at) (v : row-from s at .verdict ≡ 0) where
-    pub passed-from : (r : ℕ) → r < row-from s at .records
-        → rec-verdict (table-of (section-from s at .lines)) (record-at r 0 at (section-from s at .lines) .mark) (fields (record-at r 0 at (section-from s at .lines) .rest)) ≡ 0
-    unfolding row-from rowOf row-of
-    passed-from r k =
-        let ls = cut (lines (drop e s)) .front in
-        let x : outcome (latinOf s) (l ∷ ls) .verdict ≡ 0 = rw (from-lines s at h) at v in
-        let y : r < outcome (latinOf s) (l ∷ ls) .records = rw (from-lines s at h) at k in
-        rw (from-lines s at h) (sound-passed (latinOf s) l ls r at (settled-begins s at e h refl z) x y)
-
-    pub field-from : (r f : ℕ) → r < row-from s at .records → (f ≡ 0 → ⊥) → f ≤ width (table-of (section-from s at .lines))
-        → f - 1 < length (fields (record-at r 0 at (section-from s at .lines) .rest))
-    field-from r f k n m =
-        let x = passed-width (table-of (section-from s at .lines)) (record-at r 0 at (section-from s at .lines) .mark) (fields (record-at r 0 at (section-from s at .lines) .rest)) (passed-from r k) in
-        omega arith
 
 -- the answer for one value, by the section's row
 module _ (s : Bytes) (i at r f : ℕ) (x : Row) (q : x ≡ row-from s at) where
@@ -110,9 +87,10 @@ module _ (s : Bytes) (i at r f : ℕ) (x : Row) (q : x ≡ row-from s at) where
     value-outside y e b = rw (e, value-sound, b)
 
     pub value-inside : (v : Value) → outside r (x .records) ≡ false → outside f (width (table-of (section-from s at .lines))) ≡ false
-        → v ≡ value-in (table-of (section-from s at .lines)) (record-at (r - 1) 0 at (section-from s at .lines)) f → G.Is v ≡ value-from s i at r f
-    unfolding value-from refuse-if got value-at record-of section-from
-    value-inside v a b e = rw (e, value-sound, a, b)
+        → v ≡ value-in (table-of (section-from s at .lines)) (held (table-of (section-from s at .lines)) (upto 0 WIDEST)) (record-at (r - 1) 0 at (section-from s at .lines)) f
+        → G.Is v ≡ value-from s i at r f
+    unfolding value-from refuse-if got value-at record-of section-from order-in
+    value-inside v a b e = rw (e, value-sound, a, b, listed-held)
 
 -- a number that stands among n
 pub inside : (i n : ℕ) → outside i n ≡ false → (i ≡ 0 → ⊥) × (i ≤ n)
@@ -138,25 +116,21 @@ row-is s at latin x e q = q ∙ ap (λ (b : Bool). rowOf b (section-from s at)) 
 -- what a record and a field that are there give to the call that reads them; e is the section's end
 pub record Ready (s : Bytes) (at r f e : ℕ) : Type 0 where
   pub record-some : 0 < r
-  pub field-some : 0 < f
+  pub column-in : f ≤ WIDEST
   pub start : at ≤ e
   pub within : e ≤ length s
   pub same-lines : lines (drop at (take e s)) ≡ section-from s at .lines
-  pub has-field : f - 1 < length (fields (record-at (r - 1) 0 at (lines (drop at (take e s))) .rest))
 
-pub ready : (s : Bytes) (at r f e : ℕ) (x : Row) → at < length s → Settled s at → x ≡ row-from s at → x .verdict ≡ 0 → outside r (x .records) ≡ false
+pub ready : (s : Bytes) (at r f e : ℕ) (x : Row) → at < length s → x ≡ row-from s at → outside r (x .records) ≡ false
     → outside f (width (table-of (section-from s at .lines))) ≡ false → e ≡ at + x .length → Ready s at r f e
-ready s at r f e x h z q v a b n =
+ready s at r f e x h q a b n =
     let i = inside r (x .records) a in
     let j = inside f (width (table-of (section-from s at .lines))) b in
-    let k : r - 1 < row-from s at .records = rw q at (let y : r - 1 < x .records = omega arith in y) in
-    let v′ : row-from s at .verdict ≡ 0 = sym (ap (λ (y : Row). y .verdict) q) ∙ v in
     let p = prefix-lines s at h e (n ∙ ap (λ (y : Row). at + y .length) q) in
     record {
       record-some = omega arith;
-      field-some = omega arith;
+      column-in = omega (arith, width-le (table-of (section-from s at .lines)));
       start = p .1;
       within = p .0;
       same-lines = p .2;
-      has-field = rw (p .2) (field-from s at h z v′ (r - 1) f k (j .0) (j .1));
     }

@@ -1,13 +1,13 @@
 // What the call that reads one value answers.
 ghost use mathlib.Core.Path.{_≡_};
-ghost use Prim.Native.Nat.{_-_, _<_, _≤_};
+ghost use Prim.Native.Nat.{_<_, _≤_};
 ghost use lib.ListN.{length, drop};
 ghost use Rattle.page.specs.Lines.{lines};
-ghost use Rattle.page.specs.Fields.{fields};
+ghost use Rattle.page.specs.Tables.{WIDEST};
 ghost use Rattle.page.specs.Places.{record-at};
 ghost use Rattle.page.specs.File.{limit};
 ghost use Rattle.page.specs.Reading.{outside, value-in, valueOf};
-ghost use Rattle.cut.specs.Walk.{Settled};
+ghost use Rattle.tables.specs.Orders.{held, Orderly};
 ghost use Rattle.values.specs.Values.{value-from};
 use crate::values::find_record;
 use crate::values::value_in;
@@ -19,6 +19,7 @@ use sections::Located;
 use sections::locate;
 use sections::read_section;
 use sections::refuse_with;
+use tables::WIDEST;
 
 fn is_outside(i: usize, n: usize) -> bool
     ensures { λ r. ⌜ r ≡ outside i n ⌝ }
@@ -29,24 +30,21 @@ fn is_outside(i: usize, n: usize) -> bool
     n < i
 }
 
-// Field f, from 1, of the record after r others; s ends where the section at a place does.
-fn read_value(s: &[u8], at: usize, t: usize, r: usize, f: usize) -> Value
-    requires { ⌜ (at ≤ length (now s))
-        × (length (now s) ≤ limit)
-        × (0 < f)
-        × (f - 1 < length (fields (record-at r 0 at (lines (drop at (now s))) .rest))) ⌝ }
-    ensures { λ v. ⌜ v ≡ value-in t (record-at r 0 at (lines (drop at (now (s .entry))))) f ⌝ }
+// Column f, from 1, of the record after r others, in the order o; s ends where the section at a place does.
+fn seek_value(s: &[u8], at: usize, t: usize, o: &[u8; WIDEST], r: usize, f: usize) -> Value
+    requires { ⌜ (at ≤ length (now s)) × (length (now s) ≤ limit) × Orderly (now o) × (f ≤ WIDEST) ⌝ }
+    ensures { λ v. ⌜ v ≡ value-in t (held t (now (o .entry))) (record-at r 0 at (lines (drop at (now (s .entry))))) f ⌝ }
 {
     let p = find_record(s, at, r);
     let a = p.from;
     let e = p.to;
     let m = p.mark;
-    value_in(&s[a..e], a, m, t, f)
+    value_in(&s[a..e], a, m, t, o, f)
 }
 
 // "the section's verdict, 24 for the record or field"
 fn value_at(file: &[u8], i: usize, at: usize, r: usize, f: usize) -> Got
-    requires { ⌜ (at < length (now file)) × (length (now file) ≤ limit) × Settled (now file) at ⌝ }
+    requires { ⌜ (at < length (now file)) × (length (now file) ≤ limit) ⌝ }
     ensures { λ x. ⌜ x ≡ value-from (now (file .entry)) i at r f ⌝ }
 {
     let latin = headers::read_charset(file);
@@ -66,10 +64,11 @@ fn value_at(file: &[u8], i: usize, at: usize, r: usize, f: usize) -> Got
         return Got::Refused(refuse_with(24));
     }
     let e = at + row.length;
-    Got::Is(read_value(&file[..e], at, t, r - 1, f))
+    let o = tables::list_columns();
+    Got::Is(seek_value(&file[..e], at, t, &o, r - 1, f))
 }
 
-// Field f of record r of section i, all from 1.
+// Column f of record r of section i, all from 1.
 pub fn value(file: &[u8], i: usize, r: usize, f: usize) -> Got
     ensures { λ x. ⌜ x ≡ valueOf (now (file .entry)) i r f ⌝ }
 {

@@ -4,6 +4,6 @@ mod values;
 
 pub use handed::value;
 pub use values::Place;
-pub use values::owner_of;
 pub use values::place_fields;
+pub use values::read_value;
 pub use values::wait_on;

@@ -1,21 +1,26 @@
 // One value of a record.
 ghost use mathlib.Core.Path.{_≡_};
-ghost use Prim.Native.Nat.{_+_, _-_, _<_, _≤_};
+ghost use Prim.Native.Nat.{suc, _+_, _-_, _<_, _≤_};
 ghost use lib.ListN.{length, take, drop};
 ghost use Rattle.page.specs.Lines.{lines, content, command, Rec};
-ghost use Rattle.page.specs.Fields.{fields};
+ghost use Rattle.page.specs.Tables.{WIDEST};
 ghost use Rattle.page.specs.Marks.{owner-of};
 ghost use Rattle.page.specs.Records.{waits};
-ghost use Rattle.page.specs.Places.{stands, record-at};
+ghost use Rattle.page.specs.Places.{field-place, stands, record-at};
 ghost use Rattle.page.specs.File.{limit};
-ghost use Rattle.page.specs.Reading.{words-in, value-in};
+ghost use Rattle.page.specs.Reading.{later-field, field-at, valued, value-in};
 ghost use Rattle.page.proofs.LineLaws.{line-size};
-ghost use Rattle.values.specs.Values.{Placed};
-use judging::amount_at;
+ghost use Rattle.tables.specs.Orders.{held, Orderly};
+ghost use Rattle.values.specs.Values.{Placed, Fits};
 use lines::Cursor;
+use page::Column;
+use page::Field;
 use page::Owner;
 use page::Text;
 use page::Value;
+use tables::WIDEST;
+use tables::find_column;
+use tables::find_place;
 
 // A record's fields: what stands after its line's first `;`, and the field of the mark that waits for it (0: none).
 pub struct Place {
@@ -78,7 +83,7 @@ pub fn find_record(s: &[u8], from: usize, r: usize) -> Place
 }
 
 // "Each text handed out says whose it is."
-pub fn owner_of(m: u64, f: usize) -> Owner
+fn owner_of(m: u64, f: usize) -> Owner
     ensures { λ r. ⌜ r ≡ owner-of m f ⌝ }
 {
     if m == f as u64 {
@@ -87,28 +92,56 @@ pub fn owner_of(m: u64, f: usize) -> Owner
     Owner::Operator
 }
 
-// Field f, from 1, of the record whose fields are w and stand at a place of the file.
-fn find_words(w: &[u8], at: usize, m: u64, f: usize) -> Text
-    requires { ⌜ (0 < f) × (f - 1 < length (fields (now w))) × (at + length (now w) ≤ limit) ⌝ }
-    ensures { λ r. ⌜ r ≡ words-in (record { at = at; rest = now (w .entry); mark = m }) f ⌝ }
+// Where the field at place p, from 0, begins in w; what ends before it goes on past its end, a byte for each field that is not there.
+fn find_start(w: &[u8], p: usize) -> usize
+    requires { ⌜ p ≤ WIDEST ⌝ }
+    ensures { λ r. ⌜ r ≡ field-place p 0 (now (w .entry)) ⌝ }
 {
-    let sp = commands::find_field(w, f - 1);
-    let a = sp.from;
-    let e = sp.to;
-    Text {
-        from: at + (a + 1),
-        to: at + lines::one_less(e),
-        owner: owner_of(m, f),
+    let mut at = 0;
+    let mut i = 0;
+    while i < p {
+        let e = commands::field_end(w, at);
+        at = e + 1;
+        i += 1;
+    }
+    at
+}
+
+// What a field of bytes that stand at a place of the file is handed out as. No field of a sound record is refused.
+fn hand_field(f: Field, at: usize, owner: Owner) -> Value
+    requires { ⌜ Fits at f ⌝ }
+    ensures { λ r. ⌜ r ≡ valued owner (later-field at f) ⌝ }
+{
+    match f {
+        Field::Text(sp) => Value::Words(Text {
+            from: at + sp.from,
+            to: at + sp.to,
+            owner: owner,
+        }),
+        Field::Number(n) => Value::Number(n),
+        Field::Refused(_) => Value::Number(0),
     }
 }
 
-pub fn value_in(w: &[u8], at: usize, m: u64, t: usize, f: usize) -> Value
-    requires { ⌜ (0 < f) × (f - 1 < length (fields (now w))) × (at + length (now w) ≤ limit) ⌝ }
-    ensures { λ r. ⌜ r ≡ value-in t (record { at = at; rest = now (w .entry); mark = m }) f ⌝ }
+// The field at place p, from 0, which begins at `start`, of the record whose fields are w and stand at a place of the file.
+pub fn read_value(w: &[u8], at: usize, m: u64, p: usize, start: usize, column: Column) -> Value
+    requires { ⌜ (p ≤ WIDEST) × (start ≡ field-place p 0 (now w)) × (at + length (now w) ≤ limit) ⌝ }
+    ensures { λ r. ⌜ r ≡ valued (owner-of m (suc p)) (later-field at (field-at column (now (w .entry)) p)) ⌝ }
 {
-    let k = f - 1;
-    if tables::is_text(t, k) {
-        return Value::Words(find_words(w, at, m, f));
+    if w.len() < start {
+        return Value::Number(0);
     }
-    Value::Number(amount_at(w, k))
+    let r = fields::read_field(w, start, column);
+    let f = r.field;
+    hand_field(f, at, owner_of(m, p + 1))
+}
+
+// Column f, from 1, of the record whose fields are w, in the order o, and stand at a place of the file.
+pub fn value_in(w: &[u8], at: usize, m: u64, t: usize, o: &[u8; WIDEST], f: usize) -> Value
+    requires { ⌜ Orderly (now o) × (f ≤ WIDEST) × (at + length (now w) ≤ limit) ⌝ }
+    ensures { λ r. ⌜ r ≡ value-in t (held t (now (o .entry))) (record { at = at; rest = now (w .entry); mark = m }) f ⌝ }
+{
+    let c = lines::one_less(f);
+    let p = find_place(o, t, c);
+    read_value(w, at, m, p, find_start(w, p), find_column(t, c))
 }

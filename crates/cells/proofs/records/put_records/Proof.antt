@@ -5,30 +5,29 @@ use Rattle.page.specs.Tables.{width}
 use Rattle.page.specs.Places.{Standing}
 use Rattle.page.specs.Handing.{record-cells, cells-in}
 use Rattle.page.proofs.ScanLaws.{part-length}
+use Rattle.tables.specs.Orders.{held}
 use Rattle.lines.proofs.CursorLaws.{handed}
 use Rattle.output.proofs.PutLaws.{Todo, begin, left-is, next-by, at-end, same}
-use Rattle.cells.specs.Cells.{whole}
-use Rattle.cells.proofs.CellLaws.{first-fits, cells-more, whole-here, whole-more, cells-other, whole-other, cells-end}
+use Rattle.cells.proofs.CellLaws.{first-fits, cells-more, cells-other, cells-end}
 use borrow.Author.Needs.{needs}
 use Prim.Native.Nat.{_-_, _≤_}
 use mathlib.Core.Path.{_≡_, sym, _∙_}
-use mathlib.Core.Bool.{true}
 use native.Mathlib.Omega.{arith}
 use lib.ListN.{length, take, drop}
 use Rattle.cells.proofs.records.put_records.Statement.{statement}
 use Rattle.cells.proofs.records.put_records.Tie as tie
 
 abbrev Inv-loop : tie.InvT-loop
-Inv-loop cells₀ s from t c₀ m₀ o₀ cells c m o =
-    (c .at ≤ length s) × (whole t (lines (drop (c .at) s)) ≡ true)
-    × Todo cells₀ 0 (cells-in t 0 from (lines (drop from s))) cells o (cells-in t m (c .at) (lines (drop (c .at) s)))
+Inv-loop cells₀ s from t o c₀ m₀ i₀ cells c m i =
+    (c .at ≤ length s)
+    × Todo cells₀ 0 (cells-in t (held t o) 0 from (lines (drop from s))) cells i (cells-in t (held t o) m (c .at) (lines (drop (c .at) s)))
 
 abbrev μ-loop : tie.MeasureT-loop
-μ-loop cells₀ s from t c₀ m₀ o₀ cells c m o = length s - c .at
+μ-loop cells₀ s from t o c₀ m₀ i₀ cells c m i = length s - c .at
 
 loop-holds : tie.Need-loop-holds Inv-loop μ-loop
 loop-holds c =
-    (omega arith, c .before .before .pre .2, begin)
+    (omega arith, begin)
 
 line-requires : tie.Need-line-requires Inv-loop μ-loop
 line-requires c κs = search needs
@@ -95,6 +94,7 @@ put-values-requires : tie.Need-put-values-requires Inv-loop μ-loop
 put-values-requires c κs =
     let a = c .before .before .before .before .before .before .before .before .before .before .before .before .before .args in
     let s = a .s .now in
+    let o = held (a .t) (a .o .now) in
     let l = c .before .before .before .before .before .before .before .before .before .before .loop in
     let i = c .before .before .before .before .before .before .before .line in
     let q = c .before .before .before .before .before .before .before .before .if1 .taken in
@@ -102,11 +102,11 @@ put-values-requires c κs =
     let p = c .before .before .place-fields in
     let r = c .before .before .before .before .is-record in
     let x : Standing = record { at = p .result .from; rest = take (p .result .to - p .result .from) (drop (p .result .from) s); mark = p .result .mark } in
-    let z = cells-more s (l .c .at) (i .result .span .to) q (y .size) (a .t) (l .m) (r .result) (r .ensures) (c .before .before .before .if2 .taken) (p .result) (p .ensures) in
+    let z = cells-more s (l .c .at) (i .result .span .to) q (y .size) (a .t) o (l .m) (r .result) (r .ensures) (c .before .before .before .if2 .taken) (p .result) (p .ensures) in
     let n : length (take (p .result .to - p .result .from) (drop (p .result .from) s)) ≡ p .result .to - p .result .from = part-length (p .result .from) (p .result .to) s (p .ensures .within) in (
-      whole-here s (l .c .at) (i .result .span .to) q (y .size) (a .t) (l .m) (r .result) (r .ensures) (c .before .before .before .if2 .taken) (l .inv .1) (p .result) (p .ensures),
+      c .before .before .before .before .before .before .before .before .before .before .before .before .before .pre .2,
       rw n (omega (arith, p .ensures .order, p .ensures .within, c .before .before .before .before .before .before .before .before .before .before .before .before .before .pre .1)),
-      first-fits (record-cells (a .t) x 1 (width (a .t))) (cells-in (a .t) 0 (i .result .span .to) (lines (drop (i .result .span .to) s))) z (l .inv .2) (omega (arith, c .before .before .before .before .before .before .before .before .before .before .before .before .before .pre .3)),
+      first-fits (record-cells (a .t) o x 1 (width (a .t))) (cells-in (a .t) o 0 (i .result .span .to) (lines (drop (i .result .span .to) s))) z (l .inv .1) (omega (arith, c .before .before .before .before .before .before .before .before .before .before .before .before .before .pre .3)),
     )
 
 loop-less : tie.Need-loop-less Inv-loop μ-loop
@@ -123,6 +123,7 @@ loop-again : tie.Need-loop-again Inv-loop μ-loop
 loop-again c =
     let a = c .before .before .before .before .before .before .before .before .before .before .before .before .before .before .before .before .args in
     let s = a .s .now in
+    let o = held (a .t) (a .o .now) in
     let l = c .before .before .before .before .before .before .before .before .before .before .before .before .before .loop in
     let i = c .before .before .before .before .before .before .before .before .before .before .line in
     let q = c .before .before .before .before .before .before .before .before .before .before .before .if1 .taken in
@@ -130,9 +131,8 @@ loop-again c =
     let p = c .before .before .before .before .before .place-fields in
     let r = c .before .before .before .before .before .before .before .is-record in
     let x : Standing = record { at = p .result .from; rest = take (p .result .to - p .result .from) (drop (p .result .from) s); mark = p .result .mark } in
-    let z = cells-more s (l .c .at) (i .result .span .to) q (y .size) (a .t) (l .m) (r .result) (r .ensures) (c .before .before .before .before .before .before .if2 .taken) (p .result) (p .ensures) in
-    let u = whole-more s (l .c .at) (i .result .span .to) q (y .size) (a .t) (l .m) (r .result) (r .ensures) (c .before .before .before .before .before .before .if2 .taken) (l .inv .1) in
-    (omega arith, rw (y .next) u, rw (y .next) (next-by z (l .inv .2) (c .before .before .put-values .ensures)))
+    let z = cells-more s (l .c .at) (i .result .span .to) q (y .size) (a .t) o (l .m) (r .result) (r .ensures) (c .before .before .before .before .before .before .if2 .taken) (p .result) (p .ensures) in
+    (omega arith, rw (y .next) (next-by z (l .inv .1) (c .before .before .put-values .ensures)))
 
 sub-wait-on : tie.Need-sub-wait-on Inv-loop μ-loop
 sub-wait-on c =
@@ -181,23 +181,23 @@ loop-again-2 : tie.Need-loop-again-2 Inv-loop μ-loop
 loop-again-2 c =
     let a = c .before .before .before .before .before .before .before .before .before .before .before .before .args in
     let s = a .s .now in
+    let o = held (a .t) (a .o .now) in
     let l = c .before .before .before .before .before .before .before .before .before .loop in
     let i = c .before .before .before .before .before .before .line in
     let q = c .before .before .before .before .before .before .before .if1 .taken in
     let y = handed s (l .c .at) (i .result) q (i .ensures) in
     let r = c .before .before .before .is-record in
-    let z = cells-other s (l .c .at) (i .result .span .to) q (y .size) (a .t) (l .m) (r .result) (r .ensures) (c .before .before .if2 .left) in
-    let u = whole-other s (l .c .at) (i .result .span .to) q (y .size) (a .t) (l .m) (r .result) (r .ensures) (c .before .before .if2 .left) (l .inv .1) in
-    (omega arith, rw (y .next) u, rw (y .next, c .wait-on .ensures) (left-is z (l .inv .2)))
+    let z = cells-other s (l .c .at) (i .result .span .to) q (y .size) (a .t) o (l .m) (r .result) (r .ensures) (c .before .before .if2 .left) in
+    (omega arith, rw (y .next, c .wait-on .ensures) (left-is z (l .inv .1)))
 
 same-length : tie.Need-same-length Inv-loop μ-loop
-same-length c = same (c .before .before .loop .inv .2)
+same-length c = same (c .before .before .loop .inv .1)
 
 returns : tie.Need-returns Inv-loop μ-loop
 returns c =
     let a = c .before .before .before .before .before .args in
     let l = c .before .before .loop in
-    at-end (cells-end (a .s .now) (l .c .at) (a .t) (l .m) (c .if1 .left)) (l .inv .2)
+    at-end (cells-end (a .s .now) (l .c .at) (a .t) (held (a .t) (a .o .now)) (l .m) (c .if1 .left)) (l .inv .1)
 
 pub put-records-spec : {M : Type 1} → statement M
 put-records-spec =

@@ -1,5 +1,10 @@
 -- `fields::columns::read_field` meets its contract. Assumes nothing.
+use mathlib.Core.Path.{sym, _∙_}
+use Rattle.page.specs.Fields.{numberOf}
 use Rattle.page.specs.Section.{fieldOf}
+use Rattle.page.specs.Places.{span-from}
+use Rattle.digits.specs.Runs.{field-from}
+use Rattle.fields.proofs.ColumnLaws.{number-there}
 use borrow.Author.Needs.{needs}
 use Rattle.fields.proofs.columns.read_field.Statement.{statement}
 use Rattle.fields.proofs.columns.read_field.Tie as tie
@@ -16,7 +21,11 @@ number-from-requires c κs = search needs
 
 returns-2 : tie.Need-returns-2
 unfolding fieldOf
-returns-2 c = (c .number-from .ensures .0, rw (c .before .if1 .left) (c .number-from .ensures .1))
+returns-2 c =
+    let a = c .before .before .before .args in (
+      c .number-from .ensures .0,
+      rw (c .before .if1 .left) (c .number-from .ensures .1 ∙ sym (number-there (span-from (a .w .now) (a .at) .from) (a .column .lo) (a .column .hi) (numberOf (field-from (a .w .now) (a .at))))),
+    )
 
 pub read-field-spec : {M : Type 1} → statement M
 read-field-spec = tie.close (tie.spec text-from-requires returns number-from-requires returns-2)

@@ -23,10 +23,10 @@ put-sections-requires c κs =
     let a = c .before .before .before .before .before .before .before .before .before .args in
     let s = a .s .now in
     let q = c .before .before .before .before .before .before .before .before .before .pre in
-    let x = a .change in
+    let x = a .plan in
     let l = accepted-short s (q .0) in
-    let m = accepted-room s (q .0) (x .strip) (x .section) (x .rec) (x .field) (a .text .now) (q .1) in
-    let k = head-raw-length s (c .before .before .before .before .before .read-values .result) in
+    let m = accepted-room s (q .0) x (a .text .now) (q .1) in
+    let k = head-raw-length (x .ends) s (c .before .before .before .before .before .read-values .result) in
     (omega (arith, c .before .before .before .put-head .ensures .next), q .1, accepted-passing s (q .0))
 
 slice-aggregate-put-count-line : tie.Need-slice-aggregate-put-count-line
@@ -37,10 +37,10 @@ put-count-line-requires c κs =
     let a = c .before .before .before .before .before .before .before .before .before .before .before .before .before .before .args in
     let s = a .s .now in
     let q = c .before .before .before .before .before .before .before .before .before .before .before .before .before .before .pre in
-    let x = a .change in
+    let x = a .plan in
     let l = accepted-short s (q .0) in
-    let m = accepted-room s (q .0) (x .strip) (x .section) (x .rec) (x .field) (a .text .now) (q .1) in
-    let k = head-raw-length s (c .before .before .before .before .before .before .before .before .before .before .read-values .result) in
+    let m = accepted-room s (q .0) x (a .text .now) (q .1) in
+    let k = head-raw-length (x .ends) s (c .before .before .before .before .before .before .before .before .before .before .read-values .result) in
     omega (arith, c .before .before .before .before .before .before .before .before .put-head .ensures .next, c .before .before .before .before .put-sections .ensures .0 .next)
 
 same-length : tie.Need-same-length
@@ -52,7 +52,7 @@ returns c =
     let a = c .before .before .before .before .before .before .before .before .before .before .before .before .before .before .before .before .before .args in
     let s = a .s .now in
     let q = c .before .before .before .before .before .before .before .before .before .before .before .before .before .before .before .before .before .pre in
-    let x = a .change in
+    let x = a .plan in
     put-as (form-is s (q .0) x (a .text .now) _ _ (c .before .before .before .before .before .before .before .before .before .before .before .before .before .read-values .ensures) (c .before .before .before .before .before .before .before .put-sections .ensures .1)) (puts (c .before .before .before .before .before .before .before .before .before .before .before .put-head .ensures) (puts (c .before .before .before .before .before .before .before .put-sections .ensures .0) (c .before .before .put-count-line .ensures)))
 
 pub put-form-spec : {M : Type 1} → statement M

@@ -1,13 +1,12 @@
 use mathlib.Core.List.{map}
 use Rattle.page.specs.Cut.{sections}
-use Rattle.page.specs.Form.{tables-form}
 use Rattle.page.proofs.ScanLaws.{part-length}
 use Rattle.page.proofs.CutLaws.{sections-from, sections-all, sections-end}
 use Rattle.cut.specs.Walk.{Settled}
 use Rattle.cut.proofs.WalkLaws.{walk-here}
 use Rattle.output.proofs.PutLaws.{Todo, begin, left-is, next-by, at-end, same}
 use Rattle.recording.specs.Said.{said-in, PassingIn}
-use Rattle.copies.specs.Changed.{changed-tables}
+use Rattle.copies.specs.Planned.{tables-by}
 use Rattle.recording.proofs.SectionLaws.{tables-begin, tables-more, tables-end, lines-from, tables-fit, passing-here, passing-rest, passes-section}
 use borrow.Author.Needs.{needs}
 use Prim.Native.Nat.{_+_, _-_, _≤_}
@@ -18,13 +17,13 @@ use Rattle.forms.proofs.file.put_sections.Statement.{statement}
 use Rattle.forms.proofs.file.put_sections.Tie as tie
 
 abbrev Inv-loop : tie.InvT-loop
-Inv-loop out₀ at s change text a₀ n₀ o₀ out a n o =
+Inv-loop out₀ at s plan text a₀ n₀ o₀ out a n o =
     (a ≤ length s) × (n ≤ a) × Settled s a × PassingIn (sections-from s a) × (n + length (sections-from s a) ≡ length (sections s))
-    × Todo out₀ o₀ (tables-form (changed-tables (change .strip) (change .section) (change .rec) (change .field) text (map said-in (sections s)))) out o
-    (tables-form (changed-tables (change .strip) (change .section - n) (change .rec) (change .field) text (map said-in (sections-from s a))))
+    × Todo out₀ o₀ (tables-by plan 0 text (map said-in (sections s))) out o
+    (tables-by plan n text (map said-in (sections-from s a)))
 
 abbrev μ-loop : tie.MeasureT-loop
-μ-loop out₀ at s change text a₀ n₀ o₀ out a n o = length s - a
+μ-loop out₀ at s plan text a₀ n₀ o₀ out a n o = length s - a
 
 find-section-requires : tie.Need-find-section-requires Inv-loop μ-loop
 find-section-requires c κs = search needs
@@ -35,7 +34,7 @@ loop-holds c =
     let s = a .s .now in
     let f = c .find-section .ensures in
     let y = f .same ∙ sections-all s in
-    (f .within, omega arith, f .settled, rw y (c .before .before .before .before .pre .2), omega (arith, ap length y), left-is (tables-begin (a .change .strip) (a .change .section) (a .change .rec) (a .change .field) (a .text .now) (sections s) _ y) begin)
+    (f .within, omega arith, f .settled, rw y (c .before .before .before .before .pre .2), omega (arith, ap length y), left-is (tables-begin (a .plan) (a .text .now) (sections s) _ y) begin)
 
 section-end-requires : tie.Need-section-end-requires Inv-loop μ-loop
 section-end-requires c κs = search needs
@@ -49,8 +48,8 @@ part-put-section-start c = search needs
 part-put-section-end : tie.Need-part-put-section-end Inv-loop μ-loop
 part-put-section-end c = search needs
 
-change-section-requires : tie.Need-change-section-requires Inv-loop μ-loop
-change-section-requires c κs = search needs
+plan-section-requires : tie.Need-plan-section-requires Inv-loop μ-loop
+plan-section-requires c κs = search needs
 
 put-section-requires : tie.Need-put-section-requires Inv-loop μ-loop
 put-section-requires c κs =
@@ -61,7 +60,7 @@ put-section-requires c κs =
     let e = c .before .before .before .section-end in
     let g = walk-here s (l .a) h (l .inv .2) in
     let k = part-length (l .a) (e .result) s (e .ensures .2) in
-    (tables-fit (a .change .strip) (a .change .section) (a .change .rec) (a .change .field) (a .text .now) (l .n) _ _ _ _ _ _ _ g (c .change-section .ensures .0) (c .change-section .ensures .1) (c .change-section .ensures .2) (lines-from s (l .a) (e .result) (e .ensures .0)) _ _ (l .inv .5) (c .before .before .before .before .before .before .before .before .before .before .pre .0), c .before .before .before .before .before .before .before .before .before .before .pre .1, omega (arith, e .ensures .1), passes-section _ _ (lines-from s (l .a) (e .result) (e .ensures .0)) (passing-here (rw g at (l .inv .3))))
+    (tables-fit (a .plan) (a .text .now) (l .n) _ _ _ _ _ g (c .plan-section .ensures) (lines-from s (l .a) (e .result) (e .ensures .0)) _ _ (l .inv .5) (c .before .before .before .before .before .before .before .before .before .before .pre .0), c .before .before .before .before .before .before .before .before .before .before .pre .1, omega (arith, e .ensures .1), passes-section _ _ (lines-from s (l .a) (e .result) (e .ensures .0)) (passing-here (rw g at (l .inv .3))))
 
 find-section-requires-2 : tie.Need-find-section-requires-2 Inv-loop μ-loop
 find-section-requires-2 c κs = search needs
@@ -81,7 +80,7 @@ loop-again c =
     let h = c .before .before .before .before .before .before .before .before .loop-test .taken in
     let e = c .before .before .before .before .before .before .before .section-end in
     let g = walk-here s (l .a) h (l .inv .2) in
-    let z = tables-more (a .change .strip) (a .change .section) (a .change .rec) (a .change .field) (a .text .now) (l .n) _ _ _ _ _ _ _ g (c .before .before .before .before .change-section .ensures .0) (c .before .before .before .before .change-section .ensures .1) (c .before .before .before .before .change-section .ensures .2) (lines-from s (l .a) (e .result) (e .ensures .0)) in
+    let z = tables-more (a .plan) (a .text .now) (l .n) _ _ _ _ _ g (c .before .before .before .before .plan-section .ensures) (lines-from s (l .a) (e .result) (e .ensures .0)) in
     let f = c .find-section2 .ensures in
     let y = f .same ∙ ap (sections-from s) (e .ensures .0) in (
       f .within,
@@ -101,7 +100,7 @@ returns c =
     let a = c .before .before .before .before .before .before .args in
     let l = c .before .loop in
     let y = sections-end (a .s .now) (l .a) (c .loop-test .left) in
-    (at-end (tables-end (a .change .strip) (a .change .section) (a .change .rec) (a .change .field) (a .text .now) (l .n) _ y) (l .inv .5), omega (arith, ap length y, l .inv .4))
+    (at-end (tables-end (a .plan) (a .text .now) (l .n) _ y) (l .inv .5), omega (arith, ap length y, l .inv .4))
 
 pub put-sections-spec : {M : Type 1} → statement M
 put-sections-spec =
@@ -115,7 +114,7 @@ put-sections-spec =
     sub-put-section
     part-put-section-start
     part-put-section-end
-    change-section-requires
+    plan-section-requires
     put-section-requires
     find-section-requires-2
     add-n

@@ -19,7 +19,7 @@ same-length c = search needs
 
 returns : tie.Need-returns
 unfolding bytes
-returns c = put-as (chs-latin _ (c .before .before .before .before .before .before .before .before .before .if1 .taken)) (puts (c .before .before .before .before .before .before .put-bytes .ensures) (c .before .before .put-line-end .ensures))
+returns c = put-as (chs-latin _ _ (c .before .before .before .before .before .before .before .before .before .if1 .taken)) (puts (c .before .before .before .before .before .before .put-bytes .ensures) (c .before .before .put-line-end .ensures))
 
 slice-aggregate-put-bytes-2 : tie.Need-slice-aggregate-put-bytes-2
 slice-aggregate-put-bytes-2 c = search needs
@@ -35,7 +35,7 @@ same-length-2 c = search needs
 
 returns-2 : tie.Need-returns-2
 unfolding bytes
-returns-2 c = put-as (chs-ascii _ (c .before .before .before .before .before .before .before .before .before .if1 .left)) (puts (c .before .before .before .before .before .before .put-bytes2 .ensures) (c .before .before .put-line-end2 .ensures))
+returns-2 c = put-as (chs-ascii _ _ (c .before .before .before .before .before .before .before .before .before .if1 .left)) (puts (c .before .before .before .before .before .before .put-bytes2 .ensures) (c .before .before .put-line-end2 .ensures))
 
 pub put-chs-line-spec : {M : Type 1} → statement M
 put-chs-line-spec =

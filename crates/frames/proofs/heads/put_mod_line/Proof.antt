@@ -19,7 +19,7 @@ same-length c = search needs
 
 returns : tie.Need-returns
 unfolding bytes
-returns c = put-as mod-is (puts (c .before .before .before .before .before .before .put-bytes .ensures) (c .before .before .put-line-end .ensures))
+returns c = put-as (mod-is _) (puts (c .before .before .before .before .before .before .put-bytes .ensures) (c .before .before .put-line-end .ensures))
 
 pub put-mod-line-spec : {M : Type 1} → statement M
 put-mod-line-spec =

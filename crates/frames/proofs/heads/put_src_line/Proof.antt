@@ -45,7 +45,7 @@ same-length c = search needs
 
 returns : tie.Need-returns
 unfolding bytes
-returns c = put-as (src-is _ _ _ _) (puts (c .before .before .before .before .before .before .before .before .before .before .before .before .before .before .before .before .before .before .before .before .before .before .before .before .before .before .before .before .before .before .before .before .put-bytes .ensures) (puts (c .before .before .before .before .before .before .before .before .before .before .before .before .before .before .before .before .before .before .before .before .before .before .before .before .before .before .before .before .put-raw-part .ensures) (puts (c .before .before .before .before .before .before .before .before .before .before .before .before .before .before .before .before .before .before .before .before .before .before .before .put-bytes2 .ensures) (puts (c .before .before .before .before .before .before .before .before .before .before .before .before .before .before .before .before .before .before .before .put-date .ensures) (puts (c .before .before .before .before .before .before .before .before .before .before .before .before .before .before .put-bytes3 .ensures) (puts (c .before .before .before .before .before .before .before .before .before .before .put-time .ensures) (puts (c .before .before .before .before .before .before .put-byte .ensures) (c .before .before .put-line-end .ensures))))))))
+returns c = put-as (src-is _ _ _ _ _) (puts (c .before .before .before .before .before .before .before .before .before .before .before .before .before .before .before .before .before .before .before .before .before .before .before .before .before .before .before .before .before .before .before .before .put-bytes .ensures) (puts (c .before .before .before .before .before .before .before .before .before .before .before .before .before .before .before .before .before .before .before .before .before .before .before .before .before .before .before .before .put-raw-part .ensures) (puts (c .before .before .before .before .before .before .before .before .before .before .before .before .before .before .before .before .before .before .before .before .before .before .before .put-bytes2 .ensures) (puts (c .before .before .before .before .before .before .before .before .before .before .before .before .before .before .before .before .before .before .before .put-date .ensures) (puts (c .before .before .before .before .before .before .before .before .before .before .before .before .before .before .put-bytes3 .ensures) (puts (c .before .before .before .before .before .before .before .before .before .before .put-time .ensures) (puts (c .before .before .before .before .before .before .put-byte .ensures) (c .before .before .put-line-end .ensures))))))))
 
 pub put-src-line-spec : {M : Type 1} → statement M
 put-src-line-spec =

@@ -22,7 +22,7 @@ same-length : tie.Need-same-length
 same-length c = search needs
 
 returns : tie.Need-returns
-returns c = put-as (line-is _ _) (puts (c .before .before .before .before .before .before .before .before .before .before .before .before .before .before .put-bytes .ensures) (puts (c .before .before .before .before .before .before .before .before .before .before .put-separator .ensures) (puts (c .before .before .before .before .before .before .put-decimal .ensures) (c .before .before .put-line-end .ensures))))
+returns c = put-as (line-is _ _ _) (puts (c .before .before .before .before .before .before .before .before .before .before .before .before .before .before .put-bytes .ensures) (puts (c .before .before .before .before .before .before .before .before .before .before .put-separator .ensures) (puts (c .before .before .before .before .before .before .put-decimal .ensures) (c .before .before .put-line-end .ensures))))
 
 pub put-count-line-spec : {M : Type 1} → statement M
 put-count-line-spec =

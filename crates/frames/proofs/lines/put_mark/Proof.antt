@@ -27,7 +27,7 @@ same-length c = search needs
 
 returns : tie.Need-returns
 unfolding bytes
-returns c = put-as (mark-is _) (puts (c .before .before .before .before .before .before .before .before .before .before .before .before .before .before .put-bytes .ensures) (puts (c .before .before .before .before .before .before .before .before .before .before .put-decimal .ensures) (puts (c .before .before .before .before .before .before .put-byte .ensures) (c .before .before .put-line-end .ensures))))
+returns c = put-as (mark-is _ _) (puts (c .before .before .before .before .before .before .before .before .before .before .before .before .before .before .put-bytes .ensures) (puts (c .before .before .before .before .before .before .before .before .before .before .put-decimal .ensures) (puts (c .before .before .before .before .before .before .put-byte .ensures) (c .before .before .put-line-end .ensures))))
 
 pub put-mark-spec : {M : Type 1} → statement M
 put-mark-spec =

@@ -23,7 +23,7 @@ same-length : tie.Need-same-length
 same-length c = search needs
 
 returns : tie.Need-returns
-returns c = put-as (text-line-is _ _ _) (puts (c .before .before .before .before .before .before .before .before .before .before .before .before .before .before .put-bytes .ensures) (puts (c .before .before .before .before .before .before .before .before .before .before .put-separator .ensures) (puts (c .before .before .before .before .before .before .put-raw-part .ensures) (c .before .before .put-line-end .ensures))))
+returns c = put-as (text-line-is _ _ _ _) (puts (c .before .before .before .before .before .before .before .before .before .before .before .before .before .before .put-bytes .ensures) (puts (c .before .before .before .before .before .before .before .before .before .before .put-separator .ensures) (puts (c .before .before .before .before .before .before .put-raw-part .ensures) (c .before .before .put-line-end .ensures))))
 
 pub put-text-line-spec : {M : Type 1} → statement M
 put-text-line-spec =

@@ -12,10 +12,10 @@ use Rattle.frames.proofs.titles.put_atr_line.Statement.{statement}
 use Rattle.frames.proofs.titles.put_atr_line.Tie as tie
 
 abbrev Inv-loop : tie.InvT-loop
-Inv-loop out₀ at t n o₀ k₀ out o k = (k ≤ n) × Todo out₀ o₀ (separated (names t)) out o (separated (drop k (names t)))
+Inv-loop out₀ at ends t n o₀ k₀ out o k = (k ≤ n) × Todo out₀ o₀ (separated (names t)) out o (separated (drop k (names t)))
 
 abbrev μ-loop : tie.MeasureT-loop
-μ-loop out₀ at t n o₀ k₀ out o k = n - k
+μ-loop out₀ at ends t n o₀ k₀ out o k = n - k
 
 find-width-requires : tie.Need-find-width-requires Inv-loop μ-loop
 find-width-requires c κs = search needs
@@ -56,7 +56,7 @@ same-length c = put-same (puts (c .before .before .before .before .before .befor
 
 returns : tie.Need-returns Inv-loop μ-loop
 unfolding bytes
-returns c = put-as (line-parts "atr" (names (c .before .before .before .before .before .before .before .before .before .before .before .before .before .args .t))) (puts (c .before .before .before .before .before .before .before .before .put-bytes .ensures) (puts (at-end (separated-end (names (c .before .before .before .before .before .before .before .before .before .before .before .before .before .args .t)) (c .before .before .before .before .before .loop .k) (omega (arith, names-count (c .before .before .before .before .before .before .before .before .before .before .before .before .before .args .t), c .before .before .before .before .before .before .before .before .before .before .before .find-width .ensures, c .before .before .before .before .loop-test .left))) (c .before .before .before .before .before .loop .inv .1)) (c .before .before .put-line-end .ensures)))
+returns c = put-as (line-parts _ "atr" (names (c .before .before .before .before .before .before .before .before .before .before .before .before .before .args .t))) (puts (c .before .before .before .before .before .before .before .before .put-bytes .ensures) (puts (at-end (separated-end (names (c .before .before .before .before .before .before .before .before .before .before .before .before .before .args .t)) (c .before .before .before .before .before .loop .k) (omega (arith, names-count (c .before .before .before .before .before .before .before .before .before .before .before .before .before .args .t), c .before .before .before .before .before .before .before .before .before .before .before .find-width .ensures, c .before .before .before .before .loop-test .left))) (c .before .before .before .before .before .loop .inv .1)) (c .before .before .put-line-end .ensures)))
 
 pub put-atr-line-spec : {M : Type 1} → statement M
 put-atr-line-spec =

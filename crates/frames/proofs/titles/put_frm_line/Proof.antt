@@ -12,10 +12,10 @@ use Rattle.frames.proofs.titles.put_frm_line.Statement.{statement}
 use Rattle.frames.proofs.titles.put_frm_line.Tie as tie
 
 abbrev Inv-loop : tie.InvT-loop
-Inv-loop out₀ at t n o₀ k₀ out o k = (k ≤ n) × Todo out₀ o₀ (separated (formats t)) out o (separated (drop k (formats t)))
+Inv-loop out₀ at ends t n o₀ k₀ out o k = (k ≤ n) × Todo out₀ o₀ (separated (formats t)) out o (separated (drop k (formats t)))
 
 abbrev μ-loop : tie.MeasureT-loop
-μ-loop out₀ at t n o₀ k₀ out o k = n - k
+μ-loop out₀ at ends t n o₀ k₀ out o k = n - k
 
 find-width-requires : tie.Need-find-width-requires Inv-loop μ-loop
 find-width-requires c κs = search needs
@@ -60,7 +60,7 @@ same-length c = put-same (puts (c .before .before .before .before .before .befor
 
 returns : tie.Need-returns Inv-loop μ-loop
 unfolding bytes
-returns c = put-as (line-parts "frm" (formats (c .before .before .before .before .before .before .before .before .before .before .before .before .before .args .t))) (puts (c .before .before .before .before .before .before .before .before .put-bytes .ensures) (puts (at-end (separated-end (formats (c .before .before .before .before .before .before .before .before .before .before .before .before .before .args .t)) (c .before .before .before .before .before .loop .k) (omega (arith, formats-count (c .before .before .before .before .before .before .before .before .before .before .before .before .before .args .t), c .before .before .before .before .before .before .before .before .before .before .before .find-width .ensures, c .before .before .before .before .loop-test .left))) (c .before .before .before .before .before .loop .inv .1)) (c .before .before .put-line-end .ensures)))
+returns c = put-as (line-parts _ "frm" (formats (c .before .before .before .before .before .before .before .before .before .before .before .before .before .args .t))) (puts (c .before .before .before .before .before .before .before .before .put-bytes .ensures) (puts (at-end (separated-end (formats (c .before .before .before .before .before .before .before .before .before .before .before .before .before .args .t)) (c .before .before .before .before .before .loop .k) (omega (arith, formats-count (c .before .before .before .before .before .before .before .before .before .before .before .before .before .args .t), c .before .before .before .before .before .before .before .before .before .before .before .find-width .ensures, c .before .before .before .before .loop-test .left))) (c .before .before .before .before .before .loop .inv .1)) (c .before .before .put-line-end .ensures)))
 
 pub put-frm-line-spec : {M : Type 1} → statement M
 put-frm-line-spec =

@@ -9,16 +9,16 @@ put-tbl-line-requires : tie.Need-put-tbl-line-requires
 put-tbl-line-requires c κs = search needs
 
 put-atr-line-requires : tie.Need-put-atr-line-requires
-put-atr-line-requires c κs = omega (arith, tbl-length (c .before .before .before .before .before .before .args .t))
+put-atr-line-requires c κs = omega (arith, tbl-length (c .before .before .before .before .before .before .args .ends) (c .before .before .before .before .before .before .args .t))
 
 put-frm-line-requires : tie.Need-put-frm-line-requires
-put-frm-line-requires c κs = omega (arith, tbl-length (c .before .before .before .before .before .before .before .before .before .before .args .t), atr-length (c .before .before .before .before .before .before .before .before .before .before .args .t))
+put-frm-line-requires c κs = omega (arith, tbl-length (c .before .before .before .before .before .before .before .before .before .before .args .ends) (c .before .before .before .before .before .before .before .before .before .before .args .t), atr-length (c .before .before .before .before .before .before .before .before .before .before .args .ends) (c .before .before .before .before .before .before .before .before .before .before .args .t))
 
 same-length : tie.Need-same-length
 same-length c = search needs
 
 returns : tie.Need-returns
-returns c = put-as (table-head-is _) (puts (c .before .before .before .before .before .before .before .before .before .before .put-tbl-line .ensures) (puts (c .before .before .before .before .before .before .put-atr-line .ensures) (c .before .before .put-frm-line .ensures)))
+returns c = put-as (table-head-is _ _) (puts (c .before .before .before .before .before .before .before .before .before .before .put-tbl-line .ensures) (puts (c .before .before .before .before .before .before .put-atr-line .ensures) (c .before .before .put-frm-line .ensures)))
 
 pub put-table-head-spec : {M : Type 1} → statement M
 put-table-head-spec =

@@ -29,7 +29,7 @@ same-length c = search needs
 
 returns : tie.Need-returns
 unfolding bytes
-returns c = put-as (tbl-is _ _ (c .before .before .before .before .before .before .before .look-title .ensures)) (puts (c .before .before .before .before .before .before .before .before .before .before .before .put-bytes .ensures) (puts (c .before .before .before .before .before .before .put-word .ensures) (c .before .before .put-line-end .ensures)))
+returns c = put-as (tbl-is _ _ _ (c .before .before .before .before .before .before .before .look-title .ensures)) (puts (c .before .before .before .before .before .before .before .before .before .before .before .put-bytes .ensures) (puts (c .before .before .before .before .before .before .put-word .ensures) (c .before .before .put-line-end .ensures)))
 
 pub put-tbl-line-spec : {M : Type 1} → statement M
 put-tbl-line-spec =

@@ -6,15 +6,18 @@ use Rattle.guesses.proofs.hashes.hash_line.Statement.{statement}
 use Rattle.guesses.proofs.hashes.hash_line.Tie as tie
 
 abbrev Inv-loop : tie.InvT-loop
-Inv-loop w at choice x₀ i₀ x i =
+Inv-loop w at x₀ i₀ x i =
     at ≤ i
 
 abbrev μ-loop : tie.MeasureT-loop
-μ-loop w at choice x₀ i₀ x i =
+μ-loop w at x₀ i₀ x i =
     length w - i
 
 mul-t10 : tie.Need-mul-t10 Inv-loop μ-loop
 mul-t10 c = search needs
+
+mul-t12 : tie.Need-mul-t12 Inv-loop μ-loop
+mul-t12 c = search needs
 
 loop-holds : tie.Need-loop-holds Inv-loop μ-loop
 loop-holds c = search needs
@@ -85,6 +88,7 @@ hash-line-spec =
     Inv-loop
     μ-loop
     mul-t10
+    mul-t12
     loop-holds
     shared-slice-read-b
     add-i

@@ -3,7 +3,9 @@ use borrow.Author.Tests.{not-true, not-false, eqb-true, eq-eqb, ne-eqb}
 use lib.Dec.{eqb}
 use Rattle.page.specs.Fields.{fields}
 use Rattle.page.specs.Tables.{width}
+use Rattle.page.specs.Order.{by-column}
 use Rattle.page.specs.Section.{rec-verdict}
+use Rattle.tables.specs.Orders.{held}
 use Rattle.judging.proofs.RecordLaws.{rules-known}
 use mathlib.Core.Path.{_≡_, sym, _∙_}
 use mathlib.Core.Bool.{true}
@@ -37,7 +39,7 @@ unfolding rec-verdict
 returns-3 c = let a = c .before .before .before .before .before .before .before .before .args in
     let j = c .before .before .before .before .before .before .judge-fields in
     let n : eqb (length (fields (a .w .now))) (width (a .t)) ≡ true = sym (c .before .before .before .before .has-width .ensures) ∙ not-false _ (c .before .before .before .if1 .left) in
-    let p = rules-known (a .t) (fields (a .w .now)) (j .result .numbers) (j .ensures .numbers (c .before .before .if2 .left) (eqb-true _ _ n)) in
+    let p = rules-known (a .t) (by-column (held (a .t) (a .o .now)) (fields (a .w .now))) (j .result .numbers) (j .ensures .numbers (c .before .before .if2 .left) (eqb-true _ _ n)) in
     let s = sym p ∙ sym (c .before .judge-rules .ensures) in
     rw (n, sym (j .ensures .first), eq-eqb (j .result .wrong) 0 (c .before .before .if2 .left), s, ne-eqb (c .before .judge-rules .result) 0 (c .if3 .taken))
 
@@ -49,7 +51,7 @@ unfolding rec-verdict
 returns-4 c = let a = c .before .before .before .before .before .before .before .before .before .before .args in
     let j = c .before .before .before .before .before .before .before .before .judge-fields in
     let n : eqb (length (fields (a .w .now))) (width (a .t)) ≡ true = sym (c .before .before .before .before .before .before .has-width .ensures) ∙ not-false _ (c .before .before .before .before .before .if1 .left) in
-    let p = rules-known (a .t) (fields (a .w .now)) (j .result .numbers) (j .ensures .numbers (c .before .before .before .before .if2 .left) (eqb-true _ _ n)) in
+    let p = rules-known (a .t) (by-column (held (a .t) (a .o .now)) (fields (a .w .now))) (j .result .numbers) (j .ensures .numbers (c .before .before .before .before .if2 .left) (eqb-true _ _ n)) in
     let s = sym p ∙ sym (c .before .before .before .judge-rules .ensures) in
     rw (n, sym (j .ensures .first), eq-eqb (j .result .wrong) 0 (c .before .before .before .before .if2 .left), s, eq-eqb (c .before .before .before .judge-rules .result) 0 (c .before .before .if3 .left), sym (c .before .marks-empty .ensures) ∙ c .if4 .taken)
 
@@ -58,7 +60,7 @@ unfolding rec-verdict
 returns-5 c = let a = c .before .before .before .before .before .before .before .before .before .before .args in
     let j = c .before .before .before .before .before .before .before .before .judge-fields in
     let n : eqb (length (fields (a .w .now))) (width (a .t)) ≡ true = sym (c .before .before .before .before .before .before .has-width .ensures) ∙ not-false _ (c .before .before .before .before .before .if1 .left) in
-    let p = rules-known (a .t) (fields (a .w .now)) (j .result .numbers) (j .ensures .numbers (c .before .before .before .before .if2 .left) (eqb-true _ _ n)) in
+    let p = rules-known (a .t) (by-column (held (a .t) (a .o .now)) (fields (a .w .now))) (j .result .numbers) (j .ensures .numbers (c .before .before .before .before .if2 .left) (eqb-true _ _ n)) in
     let s = sym p ∙ sym (c .before .before .before .judge-rules .ensures) in
     rw (n, sym (j .ensures .first), eq-eqb (j .result .wrong) 0 (c .before .before .before .before .if2 .left), s, eq-eqb (c .before .before .before .judge-rules .result) 0 (c .before .before .if3 .left), sym (c .before .marks-empty .ensures) ∙ c .if4 .left)
 

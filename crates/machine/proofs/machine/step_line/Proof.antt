@@ -2,8 +2,13 @@
 use Prim.Native.Nat.{_-_}
 use borrow.Author.Tests.{eq-eqb, ne-eqb}
 use borrow.Author.Needs.{needs}
-use Rattle.page.specs.Section.{line-step, choose}
+use Rattle.page.specs.Section.{line-step, choose, frm-step}
 use Rattle.machine.specs.Counts.{records-in}
+use Rattle.page.specs.Fields.{fields}
+use Rattle.page.specs.Order.{Order, listed-order}
+use Rattle.tables.specs.Orders.{held}
+use Rattle.tables.proofs.OrderLaws.{listed-held, listed-orderly}
+use mathlib.Core.Path.{_≡_, ap, _∙_}
 use Rattle.machine.proofs.machine.step_line.Statement.{statement}
 use Rattle.machine.proofs.machine.step_line.Tie as tie
 
@@ -32,13 +37,19 @@ returns-2 c =
 enum-known-p-2 : tie.Need-enum-known-p-2
 enum-known-p-2 c = search needs
 
+list-columns-requires : tie.Need-list-columns-requires
+list-columns-requires c κs = search needs
+
 step-frm-requires : tie.Need-step-frm-requires
-step-frm-requires c κs = search needs
+step-frm-requires c κs = rw (c .before .list-columns .ensures) listed-orderly
 
 returns-3 : tie.Need-returns-3
 unfolding line-step choose
 returns-3 c =
-    rw (c .before .before .before .p2 .given .1, eq-eqb (c .before .before .before .before .before .before .args .k) 10 (c .before .if3 .taken)) (c .step-frm .ensures)
+    let t = c .before .before .before .before .before .p2 .given .0 .0 in
+    let a = c .before .before .before .before .before .before .before .before .args in
+    let e : held t (c .before .before .list-columns .result) ≡ listed-order t = ap (held t) (c .before .before .list-columns .ensures) ∙ listed-held t in
+    rw (c .before .before .before .before .before .p2 .given .1, eq-eqb (a .k) 10 (c .before .before .before .if3 .taken)) (c .step-frm .ensures ∙ ap (λ (o : Order). frm-step t o (fields (a .w .now))) e)
 
 enum-known-p-3 : tie.Need-enum-known-p-3
 enum-known-p-3 c = search needs
@@ -86,6 +97,7 @@ step-line-spec =
     step-atr-requires
     returns-2
     enum-known-p-2
+    list-columns-requires
     step-frm-requires
     returns-3
     enum-known-p-3

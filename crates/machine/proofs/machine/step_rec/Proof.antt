@@ -10,8 +10,8 @@ use Rattle.machine.proofs.machine.step_rec.Tie as tie
 judge-record-requires : tie.Need-judge-record-requires
 judge-record-requires c κs = search needs
 
-add-t7 : tie.Need-add-t7
-add-t7 c = search needs
+add-t8 : tie.Need-add-t8
+add-t8 c = search needs
 
 returns : tie.Need-returns
 unfolding rec-step choose
@@ -24,4 +24,4 @@ returns-2 c =
     rw (sym (c .before .judge-record .ensures), ne-eqb (c .before .judge-record .result) 0 (c .if1 .left))
 
 pub step-rec-spec : {M : Type 1} → statement M
-step-rec-spec = tie.close (tie.spec judge-record-requires add-t7 returns returns-2)
+step-rec-spec = tie.close (tie.spec judge-record-requires add-t8 returns returns-2)

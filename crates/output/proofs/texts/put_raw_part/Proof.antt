@@ -1,28 +1,48 @@
-use native.Mathlib.Omega.{arith}
+use mathlib.Core.Path.{ap}
 use borrow.Author.Needs.{needs}
 use Rattle.output.specs.Raw.{raw-text}
-use Rattle.output.proofs.FormLaws.{part-length}
-use Rattle.output.proofs.PutLaws.{puts}
+use Rattle.output.proofs.FormLaws.{part-same}
+use Rattle.output.proofs.PutLaws.{put-as}
 use Rattle.output.proofs.texts.put_raw_part.Statement.{statement}
 use Rattle.output.proofs.texts.put_raw_part.Tie as tie
 
-put-byte-requires : tie.Need-put-byte-requires
-put-byte-requires c κs = search needs
+least-requires : tie.Need-least-requires
+least-requires c κs = search needs
 
-put-part-requires : tie.Need-put-part-requires
-put-part-requires c κs = search needs
+least-requires-2 : tie.Need-least-requires-2
+least-requires-2 c κs = search needs
 
-put-byte-requires-2 : tie.Need-put-byte-requires-2
-put-byte-requires-2 c κs = omega (arith, part-length (c .before .before .before .before .before .before .before .before .before .before .before .args .place) (c .before .before .before .before .before .before .before .before .before .before .before .args .file .now))
+sub-put-raw : tie.Need-sub-put-raw
+sub-put-raw c = search needs
+
+part-put-raw-start : tie.Need-part-put-raw-start
+part-put-raw-start c = search needs
+
+part-put-raw-end : tie.Need-part-put-raw-end
+part-put-raw-end c = search needs
+
+put-raw-requires : tie.Need-put-raw-requires
+put-raw-requires c κs = search needs
 
 same-length : tie.Need-same-length
 same-length c = search needs
 
 returns : tie.Need-returns
-unfolding raw-text
-returns c = puts (c .before .before .before .before .before .before .before .before .before .before .put-byte .ensures) (puts (c .before .before .before .before .before .before .put-part .ensures) (c .before .before .put-byte2 .ensures))
+returns c =
+    let a = c .before .before .before .before .before .before .before .before .before .args in
+    put-as
+    (ap raw-text (part-same (a .file .now) (a .place) (c .before .before .before .before .before .before .least .result) (c .before .before .before .before .before .least2 .result) (c .before .before .before .before .before .before .least .ensures) (c .before .before .before .before .before .least2 .ensures)))
+    (c .before .before .put-raw .ensures)
 
 pub put-raw-part-spec : {M : Type 1} → statement M
 put-raw-part-spec =
     tie.close
-    (tie.spec put-byte-requires put-part-requires put-byte-requires-2 same-length returns)
+    (tie.spec
+    least-requires
+    least-requires-2
+    sub-put-raw
+    part-put-raw-start
+    part-put-raw-end
+    put-raw-requires
+    same-length
+    returns)

@@ -1,5 +1,4 @@
 use Rattle.copies.proofs.FieldLaws.{marked-filled, marked-stripped, marked-other, marked-waiting}
-use Prim.Native.Nat.{_-_}
 use mathlib.Core.Path.{_∙_}
 use borrow.Author.Needs.{needs}
 use Rattle.recording.proofs.record.is_marked.Statement.{statement}

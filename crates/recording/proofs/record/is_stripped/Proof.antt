@@ -1,4 +1,3 @@
-use Prim.Native.Nat.{_-_}
 use borrow.Author.Needs.{needs}
 use Rattle.recording.proofs.record.is_stripped.Statement.{statement}
 use Rattle.recording.proofs.record.is_stripped.Tie as tie

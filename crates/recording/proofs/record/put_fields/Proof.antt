@@ -1,108 +1,75 @@
-use mathlib.Core.List.{_∷_}
-use Rattle.page.specs.Bytes.{Bytes}
-use Rattle.page.specs.Fields.{fields}
-use Rattle.page.specs.Tables.{standing, width}
-use Rattle.page.specs.Section.{first-wrong}
-use Rattle.page.proofs.FieldLaws.{from, from-more, from-all, from-in, end-in}
-use Rattle.page.proofs.TableLaws.{width-le}
-use Rattle.machine.proofs.SoundLaws.{passed-width, passed-wrong}
-use Rattle.frames.proofs.LineLaws.{separator-length}
-use Rattle.output.proofs.PutLaws.{Todo, begin, left-is, next-by, at-end, same, puts}
-use Rattle.copies.specs.Parts.{fields-form}
-use Rattle.copies.proofs.FieldLaws.{fields-more, fields-end, none-wrong}
 use borrow.Author.Needs.{needs}
 use Prim.Native.Nat.{_+_, _-_, _<_, _≤_}
-use mathlib.Core.Path.{_≡_, ap, sym, _∙_}
 use native.Mathlib.Omega.{arith}
 use lib.ListN.{length, drop}
+use Rattle.page.specs.Fields.{fields}
+use Rattle.page.specs.Tables.{columns, width}
+use Rattle.page.specs.Order.{by-column}
+use Rattle.page.proofs.TableLaws.{width-le}
+use Rattle.tables.specs.Orders.{held}
+use Rattle.tables.proofs.OrderLaws.{held-length}
+use Rattle.frames.proofs.LineLaws.{separator-length}
+use Rattle.output.proofs.PutLaws.{Todo, begin, next-by, at-end, same, puts}
+use Rattle.copies.specs.Parts.{fields-form}
+use Rattle.copies.proofs.FieldLaws.{fields-more, fields-end}
+use Rattle.recording.proofs.RecordLaws.{place-within, start-within, start-field, start-sound}
 use Rattle.recording.proofs.record.put_fields.Statement.{statement}
 use Rattle.recording.proofs.record.put_fields.Tie as tie
 
 abbrev Inv-loop : tie.InvT-loop
-Inv-loop out₀ at w t m change text n o₀ p₀ k₀ out o p k =
-    (k ≤ n) × (p ≤ length w + 1) × (k + length (from w p) ≡ n) × (first-wrong (drop k (standing t)) (from w p) ≡ 0)
-    × Todo out₀ o₀ (fields-form (change .strip) (change .field) text m 1 (standing t) (fields w)) out o (fields-form (change .strip) (change .field) text m (k + 1) (drop k (standing t)) (from w p))
+Inv-loop out₀ at w t o m plan text n starts q₀ k₀ out q k =
+    (k ≤ n)
+    × Todo out₀ q₀ (fields-form (plan .strip) (plan .field) text m 1 (columns t) (by-column (held t o) (fields w))) out q
+    (fields-form (plan .strip) (plan .field) text m (k + 1) (drop k (columns t)) (drop k (by-column (held t o) (fields w))))
 
 abbrev μ-loop : tie.MeasureT-loop
-μ-loop out₀ at w t m change text n o₀ p₀ k₀ out o p k = n - k
+μ-loop out₀ at w t o m plan text n starts q₀ k₀ out q k = n - k
 
 find-width-requires : tie.Need-find-width-requires Inv-loop μ-loop
 find-width-requires c κs = search needs
 
-loop-holds : tie.Need-loop-holds Inv-loop μ-loop
-loop-holds c =
-    let a = c .before .before .before .before .args in
-    let w = a .w .now in
-    let v = c .before .before .before .before .pre .2 in (
-      omega arith,
-      omega arith,
-      omega (arith, ap length (from-all w), passed-width (a .t) (a .m) (fields w) v, c .find-width .ensures),
-      ap (first-wrong (standing (a .t))) (from-all w) ∙ passed-wrong (a .t) (a .m) (fields w) v,
-      left-is (ap (fields-form (a .change .strip) (a .change .field) (a .text .now) (a .m) 1 (standing (a .t))) (sym (from-all w))) begin,
-    )
+find-starts-requires : tie.Need-find-starts-requires Inv-loop μ-loop
+find-starts-requires c κs = search needs
 
-field-end-requires : tie.Need-field-end-requires Inv-loop μ-loop
-field-end-requires c κs = search needs
+loop-holds : tie.Need-loop-holds Inv-loop μ-loop
+loop-holds c = (omega arith, begin)
+
+find-place-requires : tie.Need-find-place-requires Inv-loop μ-loop
+find-place-requires c κs = c .before .before .before .before .before .before .before .pre .2 .orderly
 
 put-separator-requires : tie.Need-put-separator-requires Inv-loop μ-loop
-put-separator-requires c κs =
-    omega (arith, c .before .before .before .loop .inv .4 .next)
+put-separator-requires c κs = omega (arith, c .before .before .before .before .before .before .before .before .before .pre .0, c .before .before .before .loop .inv .1 .next)
 
-sub-trimmed : tie.Need-sub-trimmed Inv-loop μ-loop
-sub-trimmed c =
-    let a = c .before .before .before .before .before .before .before .before .before .before .before .before .args in
+mul-put-field : tie.Need-mul-put-field Inv-loop μ-loop
+mul-put-field c =
+    let a = c .before .before .before .before .before .before .before .before .before .before .before .before .before .args in
+    let q = c .before .before .before .before .before .before .before .before .before .before .before .before .before .pre in
     let l = c .before .before .before .before .before .before .before .loop in
-    let w = a .w .now in
-    let h = from-in w (l .p) (omega (arith, l .inv .2, c .before .before .before .before .before .before .loop-test .taken)) in
-    let e = c .before .before .before .before .before .field-end in
-    let b = end-in w (l .p) (e .result) h (e .ensures) in
-    omega arith
+    let h : l .k < width (a .t) = omega (arith, c .before .before .before .before .before .before .before .before .before .find-width .ensures, c .before .before .before .before .before .before .loop-test .taken) in
+    let p = place-within (a .t) (a .o .now) (q .2) (a .w .now) (q .3) (q .4) (c .before .before .before .before .before .before .before .before .find-starts .result) (c .before .before .before .before .before .before .before .before .find-starts .ensures) (l .k) h (c .before .before .before .before .before .find-place .result) (c .before .before .before .before .before .find-place .ensures) in
+    omega (arith, width-le (a .t))
 
-part-trimmed-start : tie.Need-part-trimmed-start Inv-loop μ-loop
-part-trimmed-start c =
-    let a = c .before .before .before .before .before .before .before .before .before .before .before .before .args in
+array-read-put-field : tie.Need-array-read-put-field Inv-loop μ-loop
+array-read-put-field c =
+    let a = c .before .before .before .before .before .before .before .before .before .before .before .before .before .args in
+    let q = c .before .before .before .before .before .before .before .before .before .before .before .before .before .pre in
     let l = c .before .before .before .before .before .before .before .loop in
-    let w = a .w .now in
-    let h = from-in w (l .p) (omega (arith, l .inv .2, c .before .before .before .before .before .before .loop-test .taken)) in
-    let e = c .before .before .before .before .before .field-end in
-    let b = end-in w (l .p) (e .result) h (e .ensures) in
-    search needs
-
-part-trimmed-end : tie.Need-part-trimmed-end Inv-loop μ-loop
-part-trimmed-end c =
-    let a = c .before .before .before .before .before .before .before .before .before .before .before .before .args in
-    let l = c .before .before .before .before .before .before .before .loop in
-    let w = a .w .now in
-    let h = from-in w (l .p) (omega (arith, l .inv .2, c .before .before .before .before .before .before .loop-test .taken)) in
-    let e = c .before .before .before .before .before .field-end in
-    let b = end-in w (l .p) (e .result) h (e .ensures) in
-    search needs
-
-trimmed-requires : tie.Need-trimmed-requires Inv-loop μ-loop
-trimmed-requires c κs = search needs
+    let h : l .k < width (a .t) = omega (arith, c .before .before .before .before .before .before .before .before .before .find-width .ensures, c .before .before .before .before .before .before .loop-test .taken) in
+    let p = place-within (a .t) (a .o .now) (q .2) (a .w .now) (q .3) (q .4) (c .before .before .before .before .before .before .before .before .find-starts .result) (c .before .before .before .before .before .before .before .before .find-starts .ensures) (l .k) h (c .before .before .before .before .before .find-place .result) (c .before .before .before .before .before .find-place .ensures) in
+    omega (arith, width-le (a .t))
 
 put-field-requires : tie.Need-put-field-requires Inv-loop μ-loop
 put-field-requires c κs =
-    let a = c .before .before .before .before .before .before .before .before .before .before .before .before .before .before .args in
-    let l = c .before .before .before .before .before .before .before .before .before .loop in
-    let w = a .w .now in
-    let h = from-in w (l .p) (omega (arith, l .inv .2, c .before .before .before .before .before .before .before .before .loop-test .taken)) in
-    let e = c .before .before .before .before .before .before .before .field-end in
-    let b = end-in w (l .p) (e .result) h (e .ensures) in
-    let m = from-more w (l .p) (e .result) h (e .ensures) in
-    let k : l .k < width (a .t) = omega (arith, c .before .before .before .before .before .before .before .before .before .before .find-width .ensures, c .before .before .before .before .before .before .before .before .loop-test .taken) in
-    let z = none-wrong (a .t) (l .k) k _ _ (from w (l .p)) m (l .inv .3) in
-    (omega (arith, width-le (a .t)), omega (arith, c .before .before .before .before .before .put-separator .ensures .next, separator-length, l .inv .4 .next), c .before .before .before .before .before .before .before .before .before .before .before .before .before .before .pre .1, rw (c .trimmed .ensures) (z .0))
-
-add-p : tie.Need-add-p Inv-loop μ-loop
-add-p c =
-    let a = c .before .before .before .before .before .before .before .before .before .before .before .before .before .before .before .before .before .args in
-    let l = c .before .before .before .before .before .before .before .before .before .before .before .before .loop in
-    let w = a .w .now in
-    let h = from-in w (l .p) (omega (arith, l .inv .2, c .before .before .before .before .before .before .before .before .before .before .before .loop-test .taken)) in
-    let e = c .before .before .before .before .before .before .before .before .before .before .field-end in
-    let b = end-in w (l .p) (e .result) h (e .ensures) in
-    search needs
+    let a = c .before .before .before .before .before .before .before .before .before .before .before .before .before .args in
+    let q = c .before .before .before .before .before .before .before .before .before .before .before .before .before .pre in
+    let l = c .before .before .before .before .before .before .before .loop in
+    let h : l .k < width (a .t) = omega (arith, c .before .before .before .before .before .before .before .before .before .find-width .ensures, c .before .before .before .before .before .before .loop-test .taken) in (
+      omega (arith, width-le (a .t)),
+      omega (arith, c .before .before .before .put-separator .ensures .next, separator-length, l .inv .1 .next, q .0),
+      start-within (a .t) (a .o .now) (q .2) (a .w .now) (q .3) (q .4) (c .before .before .before .before .before .before .before .before .find-starts .result) (c .before .before .before .before .before .before .before .before .find-starts .ensures) (l .k) h (c .before .before .before .before .before .find-place .result) (c .before .before .before .before .before .find-place .ensures),
+      q .1,
+      start-sound (a .t) (a .o .now) (q .2) (a .w .now) (q .3) (q .4) (c .before .before .before .before .before .before .before .before .find-starts .result) (c .before .before .before .before .before .before .before .before .find-starts .ensures) (l .k) h (c .before .before .before .before .before .find-place .result) (c .before .before .before .before .before .find-place .ensures),
+    )
 
 add-k : tie.Need-add-k Inv-loop μ-loop
 add-k c = search needs
@@ -112,33 +79,25 @@ loop-less c = search needs
 
 loop-again : tie.Need-loop-again Inv-loop μ-loop
 loop-again c =
-    let a = c .before .before .before .before .before .before .before .before .before .before .before .before .before .before .before .before .before .args in
-    let l = c .before .before .before .before .before .before .before .before .before .before .before .before .loop in
-    let w = a .w .now in
-    let h = from-in w (l .p) (omega (arith, l .inv .2, c .before .before .before .before .before .before .before .before .before .before .before .loop-test .taken)) in
-    let e = c .before .before .before .before .before .before .before .before .before .before .field-end in
-    let b = end-in w (l .p) (e .result) h (e .ensures) in
-    let m = from-more w (l .p) (e .result) h (e .ensures) in
-    let k : l .k < width (a .t) = omega (arith, c .before .before .before .before .before .before .before .before .before .before .before .before .before .find-width .ensures, c .before .before .before .before .before .before .before .before .before .before .before .loop-test .taken) in
-    let z = none-wrong (a .t) (l .k) k _ _ (from w (l .p)) m (l .inv .3) in
-    let y = m ∙ ap (λ (x : Bytes). x ∷ from w (e .result + 1)) (sym (c .before .before .before .trimmed .ensures)) in (
+    let a = c .before .before .before .before .before .before .before .before .before .before .before .before .before .before .before .before .args in
+    let q = c .before .before .before .before .before .before .before .before .before .before .before .before .before .before .before .before .pre in
+    let l = c .before .before .before .before .before .before .before .before .before .before .loop in
+    let h : l .k < width (a .t) = omega (arith, c .before .before .before .before .before .before .before .before .before .before .before .before .find-width .ensures, c .before .before .before .before .before .before .before .before .before .loop-test .taken) in
+    let i : l .k < length (held (a .t) (a .o .now)) = omega (arith, held-length (a .t) (a .o .now) (q .2 .orderly)) in
+    let f = start-field (a .t) (a .o .now) (q .2) (a .w .now) (q .3) (q .4) (c .before .before .before .before .before .before .before .before .before .before .before .find-starts .result) (c .before .before .before .before .before .before .before .before .before .before .before .find-starts .ensures) (l .k) h (c .before .before .before .before .before .before .before .before .find-place .result) (c .before .before .before .before .before .before .before .before .find-place .ensures) in (
       omega arith,
-      omega arith,
-      omega (arith, ap length m, l .inv .2),
-      z .1,
-      next-by (fields-more (a .change .strip) (a .change .field) (a .text .now) (a .m) (a .t) (l .k) (from w (l .p)) k _ _ y) (l .inv .4) (puts (c .before .before .before .before .before .before .before .before .put-separator .ensures) (c .before .before .put-field .ensures)),
+      next-by (fields-more (a .plan .strip) (a .plan .field) (a .text .now) (a .m) (a .t) (l .k) (held (a .t) (a .o .now)) (fields (a .w .now)) h i _ f) (l .inv .1) (puts (c .before .before .before .before .before .before .put-separator .ensures) (c .before .before .put-field .ensures)),
     )
 
 same-length : tie.Need-same-length Inv-loop μ-loop
-same-length c =
-    same (c .before .loop .inv .4)
+same-length c = same (c .before .loop .inv .1)
 
 returns : tie.Need-returns Inv-loop μ-loop
 returns c =
-    let a = c .before .before .before .before .before .before .args in
+    let a = c .before .before .before .before .before .before .before .args in
     let l = c .before .loop in
-    let h : width (a .t) ≤ l .k = omega (arith, c .before .before .find-width .ensures, c .loop-test .left) in
-    at-end (fields-end (a .change .strip) (a .change .field) (a .text .now) (a .m) (a .t) (l .k) (from (a .w .now) (l .p)) h) (l .inv .4)
+    let h : width (a .t) ≤ l .k = omega (arith, c .before .before .before .find-width .ensures, c .loop-test .left) in
+    at-end (fields-end (a .plan .strip) (a .plan .field) (a .text .now) (a .m) (a .t) (l .k) (held (a .t) (a .o .now)) (fields (a .w .now)) h) (l .inv .1)
 
 pub put-fields-spec : {M : Type 1} → statement M
 put-fields-spec =
@@ -147,15 +106,13 @@ put-fields-spec =
     Inv-loop
     μ-loop
     find-width-requires
+    find-starts-requires
     loop-holds
-    field-end-requires
+    find-place-requires
     put-separator-requires
-    sub-trimmed
-    part-trimmed-start
-    part-trimmed-end
-    trimmed-requires
+    mul-put-field
+    array-read-put-field
     put-field-requires
-    add-p
     add-k
     loop-less
     loop-again

@@ -1,6 +1,5 @@
 use Rattle.output.proofs.PutLaws.{put-as, put-none}
 use Rattle.copies.proofs.FieldLaws.{mark-put, mark-left}
-use Prim.Native.Nat.{_-_}
 use borrow.Author.Needs.{needs}
 use Rattle.recording.proofs.record.put_mark_of.Statement.{statement}
 use Rattle.recording.proofs.record.put_mark_of.Tie as tie
@@ -19,11 +18,11 @@ same-length c = search needs
 
 returns : tie.Need-returns
 returns c =
-    put-as (mark-put _ _ _ _ _ _ (c .before .before .before .before .before .is-marked .ensures) (c .before .before .before .before .if1 .taken)) (c .before .before .put-mark .ensures)
+    put-as (mark-put _ _ _ _ _ _ _ (c .before .before .before .before .before .is-marked .ensures) (c .before .before .before .before .if1 .taken)) (c .before .before .put-mark .ensures)
 
 returns-2 : tie.Need-returns-2
 returns-2 c =
-    put-as (mark-left _ _ _ _ _ _ (c .before .is-marked .ensures) (c .if1 .left)) put-none
+    put-as (mark-left _ _ _ _ _ _ _ (c .before .is-marked .ensures) (c .if1 .left)) put-none
 
 pub put-mark-of-spec : {M : Type 1} → statement M
 put-mark-of-spec =

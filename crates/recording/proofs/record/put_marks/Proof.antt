@@ -1,4 +1,4 @@
-use Rattle.page.specs.Tables.{standing, width}
+use Rattle.page.specs.Tables.{columns, width}
 use Rattle.page.proofs.TableLaws.{width-le}
 use Rattle.output.proofs.PutLaws.{Todo, begin, next-by, at-end, same, put-as, put-none}
 use Rattle.copies.specs.Parts.{marks-form}
@@ -12,11 +12,11 @@ use Rattle.recording.proofs.record.put_marks.Statement.{statement}
 use Rattle.recording.proofs.record.put_marks.Tie as tie
 
 abbrev Inv-loop : tie.InvT-loop
-Inv-loop out₀ at t m change n o₀ k₀ out o k =
-    (k ≤ n) × Todo out₀ o₀ (marks-form (change .strip) (change .field) m 1 (standing t)) out o (marks-form (change .strip) (change .field) m (k + 1) (drop k (standing t)))
+Inv-loop out₀ at t m plan n o₀ k₀ out o k =
+    (k ≤ n) × Todo out₀ o₀ (marks-form (plan .ends) (plan .strip) (plan .field) m 1 (columns t)) out o (marks-form (plan .ends) (plan .strip) (plan .field) m (k + 1) (drop k (columns t)))
 
 abbrev μ-loop : tie.MeasureT-loop
-μ-loop out₀ at t m change n o₀ k₀ out o k = n - k
+μ-loop out₀ at t m plan n o₀ k₀ out o k = n - k
 
 is-plain-requires : tie.Need-is-plain-requires Inv-loop μ-loop
 is-plain-requires c κs = search needs
@@ -24,7 +24,7 @@ is-plain-requires c κs = search needs
 returns : tie.Need-returns Inv-loop μ-loop
 returns c =
     let a = c .before .before .before .args in
-    put-as (marks-plain (a .change .strip) (a .change .field) (a .m) (standing (a .t)) (c .before .is-plain .result) (c .before .is-plain .ensures) (c .if1 .taken)) put-none
+    put-as (marks-plain (a .plan .ends) (a .plan .strip) (a .plan .field) (a .m) (columns (a .t)) (c .before .is-plain .result) (c .before .is-plain .ensures) (c .if1 .taken)) put-none
 
 find-width-requires : tie.Need-find-width-requires Inv-loop μ-loop
 find-width-requires c κs = search needs
@@ -48,7 +48,7 @@ loop-again c =
     let a = c .before .before .before .before .before .before .before .before .before .before .args in
     let l = c .before .before .before .before .before .loop in
     let h : l .k < width (a .t) = omega (arith, c .before .before .before .before .before .before .find-width .ensures, c .before .before .before .before .loop-test .taken) in
-    (omega arith, next-by (marks-more (a .change .strip) (a .change .field) (a .m) (a .t) (l .k) h) (l .inv .1) (c .before .before .put-mark-of .ensures))
+    (omega arith, next-by (marks-more (a .plan .ends) (a .plan .strip) (a .plan .field) (a .m) (a .t) (l .k) h) (l .inv .1) (c .before .before .put-mark-of .ensures))
 
 same-length : tie.Need-same-length Inv-loop μ-loop
 same-length c =
@@ -59,7 +59,7 @@ returns-2 c =
     let a = c .before .before .before .before .before .before .args in
     let l = c .before .loop in
     let h : width (a .t) ≤ l .k = omega (arith, c .before .before .find-width .ensures, c .loop-test .left) in
-    at-end (marks-end (a .change .strip) (a .change .field) (a .m) (a .t) (l .k) h) (l .inv .1)
+    at-end (marks-end (a .plan .ends) (a .plan .strip) (a .plan .field) (a .m) (a .t) (l .k) h) (l .inv .1)
 
 pub put-marks-spec : {M : Type 1} → statement M
 put-marks-spec =

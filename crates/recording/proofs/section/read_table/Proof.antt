@@ -6,7 +6,7 @@ use Rattle.page.specs.Fields.{fields}
 use Rattle.page.specs.Tables.{table-named}
 use Rattle.lines.proofs.CursorLaws.{handed}
 use Rattle.recording.proofs.SectionLaws.{table-first}
-use Prim.Native.Nat.{_-_, _≤_}
+use Prim.Native.Nat.{_≤_}
 use mathlib.Core.Path.{ap, sym, _∙_}
 use lib.ListN.{length, getD}
 use borrow.Author.Needs.{needs}

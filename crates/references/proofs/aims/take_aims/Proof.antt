@@ -1,7 +1,6 @@
 -- `references::aims::take_aims` meets its contract. Assumes nothing.
 use Rattle.references.proofs.AimLaws.{aiming-three}
 use Rattle.references.specs.Aims.{aim-at}
-use Prim.Native.Nat.{_-_}
 use borrow.Author.Needs.{needs}
 use Rattle.references.proofs.aims.take_aims.Statement.{statement}
 use Rattle.references.proofs.aims.take_aims.Tie as tie
@@ -18,7 +17,7 @@ take-aim-requires-3 c κs = search needs
 returns : tie.Need-returns
 unfolding aim-at
 returns c =
-    aiming-three _ _ _ _ (c .before .before .take-aim .ensures) (c .before .take-aim2 .ensures) (c .take-aim3 .ensures)
+    aiming-three _ _ _ _ _ (c .before .before .take-aim .ensures) (c .before .take-aim2 .ensures) (c .take-aim3 .ensures)
 
 pub take-aims-spec : {M : Type 1} → statement M
 take-aims-spec =

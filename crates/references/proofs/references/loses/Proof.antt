@@ -14,7 +14,7 @@ use Rattle.references.proofs.references.loses.Tie as tie
 
 abbrev Inv-loop : tie.InvT-loop
 Inv-loop s w at e t aims g₀ f n known₀ r₀ g known r =
-    (r ≤ n) × (some (lacks s aims t (fields f)) r (n - r) ≡ some (lacks s aims t (fields f)) 0 n) × (length g ≡ length g₀)
+    (r ≤ n) × (some (lacks s aims (fields f)) r (n - r) ≡ some (lacks s aims (fields f)) 0 n) × (length g ≡ length g₀)
 
 abbrev μ-loop : tie.MeasureT-loop
 μ-loop s w at e t aims g₀ f n known₀ r₀ g known r =
@@ -50,22 +50,25 @@ loop-holds c =
     let n : c .count-references .result - 0 ≡ c .count-references .result = omega arith in
     (omega arith, rw n, refl)
 
-read-reference-requires : tie.Need-read-reference-requires Inv-loop μ-loop
-read-reference-requires c κs = search needs
+find-aim-requires : tie.Need-find-aim-requires Inv-loop μ-loop
+find-aim-requires c κs = search needs
+
+read-chosen-requires : tie.Need-read-chosen-requires Inv-loop μ-loop
+read-chosen-requires c κs = search needs
 
 reaches-requires : tie.Need-reaches-requires Inv-loop μ-loop
 reaches-requires c κs =
-    let k = few-references (c .before .before .before .before .before .before .before .before .before .before .before .before .before .args .t) (c .before .before .before .before .count-references .result) (c .before .before .before .before .count-references .ensures) in
-    (c .before .before .before .before .before .before .before .before .before .before .before .before .before .pre .0, omega arith)
+    let k = few-references (c .before .before .before .before .before .before .before .before .before .before .before .before .before .before .args .t) (c .before .before .before .before .before .count-references .result) (c .before .before .before .before .before .count-references .ensures) in
+    (c .before .before .before .before .before .before .before .before .before .before .before .before .before .before .pre .0, omega arith)
 
 same-length : tie.Need-same-length Inv-loop μ-loop
 same-length c =
-    c .before .before .before .before .reaches .kept .1 .1 .1 .1 .1 .1 .1 .0 ∙ c .before .before .before .before .before .before .before .before .loop .inv .2
+    c .before .before .before .before .reaches .kept .1 .1 .1 .1 .1 .1 .1 .0 ∙ c .before .before .before .before .before .before .before .before .before .loop .inv .2
 
 returns-2 : tie.Need-returns-2 Inv-loop μ-loop
 returns-2 c =
-    sym (lacks-record (c .before .before .before .before .before .before .before .before .before .before .before .before .before .before .before .before .before .before .args .s .now) (c .before .before .before .before .before .before .before .before .before .before .before .before .before .before .before .before .before .before .args .aims) (c .before .before .before .before .before .before .before .before .before .before .before .before .before .before .before .before .before .before .args .t) _ _ _ (c .before .before .before .before .before .before .before .before .before .before .before .before .before .content-of .ensures) (c .before .before .before .before .before .before .before .before .before .before .before .before .command-of .ensures) (c .before .before .before .before .before .before .before .before .before .before .before .if1 .left) _ (c .before .before .before .before .before .before .before .before .before .before .rest-of .ensures) (c .before .before .before .before .before .before .before .before .before .count-references .result) (c .before .before .before .before .before .before .before .before .before .count-references .ensures)
-    ∙ sym (c .before .before .before .before .before .before .before .before .loop .inv .1) ∙ some-hit _ (c .before .before .before .before .before .before .before .before .loop .r) (c .before .before .before .before .before .before .before .before .before .count-references .result) (c .before .before .before .before .before .before .before .loop-test .taken) (lacks-is (c .before .before .before .before .before .before .before .before .before .before .before .before .before .before .before .before .before .before .args .s .now) (c .before .before .before .before .before .before .before .before .before .before .before .before .before .before .before .before .before .before .args .aims) (c .before .before .before .before .before .before .before .before .before .before .before .before .before .before .before .before .before .before .args .t) _ (c .before .before .before .before .before .before .before .before .loop .r) _ (c .before .before .before .before .before .before .read-reference .ensures) _ _ (c .before .before .before .before .reaches .ensures) (c .if2 .taken)))
+    sym (lacks-record (c .before .before .before .before .before .before .before .before .before .before .before .before .before .before .before .before .before .before .before .args .s .now) (c .before .before .before .before .before .before .before .before .before .before .before .before .before .before .before .before .before .before .before .args .aims) (c .before .before .before .before .before .before .before .before .before .before .before .before .before .before .before .before .before .before .before .args .t) _ _ _ (c .before .before .before .before .before .before .before .before .before .before .before .before .before .before .content-of .ensures) (c .before .before .before .before .before .before .before .before .before .before .before .before .before .command-of .ensures) (c .before .before .before .before .before .before .before .before .before .before .before .before .if1 .left) _ (c .before .before .before .before .before .before .before .before .before .before .before .rest-of .ensures) (c .before .before .before .before .before .before .before .before .before .before .count-references .result) (c .before .before .before .before .before .before .before .before .before .before .count-references .ensures)
+    ∙ sym (c .before .before .before .before .before .before .before .before .before .loop .inv .1) ∙ some-hit _ (c .before .before .before .before .before .before .before .before .before .loop .r) (c .before .before .before .before .before .before .before .before .before .before .count-references .result) (c .before .before .before .before .before .before .before .before .loop-test .taken) (lacks-is (c .before .before .before .before .before .before .before .before .before .before .before .before .before .before .before .before .before .before .before .args .s .now) (c .before .before .before .before .before .before .before .before .before .before .before .before .before .before .before .before .before .before .before .args .aims) (c .before .before .before .before .before .before .before .before .before .before .before .before .before .before .before .before .before .before .before .args .t) _ (c .before .before .before .before .before .before .before .before .before .loop .r) (c .before .before .before .before .before .before .before .find-aim .result) (c .before .before .before .before .before .before .before .find-aim .ensures) _ (c .before .before .before .before .before .before .read-chosen .ensures) _ _ (c .before .before .before .before .reaches .ensures) (c .if2 .taken)))
 
 add-r : tie.Need-add-r Inv-loop μ-loop
 add-r c = search needs
@@ -75,7 +78,7 @@ loop-less c = search needs
 
 loop-again : tie.Need-loop-again Inv-loop μ-loop
 loop-again c =
-    (omega arith, sym (some-more _ (c .before .before .before .before .before .before .before .before .before .loop .r) (c .before .before .before .before .before .before .before .before .before .before .count-references .result) (c .before .before .before .before .before .before .before .before .loop-test .taken) (lacks-is (c .before .before .before .before .before .before .before .before .before .before .before .before .before .before .before .before .before .before .before .args .s .now) (c .before .before .before .before .before .before .before .before .before .before .before .before .before .before .before .before .before .before .before .args .aims) (c .before .before .before .before .before .before .before .before .before .before .before .before .before .before .before .before .before .before .before .args .t) _ (c .before .before .before .before .before .before .before .before .before .loop .r) _ (c .before .before .before .before .before .before .before .read-reference .ensures) _ _ (c .before .before .before .before .before .reaches .ensures) (c .before .if2 .left))) ∙ c .before .before .before .before .before .before .before .before .before .loop .inv .1, c .before .before .before .before .before .reaches .kept .1 .1 .1 .1 .1 .1 .1 .0 ∙ c .before .before .before .before .before .before .before .before .before .loop .inv .2)
+    (omega arith, sym (some-more _ (c .before .before .before .before .before .before .before .before .before .before .loop .r) (c .before .before .before .before .before .before .before .before .before .before .before .count-references .result) (c .before .before .before .before .before .before .before .before .before .loop-test .taken) (lacks-is (c .before .before .before .before .before .before .before .before .before .before .before .before .before .before .before .before .before .before .before .before .args .s .now) (c .before .before .before .before .before .before .before .before .before .before .before .before .before .before .before .before .before .before .before .before .args .aims) (c .before .before .before .before .before .before .before .before .before .before .before .before .before .before .before .before .before .before .before .before .args .t) _ (c .before .before .before .before .before .before .before .before .before .before .loop .r) (c .before .before .before .before .before .before .before .before .find-aim .result) (c .before .before .before .before .before .before .before .before .find-aim .ensures) _ (c .before .before .before .before .before .before .before .read-chosen .ensures) _ _ (c .before .before .before .before .before .reaches .ensures) (c .before .if2 .left))) ∙ c .before .before .before .before .before .before .before .before .before .before .loop .inv .1, c .before .before .before .before .before .reaches .kept .1 .1 .1 .1 .1 .1 .1 .0 ∙ c .before .before .before .before .before .before .before .before .before .before .loop .inv .2)
 
 same-length-2 : tie.Need-same-length-2 Inv-loop μ-loop
 same-length-2 c =
@@ -101,7 +104,8 @@ loses-spec =
     rest-of-requires
     count-references-requires
     loop-holds
-    read-reference-requires
+    find-aim-requires
+    read-chosen-requires
     reaches-requires
     same-length
     returns-2

@@ -1,13 +1,12 @@
 -- `repeats::repeats::first_repeat` meets its contract. Assumes nothing.
-use Rattle.seats.proofs.RepeatLaws.{scan-bounds, repeat-is, repeats-none, repeats-at}
+use Rattle.seats.proofs.RepeatLaws.{scan-bounds, key-is, repeat-is, repeats-none, repeats-at}
 use Rattle.scans.proofs.ScanLaws.{passed-lines}
 use Rattle.repeats.proofs.NumberLaws.{Fresh, fresh-first, fresh-next, fresh-end}
 use Rattle.scans.proofs.TopLaws.{topped-none, rise-new, rise-topped}
-use Rattle.seats.specs.Faults.{repeat-line}
+use Rattle.seats.specs.Faults.{seat-key, repeat-line}
 use Rattle.seats.specs.Seating.{seat-at}
 use Rattle.scans.specs.Scan.{Topped}
 use Rattle.lines.proofs.CursorLaws.{handed}
-use Rattle.tables.specs.Choices.{by-key, key-choice}
 use Rattle.page.proofs.ScanLaws.{part-length}
 use Rattle.page.specs.Answers.{sound}
 use Rattle.page.specs.Lines.{lines}
@@ -32,7 +31,7 @@ abbrev μ-loop : tie.MeasureT-loop
 
 abbrev Inv-scan : tie.InvT-scan
 Inv-scan s seats second count number found₀ i₀ found i =
-    (i ≤ count) × (found ≡ sound) × ((m : ℕ) → m < i → repeat-line s (seat-at seats m) (key-choice (by-key second) (seat-at seats m .table)) ≡ 0)
+    (i ≤ count) × (found ≡ sound) × ((m : ℕ) → m < i → repeat-line s (seat-at seats m) (seat-key s second (seat-at seats m)) ≡ 0)
 
 abbrev μ-scan : tie.MeasureT-scan
 μ-scan s seats second count number found₀ i₀ found i =
@@ -51,54 +50,57 @@ scan-holds c = (omega arith, refl, λ m h. absurd (omega arith))
 find-seat-requires : tie.Need-find-seat-requires Inv-loop μ-loop Inv-scan μ-scan
 find-seat-requires c κs = omega (arith, c .before .before .before .before .pre .few)
 
+find-order-requires : tie.Need-find-order-requires Inv-loop μ-loop Inv-scan μ-scan
+find-order-requires c κs = (c .before .before .before .before .before .pre, c .before .scan-test .taken)
+
 choose-key-requires : tie.Need-choose-key-requires Inv-loop μ-loop Inv-scan μ-scan
-choose-key-requires c κs = search needs
+choose-key-requires c κs = c .before .find-order .ensures .stands .orderly
 
 find-end-requires : tie.Need-find-end-requires Inv-loop μ-loop Inv-scan μ-scan
 find-end-requires c κs = search needs
 
 sub-size : tie.Need-sub-size Inv-loop μ-loop Inv-scan μ-scan
 sub-size c =
-    let a = c .before .before .before .before .before .before .before .args in
+    let a = c .before .before .before .before .before .before .before .before .before .args in
     let s = a .s .now in
-    let from = c .before .before .find-seat .result .from in
+    let from = c .before .before .before .before .find-seat .result .from in
     let to = c .find-end .result in
     let q = c .before .choose-key .result in
-    let b = scan-bounds s (a .seats) (c .before .before .before .before .before .before .before .pre) (c .before .before .before .before .scan .i) (c .before .before .before .scan-test .taken) (c .before .before .find-seat .result) (c .before .before .find-seat .ensures) q to (c .find-end .ensures) in
+    let b = scan-bounds s (a .seats) (c .before .before .before .before .before .before .before .before .before .pre) (c .before .before .before .before .before .before .scan .i) (c .before .before .before .before .before .scan-test .taken) (c .before .before .before .before .find-seat .result) (c .before .before .before .before .find-seat .ensures) q to (c .find-end .ensures) in
     search needs
 
 loop-holds : tie.Need-loop-holds Inv-loop μ-loop Inv-scan μ-scan
 unfolding lines
-loop-holds c = (c .before .before .before .before .scan .inv .1, refl, fresh-first _ _, topped-none _ _)
+loop-holds c = (c .before .before .before .before .before .before .scan .inv .1, refl, fresh-first _ _, topped-none _ _)
 
 sub-line : tie.Need-sub-line Inv-loop μ-loop Inv-scan μ-scan
 sub-line c =
-    let a = c .before .before .before .before .before .before .before .before .before .args in
+    let a = c .before .before .before .before .before .before .before .before .before .before .before .args in
     let s = a .s .now in
-    let from = c .before .before .before .before .find-seat .result .from in
+    let from = c .before .before .before .before .before .before .find-seat .result .from in
     let to = c .before .before .find-end .result in
     let q = c .before .before .before .choose-key .result in
-    let b = scan-bounds s (a .seats) (c .before .before .before .before .before .before .before .before .before .pre) (c .before .before .before .before .before .before .scan .i) (c .before .before .before .before .before .scan-test .taken) (c .before .before .before .before .find-seat .result) (c .before .before .before .before .find-seat .ensures) q to (c .before .before .find-end .ensures) in
+    let b = scan-bounds s (a .seats) (c .before .before .before .before .before .before .before .before .before .before .before .pre) (c .before .before .before .before .before .before .before .before .scan .i) (c .before .before .before .before .before .before .before .scan-test .taken) (c .before .before .before .before .before .before .find-seat .result) (c .before .before .before .before .before .before .find-seat .ensures) q to (c .before .before .find-end .ensures) in
     search needs
 
 part-line-start : tie.Need-part-line-start Inv-loop μ-loop Inv-scan μ-scan
 part-line-start c =
-    let a = c .before .before .before .before .before .before .before .before .before .args in
+    let a = c .before .before .before .before .before .before .before .before .before .before .before .args in
     let s = a .s .now in
-    let from = c .before .before .before .before .find-seat .result .from in
+    let from = c .before .before .before .before .before .before .find-seat .result .from in
     let to = c .before .before .find-end .result in
     let q = c .before .before .before .choose-key .result in
-    let b = scan-bounds s (a .seats) (c .before .before .before .before .before .before .before .before .before .pre) (c .before .before .before .before .before .before .scan .i) (c .before .before .before .before .before .scan-test .taken) (c .before .before .before .before .find-seat .result) (c .before .before .before .before .find-seat .ensures) q to (c .before .before .find-end .ensures) in
+    let b = scan-bounds s (a .seats) (c .before .before .before .before .before .before .before .before .before .before .before .pre) (c .before .before .before .before .before .before .before .before .scan .i) (c .before .before .before .before .before .before .before .scan-test .taken) (c .before .before .before .before .before .before .find-seat .result) (c .before .before .before .before .before .before .find-seat .ensures) q to (c .before .before .find-end .ensures) in
     search needs
 
 part-line-end : tie.Need-part-line-end Inv-loop μ-loop Inv-scan μ-scan
 part-line-end c =
-    let a = c .before .before .before .before .before .before .before .before .before .args in
+    let a = c .before .before .before .before .before .before .before .before .before .before .before .args in
     let s = a .s .now in
-    let from = c .before .before .before .before .find-seat .result .from in
+    let from = c .before .before .before .before .before .before .find-seat .result .from in
     let to = c .before .before .find-end .result in
     let q = c .before .before .before .choose-key .result in
-    let b = scan-bounds s (a .seats) (c .before .before .before .before .before .before .before .before .before .pre) (c .before .before .before .before .before .before .scan .i) (c .before .before .before .before .before .scan-test .taken) (c .before .before .before .before .find-seat .result) (c .before .before .before .before .find-seat .ensures) q to (c .before .before .find-end .ensures) in
+    let b = scan-bounds s (a .seats) (c .before .before .before .before .before .before .before .before .before .before .before .pre) (c .before .before .before .before .before .before .before .before .scan .i) (c .before .before .before .before .before .before .before .scan-test .taken) (c .before .before .before .before .before .before .find-seat .result) (c .before .before .before .before .before .before .find-seat .ensures) q to (c .before .before .find-end .ensures) in
     search needs
 
 line-requires : tie.Need-line-requires Inv-loop μ-loop Inv-scan μ-scan
@@ -106,42 +108,42 @@ line-requires c κs = search needs
 
 sub-find-rise : tie.Need-sub-find-rise Inv-loop μ-loop Inv-scan μ-scan
 sub-find-rise c =
-    let a = c .before .before .before .before .before .before .before .before .before .before .before .args in
+    let a = c .before .before .before .before .before .before .before .before .before .before .before .before .before .args in
     let s = a .s .now in
-    let from = c .before .before .before .before .before .before .find-seat .result .from in
+    let from = c .before .before .before .before .before .before .before .before .find-seat .result .from in
     let to = c .before .before .before .before .find-end .result in
     let q = c .before .before .before .before .before .choose-key .result in
-    let b = scan-bounds s (a .seats) (c .before .before .before .before .before .before .before .before .before .before .before .pre) (c .before .before .before .before .before .before .before .before .scan .i) (c .before .before .before .before .before .before .before .scan-test .taken) (c .before .before .before .before .before .before .find-seat .result) (c .before .before .before .before .before .before .find-seat .ensures) q to (c .before .before .before .before .find-end .ensures) in
+    let b = scan-bounds s (a .seats) (c .before .before .before .before .before .before .before .before .before .before .before .before .before .pre) (c .before .before .before .before .before .before .before .before .before .before .scan .i) (c .before .before .before .before .before .before .before .before .before .scan-test .taken) (c .before .before .before .before .before .before .before .before .find-seat .result) (c .before .before .before .before .before .before .before .before .find-seat .ensures) q to (c .before .before .before .before .find-end .ensures) in
     search needs
 
 part-find-rise-start : tie.Need-part-find-rise-start Inv-loop μ-loop Inv-scan μ-scan
 part-find-rise-start c =
-    let a = c .before .before .before .before .before .before .before .before .before .before .before .args in
+    let a = c .before .before .before .before .before .before .before .before .before .before .before .before .before .args in
     let s = a .s .now in
-    let from = c .before .before .before .before .before .before .find-seat .result .from in
+    let from = c .before .before .before .before .before .before .before .before .find-seat .result .from in
     let to = c .before .before .before .before .find-end .result in
     let q = c .before .before .before .before .before .choose-key .result in
-    let b = scan-bounds s (a .seats) (c .before .before .before .before .before .before .before .before .before .before .before .pre) (c .before .before .before .before .before .before .before .before .scan .i) (c .before .before .before .before .before .before .before .scan-test .taken) (c .before .before .before .before .before .before .find-seat .result) (c .before .before .before .before .before .before .find-seat .ensures) q to (c .before .before .before .before .find-end .ensures) in
+    let b = scan-bounds s (a .seats) (c .before .before .before .before .before .before .before .before .before .before .before .before .before .pre) (c .before .before .before .before .before .before .before .before .before .before .scan .i) (c .before .before .before .before .before .before .before .before .before .scan-test .taken) (c .before .before .before .before .before .before .before .before .find-seat .result) (c .before .before .before .before .before .before .before .before .find-seat .ensures) q to (c .before .before .before .before .find-end .ensures) in
     search needs
 
 part-find-rise-end : tie.Need-part-find-rise-end Inv-loop μ-loop Inv-scan μ-scan
 part-find-rise-end c =
-    let a = c .before .before .before .before .before .before .before .before .before .before .before .args in
+    let a = c .before .before .before .before .before .before .before .before .before .before .before .before .before .args in
     let s = a .s .now in
-    let from = c .before .before .before .before .before .before .find-seat .result .from in
+    let from = c .before .before .before .before .before .before .before .before .find-seat .result .from in
     let to = c .before .before .before .before .find-end .result in
     let q = c .before .before .before .before .before .choose-key .result in
-    let b = scan-bounds s (a .seats) (c .before .before .before .before .before .before .before .before .before .before .before .pre) (c .before .before .before .before .before .before .before .before .scan .i) (c .before .before .before .before .before .before .before .scan-test .taken) (c .before .before .before .before .before .before .find-seat .result) (c .before .before .before .before .before .before .find-seat .ensures) q to (c .before .before .before .before .find-end .ensures) in
+    let b = scan-bounds s (a .seats) (c .before .before .before .before .before .before .before .before .before .before .before .before .before .pre) (c .before .before .before .before .before .before .before .before .before .before .scan .i) (c .before .before .before .before .before .before .before .before .before .scan-test .taken) (c .before .before .before .before .before .before .before .before .find-seat .result) (c .before .before .before .before .before .before .before .before .find-seat .ensures) q to (c .before .before .before .before .find-end .ensures) in
     search needs
 
 find-rise-requires : tie.Need-find-rise-requires Inv-loop μ-loop Inv-scan μ-scan
 find-rise-requires c κs =
-    let a = c .before .before .before .before .before .before .before .before .before .before .before .before .args in
+    let a = c .before .before .before .before .before .before .before .before .before .before .before .before .before .before .args in
     let s = a .s .now in
-    let from = c .before .before .before .before .before .before .before .find-seat .result .from in
+    let from = c .before .before .before .before .before .before .before .before .before .find-seat .result .from in
     let to = c .before .before .before .before .before .find-end .result in
     let q = c .before .before .before .before .before .before .choose-key .result in
-    let b = scan-bounds s (a .seats) (c .before .before .before .before .before .before .before .before .before .before .before .before .pre) (c .before .before .before .before .before .before .before .before .before .scan .i) (c .before .before .before .before .before .before .before .before .scan-test .taken) (c .before .before .before .before .before .before .before .find-seat .result) (c .before .before .before .before .before .before .before .find-seat .ensures) q to (c .before .before .before .before .before .find-end .ensures) in
+    let b = scan-bounds s (a .seats) (c .before .before .before .before .before .before .before .before .before .before .before .before .before .before .pre) (c .before .before .before .before .before .before .before .before .before .before .before .scan .i) (c .before .before .before .before .before .before .before .before .before .before .scan-test .taken) (c .before .before .before .before .before .before .before .before .before .find-seat .result) (c .before .before .before .before .before .before .before .before .before .find-seat .ensures) q to (c .before .before .before .before .before .find-end .ensures) in
     let w = take (to - from) (drop from s) in
     let n = part-length from to s (b .1) in
     let l = c .before .before .before .before .loop in
@@ -152,73 +154,73 @@ find-rise-requires c κs =
 
 sub-find-repeat : tie.Need-sub-find-repeat Inv-loop μ-loop Inv-scan μ-scan
 sub-find-repeat c =
-    let a = c .before .before .before .before .before .before .before .before .before .before .before .before .before .before .before .before .args in
+    let a = c .before .before .before .before .before .before .before .before .before .before .before .before .before .before .before .before .before .before .args in
     let s = a .s .now in
-    let from = c .before .before .before .before .before .before .before .before .before .before .before .find-seat .result .from in
+    let from = c .before .before .before .before .before .before .before .before .before .before .before .before .before .find-seat .result .from in
     let to = c .before .before .before .before .before .before .before .before .before .find-end .result in
     let q = c .before .before .before .before .before .before .before .before .before .before .choose-key .result in
-    let b = scan-bounds s (a .seats) (c .before .before .before .before .before .before .before .before .before .before .before .before .before .before .before .before .pre) (c .before .before .before .before .before .before .before .before .before .before .before .before .before .scan .i) (c .before .before .before .before .before .before .before .before .before .before .before .before .scan-test .taken) (c .before .before .before .before .before .before .before .before .before .before .before .find-seat .result) (c .before .before .before .before .before .before .before .before .before .before .before .find-seat .ensures) q to (c .before .before .before .before .before .before .before .before .before .find-end .ensures) in
+    let b = scan-bounds s (a .seats) (c .before .before .before .before .before .before .before .before .before .before .before .before .before .before .before .before .before .before .pre) (c .before .before .before .before .before .before .before .before .before .before .before .before .before .before .before .scan .i) (c .before .before .before .before .before .before .before .before .before .before .before .before .before .before .scan-test .taken) (c .before .before .before .before .before .before .before .before .before .before .before .before .before .find-seat .result) (c .before .before .before .before .before .before .before .before .before .before .before .before .before .find-seat .ensures) q to (c .before .before .before .before .before .before .before .before .before .find-end .ensures) in
     search needs
 
 part-find-repeat-start : tie.Need-part-find-repeat-start Inv-loop μ-loop Inv-scan μ-scan
 part-find-repeat-start c =
-    let a = c .before .before .before .before .before .before .before .before .before .before .before .before .before .before .before .before .args in
+    let a = c .before .before .before .before .before .before .before .before .before .before .before .before .before .before .before .before .before .before .args in
     let s = a .s .now in
-    let from = c .before .before .before .before .before .before .before .before .before .before .before .find-seat .result .from in
+    let from = c .before .before .before .before .before .before .before .before .before .before .before .before .before .find-seat .result .from in
     let to = c .before .before .before .before .before .before .before .before .before .find-end .result in
     let q = c .before .before .before .before .before .before .before .before .before .before .choose-key .result in
-    let b = scan-bounds s (a .seats) (c .before .before .before .before .before .before .before .before .before .before .before .before .before .before .before .before .pre) (c .before .before .before .before .before .before .before .before .before .before .before .before .before .scan .i) (c .before .before .before .before .before .before .before .before .before .before .before .before .scan-test .taken) (c .before .before .before .before .before .before .before .before .before .before .before .find-seat .result) (c .before .before .before .before .before .before .before .before .before .before .before .find-seat .ensures) q to (c .before .before .before .before .before .before .before .before .before .find-end .ensures) in
+    let b = scan-bounds s (a .seats) (c .before .before .before .before .before .before .before .before .before .before .before .before .before .before .before .before .before .before .pre) (c .before .before .before .before .before .before .before .before .before .before .before .before .before .before .before .scan .i) (c .before .before .before .before .before .before .before .before .before .before .before .before .before .before .scan-test .taken) (c .before .before .before .before .before .before .before .before .before .before .before .before .before .find-seat .result) (c .before .before .before .before .before .before .before .before .before .before .before .before .before .find-seat .ensures) q to (c .before .before .before .before .before .before .before .before .before .find-end .ensures) in
     search needs
 
 part-find-repeat-end : tie.Need-part-find-repeat-end Inv-loop μ-loop Inv-scan μ-scan
 part-find-repeat-end c =
-    let a = c .before .before .before .before .before .before .before .before .before .before .before .before .before .before .before .before .args in
+    let a = c .before .before .before .before .before .before .before .before .before .before .before .before .before .before .before .before .before .before .args in
     let s = a .s .now in
-    let from = c .before .before .before .before .before .before .before .before .before .before .before .find-seat .result .from in
+    let from = c .before .before .before .before .before .before .before .before .before .before .before .before .before .find-seat .result .from in
     let to = c .before .before .before .before .before .before .before .before .before .find-end .result in
     let q = c .before .before .before .before .before .before .before .before .before .before .choose-key .result in
-    let b = scan-bounds s (a .seats) (c .before .before .before .before .before .before .before .before .before .before .before .before .before .before .before .before .pre) (c .before .before .before .before .before .before .before .before .before .before .before .before .before .scan .i) (c .before .before .before .before .before .before .before .before .before .before .before .before .scan-test .taken) (c .before .before .before .before .before .before .before .before .before .before .before .find-seat .result) (c .before .before .before .before .before .before .before .before .before .before .before .find-seat .ensures) q to (c .before .before .before .before .before .before .before .before .before .find-end .ensures) in
+    let b = scan-bounds s (a .seats) (c .before .before .before .before .before .before .before .before .before .before .before .before .before .before .before .before .before .before .pre) (c .before .before .before .before .before .before .before .before .before .before .before .before .before .before .before .scan .i) (c .before .before .before .before .before .before .before .before .before .before .before .before .before .before .scan-test .taken) (c .before .before .before .before .before .before .before .before .before .before .before .before .before .find-seat .result) (c .before .before .before .before .before .before .before .before .before .before .before .before .before .find-seat .ensures) q to (c .before .before .before .before .before .before .before .before .before .find-end .ensures) in
     search needs
 
 find-repeat-requires : tie.Need-find-repeat-requires Inv-loop μ-loop Inv-scan μ-scan
 find-repeat-requires c κs = search needs
 
-add-t36 : tie.Need-add-t36 Inv-loop μ-loop Inv-scan μ-scan
-add-t36 c =
-    omega (arith, c .before .before .before .before .before .before .before .before .before .before .before .loop .inv .1, c .before .before .before .before .before .before .before .before .before .before .before .before .before .before .before .scan-test .taken, c .before .before .before .before .before .before .before .before .before .before .before .before .before .before .before .before .before .before .before .pre .few)
+add-t39 : tie.Need-add-t39 Inv-loop μ-loop Inv-scan μ-scan
+add-t39 c =
+    omega (arith, c .before .before .before .before .before .before .before .before .before .before .before .loop .inv .1, c .before .before .before .before .before .before .before .before .before .before .before .before .before .before .before .before .before .scan-test .taken, c .before .before .before .before .before .before .before .before .before .before .before .before .before .before .before .before .before .before .before .before .before .pre .few)
 
 add-i : tie.Need-add-i Inv-loop μ-loop Inv-scan μ-scan
 add-i c =
-    omega (arith, c .before .before .before .before .before .before .before .before .before .before .before .loop .inv .1, c .before .before .before .before .before .before .before .before .before .before .before .before .before .before .before .scan-test .taken, c .before .before .before .before .before .before .before .before .before .before .before .before .before .before .before .before .before .before .before .pre .few)
+    omega (arith, c .before .before .before .before .before .before .before .before .before .before .before .loop .inv .1, c .before .before .before .before .before .before .before .before .before .before .before .before .before .before .before .before .before .scan-test .taken, c .before .before .before .before .before .before .before .before .before .before .before .before .before .before .before .before .before .before .before .before .before .pre .few)
 
 scan-less : tie.Need-scan-less Inv-loop μ-loop Inv-scan μ-scan
-scan-less c = omega (arith, c .before .before .before .before .before .before .before .before .before .before .before .loop .inv .1)
+scan-less c = omega (arith, c .before .before .before .before .before .before .before .before .before .before .before .loop .inv .1, c .before .before .before .before .before .before .before .before .before .before .before .before .before .before .before .before .before .scan-test .taken)
 
 scan-again : tie.Need-scan-again Inv-loop μ-loop Inv-scan μ-scan
 scan-again c =
-    let a = c .before .before .before .before .before .before .before .before .before .before .before .before .before .before .before .before .before .before .before .args in
+    let a = c .before .before .before .before .before .before .before .before .before .before .before .before .before .before .before .before .before .before .before .before .before .args in
     let s = a .s .now in
-    let from = c .before .before .before .before .before .before .before .before .before .before .before .before .before .before .find-seat .result .from in
+    let from = c .before .before .before .before .before .before .before .before .before .before .before .before .before .before .before .before .find-seat .result .from in
     let to = c .before .before .before .before .before .before .before .before .before .before .before .before .find-end .result in
     let q = c .before .before .before .before .before .before .before .before .before .before .before .before .before .choose-key .result in
-    let b = scan-bounds s (a .seats) (c .before .before .before .before .before .before .before .before .before .before .before .before .before .before .before .before .before .before .before .pre) (c .before .before .before .before .before .before .before .before .before .before .before .before .before .before .before .before .scan .i) (c .before .before .before .before .before .before .before .before .before .before .before .before .before .before .before .scan-test .taken) (c .before .before .before .before .before .before .before .before .before .before .before .before .before .before .find-seat .result) (c .before .before .before .before .before .before .before .before .before .before .before .before .before .before .find-seat .ensures) q to (c .before .before .before .before .before .before .before .before .before .before .before .before .find-end .ensures) in
+    let b = scan-bounds s (a .seats) (c .before .before .before .before .before .before .before .before .before .before .before .before .before .before .before .before .before .before .before .before .before .pre) (c .before .before .before .before .before .before .before .before .before .before .before .before .before .before .before .before .before .before .scan .i) (c .before .before .before .before .before .before .before .before .before .before .before .before .before .before .before .before .before .scan-test .taken) (c .before .before .before .before .before .before .before .before .before .before .before .before .before .before .before .before .find-seat .result) (c .before .before .before .before .before .before .before .before .before .before .before .before .before .before .before .before .find-seat .ensures) q to (c .before .before .before .before .before .before .before .before .before .before .before .before .find-end .ensures) in
     let l = c .before .before .before .before .before .before .before .before .before .before .before .loop in
     let z : c .before .find-repeat .result ≡ 0 = c .if2 .left in (
-      omega (arith, l .inv .1),
+      omega (arith, l .inv .1, c .before .before .before .before .before .before .before .before .before .before .before .before .before .before .before .before .before .scan-test .taken),
       l .inv .0,
-      rw (l .inv .1) (below-more _ _ (c .before .before .before .before .before .before .before .before .before .before .before .before .before .before .before .before .scan .inv .2)
-          (repeat-is s (a .seats) (c .before .before .before .before .before .before .before .before .before .before .before .before .before .before .before .before .before .before .before .pre) (c .before .before .before .before .before .before .before .before .before .before .before .before .before .before .before .before .scan .i) (c .before .before .before .before .before .before .before .before .before .before .before .before .before .before .before .scan-test .taken) (c .before .before .before .before .before .before .before .before .before .before .before .before .before .before .find-seat .result) (c .before .before .before .before .before .before .before .before .before .before .before .before .before .before .find-seat .ensures) (a .second) q to 0 (c .before .before .before .before .before .before .before .before .before .before .before .before .before .choose-key .ensures) (c .before .before .before .before .before .before .before .before .before .before .before .before .find-end .ensures)
+      rw (l .inv .1) (below-more _ _ (c .before .before .before .before .before .before .before .before .before .before .before .before .before .before .before .before .before .before .scan .inv .2)
+          (repeat-is s (a .seats) (c .before .before .before .before .before .before .before .before .before .before .before .before .before .before .before .before .before .before .before .before .before .pre) (c .before .before .before .before .before .before .before .before .before .before .before .before .before .before .before .before .before .before .scan .i) (c .before .before .before .before .before .before .before .before .before .before .before .before .before .before .before .before .before .scan-test .taken) (c .before .before .before .before .before .before .before .before .before .before .before .before .before .before .before .before .find-seat .result) (c .before .before .before .before .before .before .before .before .before .before .before .before .before .before .before .before .find-seat .ensures) (a .second) q to 0 (key-is s (a .seats) (c .before .before .before .before .before .before .before .before .before .before .before .before .before .before .before .before .before .before .before .before .before .pre) (c .before .before .before .before .before .before .before .before .before .before .before .before .before .before .before .before .before .before .scan .i) (c .before .before .before .before .before .before .before .before .before .before .before .before .before .before .before .before .before .scan-test .taken) (c .before .before .before .before .before .before .before .before .before .before .before .before .before .before .before .before .find-seat .result) (c .before .before .before .before .before .before .before .before .before .before .before .before .before .before .before .before .find-seat .ensures) (a .second) _ (c .before .before .before .before .before .before .before .before .before .before .before .before .before .before .before .find-order .ensures) q (c .before .before .before .before .before .before .before .before .before .before .before .before .before .choose-key .ensures)) (c .before .before .before .before .before .before .before .before .before .before .before .before .find-end .ensures)
           (sym (c .before .find-repeat .ensures) ∙ z))),
     )
 
 loop-less : tie.Need-loop-less Inv-loop μ-loop Inv-scan μ-scan
 loop-less c =
-    let a = c .before .before .before .before .before .before .before .before .before .before .before .before .before .before .before .before .args in
+    let a = c .before .before .before .before .before .before .before .before .before .before .before .before .before .before .before .before .before .before .args in
     let s = a .s .now in
-    let from = c .before .before .before .before .before .before .before .before .before .before .before .find-seat .result .from in
+    let from = c .before .before .before .before .before .before .before .before .before .before .before .before .before .find-seat .result .from in
     let to = c .before .before .before .before .before .before .before .before .before .find-end .result in
     let q = c .before .before .before .before .before .before .before .before .before .before .choose-key .result in
-    let b = scan-bounds s (a .seats) (c .before .before .before .before .before .before .before .before .before .before .before .before .before .before .before .before .pre) (c .before .before .before .before .before .before .before .before .before .before .before .before .before .scan .i) (c .before .before .before .before .before .before .before .before .before .before .before .before .scan-test .taken) (c .before .before .before .before .before .before .before .before .before .before .before .find-seat .result) (c .before .before .before .before .before .before .before .before .before .before .before .find-seat .ensures) q to (c .before .before .before .before .before .before .before .before .before .find-end .ensures) in
+    let b = scan-bounds s (a .seats) (c .before .before .before .before .before .before .before .before .before .before .before .before .before .before .before .before .before .before .pre) (c .before .before .before .before .before .before .before .before .before .before .before .before .before .before .before .scan .i) (c .before .before .before .before .before .before .before .before .before .before .before .before .before .before .scan-test .taken) (c .before .before .before .before .before .before .before .before .before .before .before .before .before .find-seat .result) (c .before .before .before .before .before .before .before .before .before .before .before .before .before .find-seat .ensures) q to (c .before .before .before .before .before .before .before .before .before .find-end .ensures) in
     let w = take (to - from) (drop from s) in
     let n = part-length from to s (b .1) in
     let l = c .before .before .before .before .before .before .before .before .loop in
@@ -229,12 +231,12 @@ loop-less c =
 
 loop-again : tie.Need-loop-again Inv-loop μ-loop Inv-scan μ-scan
 loop-again c =
-    let a = c .before .before .before .before .before .before .before .before .before .before .before .before .before .before .before .before .args in
+    let a = c .before .before .before .before .before .before .before .before .before .before .before .before .before .before .before .before .before .before .args in
     let s = a .s .now in
-    let from = c .before .before .before .before .before .before .before .before .before .before .before .find-seat .result .from in
+    let from = c .before .before .before .before .before .before .before .before .before .before .before .before .before .find-seat .result .from in
     let to = c .before .before .before .before .before .before .before .before .before .find-end .result in
     let q = c .before .before .before .before .before .before .before .before .before .before .choose-key .result in
-    let b = scan-bounds s (a .seats) (c .before .before .before .before .before .before .before .before .before .before .before .before .before .before .before .before .pre) (c .before .before .before .before .before .before .before .before .before .before .before .before .before .scan .i) (c .before .before .before .before .before .before .before .before .before .before .before .before .scan-test .taken) (c .before .before .before .before .before .before .before .before .before .before .before .find-seat .result) (c .before .before .before .before .before .before .before .before .before .before .before .find-seat .ensures) q to (c .before .before .before .before .before .before .before .before .before .find-end .ensures) in
+    let b = scan-bounds s (a .seats) (c .before .before .before .before .before .before .before .before .before .before .before .before .before .before .before .before .before .before .pre) (c .before .before .before .before .before .before .before .before .before .before .before .before .before .before .before .scan .i) (c .before .before .before .before .before .before .before .before .before .before .before .before .before .before .scan-test .taken) (c .before .before .before .before .before .before .before .before .before .before .before .before .before .find-seat .result) (c .before .before .before .before .before .before .before .before .before .before .before .before .before .find-seat .ensures) q to (c .before .before .before .before .before .before .before .before .before .find-end .ensures) in
     let w = take (to - from) (drop from s) in
     let n = part-length from to s (b .1) in
     let l = c .before .before .before .before .before .before .before .before .loop in
@@ -257,20 +259,20 @@ scan-less-2 c = omega (arith, c .before .loop .inv .1)
 
 scan-again-2 : tie.Need-scan-again-2 Inv-loop μ-loop Inv-scan μ-scan
 scan-again-2 c =
-    let a = c .before .before .before .before .before .before .before .before .before .args in
+    let a = c .before .before .before .before .before .before .before .before .before .before .before .args in
     let s = a .s .now in
-    let from = c .before .before .before .before .find-seat .result .from in
+    let from = c .before .before .before .before .before .before .find-seat .result .from in
     let to = c .before .before .find-end .result in
     let q = c .before .before .before .choose-key .result in
-    let b = scan-bounds s (a .seats) (c .before .before .before .before .before .before .before .before .before .pre) (c .before .before .before .before .before .before .scan .i) (c .before .before .before .before .before .scan-test .taken) (c .before .before .before .before .find-seat .result) (c .before .before .before .before .find-seat .ensures) q to (c .before .before .find-end .ensures) in
+    let b = scan-bounds s (a .seats) (c .before .before .before .before .before .before .before .before .before .before .before .pre) (c .before .before .before .before .before .before .before .before .scan .i) (c .before .before .before .before .before .before .before .scan-test .taken) (c .before .before .before .before .before .before .find-seat .result) (c .before .before .before .before .before .before .find-seat .ensures) q to (c .before .before .find-end .ensures) in
     let w = take (to - from) (drop from s) in
     let n = part-length from to s (b .1) in
     let l = c .before .loop in
     let h : length w ≤ l .at = omega (arith, c .loop-test .left) in (
       omega (arith, l .inv .1),
       l .inv .0,
-      rw (l .inv .1) (below-more _ _ (c .before .before .before .before .before .before .scan .inv .2)
-          (repeat-is s (a .seats) (c .before .before .before .before .before .before .before .before .before .pre) (c .before .before .before .before .before .before .scan .i) (c .before .before .before .before .before .scan-test .taken) (c .before .before .before .before .find-seat .result) (c .before .before .before .before .find-seat .ensures) (a .second) q to 0 (c .before .before .before .choose-key .ensures) (c .before .before .find-end .ensures)
+      rw (l .inv .1) (below-more _ _ (c .before .before .before .before .before .before .before .before .scan .inv .2)
+          (repeat-is s (a .seats) (c .before .before .before .before .before .before .before .before .before .before .before .pre) (c .before .before .before .before .before .before .before .before .scan .i) (c .before .before .before .before .before .before .before .scan-test .taken) (c .before .before .before .before .before .before .find-seat .result) (c .before .before .before .before .before .before .find-seat .ensures) (a .second) q to 0 (key-is s (a .seats) (c .before .before .before .before .before .before .before .before .before .before .before .pre) (c .before .before .before .before .before .before .before .before .scan .i) (c .before .before .before .before .before .before .before .scan-test .taken) (c .before .before .before .before .before .before .find-seat .result) (c .before .before .before .before .before .before .find-seat .ensures) (a .second) _ (c .before .before .before .before .before .find-order .ensures) q (c .before .before .before .choose-key .ensures)) (c .before .before .find-end .ensures)
           (fresh-end q w (l .at) (l .inv .2) h))),
     )
 
@@ -282,18 +284,18 @@ returns c =
 
 returns-2 : tie.Need-returns-2 Inv-loop μ-loop Inv-scan μ-scan
 returns-2 c =
-    let a = c .before .before .before .before .before .before .before .before .before .before .before .before .before .before .before .before .before .before .before .args in
+    let a = c .before .before .before .before .before .before .before .before .before .before .before .before .before .before .before .before .before .before .before .before .before .args in
     let s = a .s .now in
-    let from = c .before .before .before .before .before .before .before .before .before .before .before .before .before .before .find-seat .result .from in
+    let from = c .before .before .before .before .before .before .before .before .before .before .before .before .before .before .before .before .find-seat .result .from in
     let to = c .before .before .before .before .before .before .before .before .before .before .before .before .find-end .result in
     let q = c .before .before .before .before .before .before .before .before .before .before .before .before .before .choose-key .result in
-    let b = scan-bounds s (a .seats) (c .before .before .before .before .before .before .before .before .before .before .before .before .before .before .before .before .before .before .before .pre) (c .before .before .before .before .before .before .before .before .before .before .before .before .before .before .before .before .scan .i) (c .before .before .before .before .before .before .before .before .before .before .before .before .before .before .before .scan-test .taken) (c .before .before .before .before .before .before .before .before .before .before .before .before .before .before .find-seat .result) (c .before .before .before .before .before .before .before .before .before .before .before .before .before .before .find-seat .ensures) q to (c .before .before .before .before .before .before .before .before .before .before .before .before .find-end .ensures) in
+    let b = scan-bounds s (a .seats) (c .before .before .before .before .before .before .before .before .before .before .before .before .before .before .before .before .before .before .before .before .before .pre) (c .before .before .before .before .before .before .before .before .before .before .before .before .before .before .before .before .before .before .scan .i) (c .before .before .before .before .before .before .before .before .before .before .before .before .before .before .before .before .before .scan-test .taken) (c .before .before .before .before .before .before .before .before .before .before .before .before .before .before .before .before .find-seat .result) (c .before .before .before .before .before .before .before .before .before .before .before .before .before .before .before .before .find-seat .ensures) q to (c .before .before .before .before .before .before .before .before .before .before .before .before .find-end .ensures) in
     let l = c .before .before .before .before .before .before .before .before .before .before .before .loop in
     let n = c .before .find-repeat .result in
     let k : n ≡ n - 1 + 1 = omega (arith, c .if2 .taken) in
-    rw (l .inv .1, c .before .before .before .before .before .before .before .before .before .before .before .before .before .before .before .before .before .repeat-number .ensures, k)
-    (sym (repeats-at s (a .seats) (c .before .before .before .before .before .before .before .before .before .before .before .before .before .before .before .before .before .before .before .pre) (a .second) (c .before .before .before .before .before .before .before .before .before .before .before .before .before .before .before .before .scan .i) (n - 1) (c .before .before .before .before .before .before .before .before .before .before .before .before .before .before .before .scan-test .taken) (c .before .before .before .before .before .before .before .before .before .before .before .before .before .before .before .before .scan .inv .2)
-    (repeat-is s (a .seats) (c .before .before .before .before .before .before .before .before .before .before .before .before .before .before .before .before .before .before .before .pre) (c .before .before .before .before .before .before .before .before .before .before .before .before .before .before .before .before .scan .i) (c .before .before .before .before .before .before .before .before .before .before .before .before .before .before .before .scan-test .taken) (c .before .before .before .before .before .before .before .before .before .before .before .before .before .before .find-seat .result) (c .before .before .before .before .before .before .before .before .before .before .before .before .before .before .find-seat .ensures) (a .second) q to (n - 1 + 1) (c .before .before .before .before .before .before .before .before .before .before .before .before .before .choose-key .ensures) (c .before .before .before .before .before .before .before .before .before .before .before .before .find-end .ensures)
+    rw (l .inv .1, c .before .before .before .before .before .before .before .before .before .before .before .before .before .before .before .before .before .before .before .repeat-number .ensures, k)
+    (sym (repeats-at s (a .seats) (c .before .before .before .before .before .before .before .before .before .before .before .before .before .before .before .before .before .before .before .before .before .pre) (a .second) (c .before .before .before .before .before .before .before .before .before .before .before .before .before .before .before .before .before .before .scan .i) (n - 1) (c .before .before .before .before .before .before .before .before .before .before .before .before .before .before .before .before .before .scan-test .taken) (c .before .before .before .before .before .before .before .before .before .before .before .before .before .before .before .before .before .before .scan .inv .2)
+    (repeat-is s (a .seats) (c .before .before .before .before .before .before .before .before .before .before .before .before .before .before .before .before .before .before .before .before .before .pre) (c .before .before .before .before .before .before .before .before .before .before .before .before .before .before .before .before .before .before .scan .i) (c .before .before .before .before .before .before .before .before .before .before .before .before .before .before .before .before .before .scan-test .taken) (c .before .before .before .before .before .before .before .before .before .before .before .before .before .before .before .before .find-seat .result) (c .before .before .before .before .before .before .before .before .before .before .before .before .before .before .before .before .find-seat .ensures) (a .second) q to (n - 1 + 1) (key-is s (a .seats) (c .before .before .before .before .before .before .before .before .before .before .before .before .before .before .before .before .before .before .before .before .before .pre) (c .before .before .before .before .before .before .before .before .before .before .before .before .before .before .before .before .before .before .scan .i) (c .before .before .before .before .before .before .before .before .before .before .before .before .before .before .before .before .before .scan-test .taken) (c .before .before .before .before .before .before .before .before .before .before .before .before .before .before .before .before .find-seat .result) (c .before .before .before .before .before .before .before .before .before .before .before .before .before .before .before .before .find-seat .ensures) (a .second) _ (c .before .before .before .before .before .before .before .before .before .before .before .before .before .before .before .find-order .ensures) q (c .before .before .before .before .before .before .before .before .before .before .before .before .before .choose-key .ensures)) (c .before .before .before .before .before .before .before .before .before .before .before .before .find-end .ensures)
     (sym (c .before .find-repeat .ensures) ∙ k))))
 
 pub first-repeat-spec : {M : Type 1} → statement M
@@ -307,6 +309,7 @@ first-repeat-spec =
     repeat-number-requires
     scan-holds
     find-seat-requires
+    find-order-requires
     choose-key-requires
     find-end-requires
     sub-size
@@ -323,7 +326,7 @@ first-repeat-spec =
     part-find-repeat-start
     part-find-repeat-end
     find-repeat-requires
-    add-t36
+    add-t39
     add-i
     scan-less
     scan-again

@@ -10,6 +10,7 @@ use Rattle.page.specs.Reading.{outside}
 use Rattle.page.specs.Records.{table-of}
 use Rattle.page.specs.Lines.{lines}
 use Rattle.page.specs.Tables.{width}
+use Rattle.tables.proofs.OrderLaws.{listed-orderly}
 use Rattle.values.proofs.ValueLaws.{Ready, row-is, value-unsound, value-outside, value-inside, ready, outside-left, outside-right}
 use Rattle.cut.specs.Walk.{section-from}
 use Rattle.values.proofs.handed.value_at.Statement.{statement}
@@ -71,33 +72,37 @@ there c =
     ap width (sym (c .before .before .before .before .table-at .ensures)) ∙ sym (c .before .before .before .find-width .ensures) in
     let m : outside (a .r) (x .result .records) ≡ false = sym (c .before .before .before .before .before .before .is-outside .ensures) ∙ c .before .before .before .before .before .if2 .left in
     let n : outside (a .f) (width (table-of (section-from (a .file .now) (a .at) .lines))) ≡ false = rw w (sym (c .before .before .is-outside2 .ensures) ∙ c .before .if3 .left) in
-    ready (a .file .now) (a .at) (a .r) (a .f) (a .at + x .result .length) (x .result) (c .before .before .before .before .before .before .before .before .before .before .before .before .pre .0) (c .before .before .before .before .before .before .before .before .before .before .before .before .pre .2) q (c .before .before .before .before .before .before .before .if1 .left) m n refl
+    ready (a .file .now) (a .at) (a .r) (a .f) (a .at + x .result .length) (x .result) (c .before .before .before .before .before .before .before .before .before .before .before .before .pre .0) q m n refl
 
 add-e : tie.Need-add-e
 add-e c = let d = there c in search needs
 
-slice-aggregate-read-value : tie.Need-slice-aggregate-read-value
-slice-aggregate-read-value c = sym (length-take-le _ _ (there (c .before) .within))
+list-columns-requires : tie.Need-list-columns-requires
+list-columns-requires c κs = search needs
 
-sub-read-value : tie.Need-sub-read-value
-sub-read-value c = let d = there (c .before) in search needs
+slice-aggregate-seek-value : tie.Need-slice-aggregate-seek-value
+slice-aggregate-seek-value c = sym (length-take-le _ _ (there (c .before .before) .within))
 
-read-value-requires : tie.Need-read-value-requires
-read-value-requires c κs =
-    let d = there (c .before) in
-    let k = length-take-le _ (c .before .before .before .before .before .before .before .before .before .before .before .before .before .args .file .now) (d .within) in
-    (rw k (d .start), rw k (omega (arith, c .before .before .before .before .before .before .before .before .before .before .before .before .before .pre .1, d .within)), d .field-some, d .has-field)
+sub-seek-value : tie.Need-sub-seek-value
+sub-seek-value c = let d = there (c .before .before .before) in search needs
+
+seek-value-requires : tie.Need-seek-value-requires
+seek-value-requires c κs =
+    let d = there (c .before .before .before) in
+    let k = length-take-le _ (c .before .before .before .before .before .before .before .before .before .before .before .before .before .before .before .args .file .now) (d .within) in
+    (rw k (d .start), rw k (omega (arith, c .before .before .before .before .before .before .before .before .before .before .before .before .before .before .before .pre .1, d .within)), rw (c .before .before .list-columns .ensures) listed-orderly, d .column-in)
 
 returns-4 : tie.Need-returns-4
 returns-4 c =
-    let a = c .before .before .before .before .before .before .before .before .before .before .before .before .before .before .args in
-    let x = c .before .before .before .before .before .before .before .before .before .before .before .read-section in
-    let q = row-is (a .file .now) (a .at) _ _ (c .before .before .before .before .before .before .before .before .before .before .before .before .read-charset .ensures) (x .ensures) in
-    let w : width (table-of (section-from (a .file .now) (a .at) .lines)) ≡ c .before .before .before .before .before .find-width .result = ap width (sym (c .before .before .before .before .before .before .table-at .ensures)) ∙ sym (c .before .before .before .before .before .find-width .ensures) in
-    let m : outside (a .r) (x .result .records) ≡ false = sym (c .before .before .before .before .before .before .before .before .is-outside .ensures) ∙ c .before .before .before .before .before .before .before .if2 .left in
-    let n : outside (a .f) (width (table-of (section-from (a .file .now) (a .at) .lines))) ≡ false = rw w (sym (c .before .before .before .before .is-outside2 .ensures) ∙ c .before .before .before .if3 .left) in
-    let d = there (c .before .before) in
-    value-inside (a .file .now) (a .i) (a .at) (a .r) (a .f) (x .result) q (c .before .before .before .before .before .before .before .before .before .if1 .left) _ m n (rw (sym (c .before .before .before .before .before .before .table-at .ensures), sym (d .same-lines)) (c .read-value .ensures))
+    let a = c .before .before .before .before .before .before .before .before .before .before .before .before .before .before .before .before .args in
+    let x = c .before .before .before .before .before .before .before .before .before .before .before .before .before .read-section in
+    let t = c .before .before .before .before .before .before .before .before .table-at .ensures in
+    let q = row-is (a .file .now) (a .at) _ _ (c .before .before .before .before .before .before .before .before .before .before .before .before .before .before .read-charset .ensures) (x .ensures) in
+    let w : width (table-of (section-from (a .file .now) (a .at) .lines)) ≡ c .before .before .before .before .before .before .before .find-width .result = ap width (sym t) ∙ sym (c .before .before .before .before .before .before .before .find-width .ensures) in
+    let m : outside (a .r) (x .result .records) ≡ false = sym (c .before .before .before .before .before .before .before .before .before .before .is-outside .ensures) ∙ c .before .before .before .before .before .before .before .before .before .if2 .left in
+    let n : outside (a .f) (width (table-of (section-from (a .file .now) (a .at) .lines))) ≡ false = rw w (sym (c .before .before .before .before .before .before .is-outside2 .ensures) ∙ c .before .before .before .before .before .if3 .left) in
+    let d = there (c .before .before .before .before) in
+    value-inside (a .file .now) (a .i) (a .at) (a .r) (a .f) (x .result) q (c .before .before .before .before .before .before .before .before .before .before .before .if1 .left) _ m n (rw (sym t, sym (d .same-lines), sym (c .before .before .before .list-columns .ensures)) (c .seek-value .ensures))
 
 pub value-at-spec : {M : Type 1} → statement M
 value-at-spec =
@@ -115,7 +120,8 @@ value-at-spec =
     refuse-with-requires-2
     returns-3
     add-e
-    slice-aggregate-read-value
-    sub-read-value
-    read-value-requires
+    list-columns-requires
+    slice-aggregate-seek-value
+    sub-seek-value
+    seek-value-requires
     returns-4)

@@ -1,34 +1,51 @@
 -- `values::values::value_in` meets its contract. Assumes nothing.
 use Prim.Native.Nat.{_-_}
-use mathlib.Core.Path.{sym}
+use mathlib.Core.Path.{_∙_}
+use native.Mathlib.Omega.{arith}
 use borrow.Author.Needs.{needs}
-use Rattle.page.specs.Reading.{value-in}
+use Rattle.tables.specs.Orders.{held}
+use Rattle.values.proofs.StartLaws.{place-few, column-value}
 use Rattle.values.proofs.values.value_in.Statement.{statement}
 use Rattle.values.proofs.values.value_in.Tie as tie
 
-sub-k : tie.Need-sub-k
-sub-k c = search needs
+one-less-requires : tie.Need-one-less-requires
+one-less-requires c κs = search needs
 
-is-text-requires : tie.Need-is-text-requires
-is-text-requires c κs = search needs
+find-place-requires : tie.Need-find-place-requires
+find-place-requires c κs = search needs
 
-find-words-requires : tie.Need-find-words-requires
-find-words-requires c κs = search needs
+find-start-requires : tie.Need-find-start-requires
+find-start-requires c κs =
+    let a = c .before .before .before .args in
+    let p = c .find-place in
+    place-few _ (a .t) (a .o .now) (p .result) (c .before .before .before .pre .0) (p .ensures)
+
+find-column-requires : tie.Need-find-column-requires
+find-column-requires c κs = omega (arith, c .before .before .one-less .ensures, c .before .before .before .before .pre .1)
+
+read-value-requires : tie.Need-read-value-requires
+read-value-requires c κs =
+    let a = c .before .before .before .before .before .args in
+    let p = c .before .before .find-place in
+    (place-few _ (a .t) (a .o .now) (p .result) (c .before .before .before .before .before .pre .0) (p .ensures), c .before .find-start .ensures, c .before .before .before .before .before .pre .2)
 
 returns : tie.Need-returns
-unfolding value-in
 returns c =
-    rw (sym (c .before .before .is-text .ensures), c .before .if1 .taken, c .find-words .ensures)
-
-amount-at-requires : tie.Need-amount-at-requires
-amount-at-requires c κs = search needs
-
-returns-2 : tie.Need-returns-2
-unfolding value-in
-returns-2 c =
-    rw (sym (c .before .before .is-text .ensures), c .before .if1 .left, c .amount-at .ensures)
+    let a = c .before .before .before .before .before .before .args in
+    let n = c .before .before .before .before .one-less in
+    let p = c .before .before .before .find-place in
+    let d = c .before .find-column in
+    c .read-value .ensures
+    ∙ column-value (a .t) (a .f) (n .result) (p .result) (a .at) (a .m) (held (a .t) (a .o .now)) (a .w .now) (d .result) (n .ensures) (p .ensures)
+    (d .ensures .0) (d .ensures .1) (d .ensures .2)
 
 pub value-in-spec : {M : Type 1} → statement M
 value-in-spec =
     tie.close
-    (tie.spec sub-k is-text-requires find-words-requires returns amount-at-requires returns-2)
+    (tie.spec
+    one-less-requires
+    find-place-requires
+    find-start-requires
+    find-column-requires
+    read-value-requires
+    returns)

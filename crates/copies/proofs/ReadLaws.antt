@@ -1,0 +1,164 @@
+-- A field that passed its column's rules is read as a text or a number, and what is read is what is written. Assumes nothing.
+use mathlib.Core.Path.{_≡_, refl, ap, sym, subst, _∙_}
+use mathlib.Core.Bool.{Bool, true, false, _&&_}
+use mathlib.Core.List.{[]}
+use mathlib.Core.Option.{Option, none, some}
+use Prim.Native.Nat.{ℕ, _+_, _-_, _*_, _<_, _≤_}
+use native.Mathlib.Omega.{arith}
+use borrow.Author.Tests.{leb-true}
+use lib.Dec.{leb}
+use lib.ListN.{length, getD, take, drop}
+use Rattle.page.specs.Bytes.{Bytes, pick, part, moved, trimOf}
+use Rattle.page.specs.Fields.{field-size, fields, textOf, numberOf}
+use Rattle.page.specs.Section.{Wording, worded, own-of, wordsOf, record-text, text-field, number-field, fieldOf, field-number, amount}
+use Rattle.page.specs.Records.{own-bytes}
+use Rattle.page.specs.Places.{field-place, span-from, field-span}
+use Rattle.page.specs.Reading.{later-field}
+use Rattle.page.specs.Form.{doubled, quoted}
+use Rattle.page.specs.declared.Column.{Column}
+use Rattle.page.specs.declared.Span.{Span}
+use Rattle.page.specs.declared.Number.{Number}
+use Rattle.page.specs.declared.Number.the-variants as N
+use Rattle.page.specs.declared.Field.{Field}
+use Rattle.page.specs.declared.Field.the-variants as F
+use Rattle.page.proofs.ScanLaws.{part-length, part-moved}
+use Rattle.page.proofs.FieldLaws.{end-in, span-in, span-part, field-span-in, field-span-part}
+use Rattle.page.proofs.TextLaws.{text-quoted, text-long, text-between, record-text-is}
+use Rattle.digits.specs.Runs.{field-from}
+use Rattle.output.specs.Raw.{raw-text}
+use Rattle.output.proofs.FormLaws.{quoted-length}
+
+-- a text as it stands between its quotes: its own bytes, each quote doubled
+record Stored (f : Bytes) (x : Wording) : Type 0 where
+  begins : x .span .from ≤ x .span .to
+  within : x .span .to ≤ length f
+  raw : raw-text (part (x .span) f) ≡ quoted (x .own)
+
+stored : (f : Bytes) (x : Wording) → wordsOf f ≡ some x → Stored f x
+unfolding wordsOf raw-text quoted
+stored f x e = by (textOf f) refl e
+  where
+    by : (o : Option Bytes) → textOf f ≡ o → worded f o ≡ some x → Stored f x
+    by none q z = absurd (let y : _≡_ {A = ℕ} 0 1 = cc in omega arith)
+    by (some u) q z =
+        let l = text-long f u q in
+        let n : length f - 1 - 1 ≡ length f - 2 = omega arith in
+        let r : take (length f - 1 - 1) (drop 1 f) ≡ doubled u = rw n (text-between f u q) in
+        let y : record { own = u; span = record { from = 1; to = length f - 1 } } ≡ x = cc in
+        subst (Stored f) y (record { begins = omega arith; within = omega arith; raw = ap raw-text r })
+
+-- what a field that passed its column's rules is read as
+data Read (c : Column) (f : Bytes) : Field → Type 0 where
+  a-text : (x : Wording) → c .text ≡ true → wordsOf f ≡ some x → length (x .own) ≤ c .hi → Read c f (F.Text (x .span))
+  a-number : (n : ℕ) → c .text ≡ false → n ≡ amount (numberOf f) → Read c f (F.Number n)
+
+read-of : (c : Column) (f : Bytes) → field-number (fieldOf c f) ≡ 0 → Read c f (fieldOf c f)
+unfolding fieldOf text-field number-field field-number
+read-of c f z = by (c .text) refl z
+  where
+    sized : (x : Wording) → c .text ≡ true → wordsOf f ≡ some x → (b : Bool) → leb (length (x .own)) (c .hi) ≡ b
+        → field-number (pick b (F.Text (x .span)) (F.Refused 13)) ≡ 0 → Read c f (pick b (F.Text (x .span)) (F.Refused 13))
+    sized x k e true q z = a-text x k e (leb-true (length (x .own)) (c .hi) q)
+    sized x k e false q z = absurd (omega arith)
+
+    worded-so : c .text ≡ true → (o : Option Wording) → wordsOf f ≡ o → field-number (text-field (c .hi) o) ≡ 0 → Read c f (text-field (c .hi) o)
+    worded-so k none e z = absurd (omega arith)
+    worded-so k (some x) e z = sized x k e (leb (length (x .own)) (c .hi)) refl z
+
+    ranged : (n : ℕ) → c .text ≡ false → n ≡ amount (numberOf f) → (b : Bool) → field-number (pick b (F.Number n) (F.Refused 13)) ≡ 0
+        → Read c f (pick b (F.Number n) (F.Refused 13))
+    ranged n k e true z = a-number n k e
+    ranged n k e false z = absurd (omega arith)
+
+    counted : c .text ≡ false → (n : Number) → numberOf f ≡ n → field-number (number-field (c .lo) (c .hi) n) ≡ 0 → Read c f (number-field (c .lo) (c .hi) n)
+    counted k (N.Plus n) e z = ranged n k (sym (ap amount e)) (leb (c .lo) n && leb n (c .hi)) z
+    counted k (N.Minus n) e z = absurd (omega arith)
+    counted k N.Nothing e z = absurd (omega arith)
+
+    by : (b : Bool) → c .text ≡ b → field-number (pick b (text-field (c .hi) (wordsOf f)) (number-field (c .lo) (c .hi) (numberOf f))) ≡ 0
+        → Read c f (pick b (text-field (c .hi) (wordsOf f)) (number-field (c .lo) (c .hi) (numberOf f)))
+    by true k z = worded-so k (wordsOf f) refl z
+    by false k z = counted k (numberOf f) refl z
+
+-- a text is written as it stands, with its quotes
+pub text-whole : (c : Column) (f : Bytes) → c .text ≡ true → field-number (fieldOf c f) ≡ 0 → f ≡ quoted (own-bytes (record-text f))
+unfolding fieldOf wordsOf text-field field-number
+text-whole c f k ok = by (textOf f) refl
+  where
+    by : (o : Option Bytes) → textOf f ≡ o → f ≡ quoted (own-bytes (record-text f))
+    by none e = absurd (let z : _≡_ {A = ℕ} 11 0 = rw (k, e) at ok in omega arith)
+    by (some u) e = text-quoted f u e ∙ sym (ap (λ (o : Option Bytes). quoted (own-bytes o)) (record-text-is f ∙ e))
+
+-- the field at a place of w
+
+-- a text is written as it stands between its quotes
+pub record Words (c : Column) (f w : Bytes) (sp : Span) : Type 0 where
+  pub kind : c .text ≡ true
+  pub begins : sp .from ≤ sp .to
+  pub within : sp .to ≤ length w
+  pub raw : raw-text (part sp w) ≡ quoted (own-bytes (record-text f))
+  pub short : length (raw-text (part sp w)) ≤ 2 * c .hi + 2
+
+spanned : (w : Bytes) (at : ℕ) → at ≤ length w
+    → (span-from w at .from ≤ span-from w at .to) × (span-from w at .to ≤ length w) × (part (span-from w at) w ≡ field-from w at)
+unfolding span-from
+spanned w at h =
+    let e = at + field-size false (drop at w) in
+    let n : e - at ≡ field-size false (drop at w) = omega arith in
+    let i = end-in w at e h refl in
+    let x : span-from w at ≡ moved at (trimOf (take (e - at) (drop at w))) = rw n refl in
+    let j = span-in w at e refl i (span-from w at) x in
+    (j .0, j .1, span-part w at e refl i (span-from w at) x ∙ rw n refl)
+
+module _ (c : Column) (w : Bytes) (at : ℕ) (h : at ≤ length w) (ok : field-number (fieldOf c (field-from w at)) ≡ 0) where
+  abbrev f : Bytes
+  f = field-from w at
+
+  abbrev g : Span
+  g = span-from w at
+
+  pub text-read : (sp : Span) → F.Text sp ≡ later-field (g .from) (fieldOf c f) → Words c f w sp
+  unfolding record-text
+  text-read sp e = by (fieldOf c f) (read-of c f ok) e
+    where
+      by : (v : Field) → Read c f v → F.Text sp ≡ later-field (g .from) v → Words c f w sp
+      by v (a-text x k q l) e =
+          let y : sp ≡ moved (g .from) (x .span) = cc in
+          let t = stored f x q in
+          let p = spanned w at h in
+          let n : length f ≡ g .to - g .from = ap length (sym (p .2)) ∙ part-length (g .from) (g .to) w (p .1) in
+          let m : part (x .span) f ≡ part (moved (g .from) (x .span)) w =
+          ap (part (x .span)) (sym (p .2)) ∙ part-moved (x .span) (g .from) (g .to - g .from) w (t .begins) (omega (arith, t .within)) in
+          let r : raw-text (part sp w) ≡ quoted (x .own) = rw y (ap raw-text (sym m) ∙ t .raw) in
+          record {
+            kind = k;
+            begins = rw y (omega (arith, t .begins));
+            within = rw y (omega (arith, t .within));
+            raw = r ∙ ap (λ (o : Option Wording). quoted (own-bytes (own-of o))) (sym q);
+            short = omega (arith, ap length r, quoted-length (x .own));
+          }
+      by v (a-number n k q) e = absurd (let y : _≡_ {A = ℕ} 0 1 = cc in omega arith)
+
+  pub number-read : (n : ℕ) → F.Number n ≡ later-field (g .from) (fieldOf c f) → (c .text ≡ false) × (n ≡ amount (numberOf f))
+  number-read n e = by (fieldOf c f) (read-of c f ok) e
+    where
+      by : (v : Field) → Read c f v → F.Number n ≡ later-field (g .from) v → (c .text ≡ false) × (n ≡ amount (numberOf f))
+      by v (a-text x k q l) e = absurd (let y : _≡_ {A = ℕ} 0 1 = cc in omega arith)
+      by v (a-number i k q) e = (k, let y : n ≡ i = cc in y ∙ q)
+
+  pub never-refused : (v : ℕ) → F.Refused v ≡ later-field (g .from) (fieldOf c f) → ⊥
+  never-refused v e = by (fieldOf c f) (read-of c f ok) e
+    where
+      by : (x : Field) → Read c f x → F.Refused v ≡ later-field (g .from) x → ⊥
+      by x (a-text y k q l) e = absurd (let z : _≡_ {A = ℕ} 0 1 = cc in omega arith)
+      by x (a-number n k q) e = absurd (let z : _≡_ {A = ℕ} 0 1 = cc in omega arith)
+
+-- the field at place p, from 0, of a record
+module _ (w : Bytes) (p : ℕ) (h : p < length (fields w)) where
+  pub field-begins : field-place p 0 w ≤ length w
+  unfolding field-span span-from
+  field-begins = let i = field-span-in w p h in omega arith
+
+  pub field-there : field-from w (field-place p 0 w) ≡ getD (fields w) p []
+  unfolding field-span
+  field-there = sym (spanned w (field-place p 0 w) field-begins .2) ∙ field-span-part w p h

@@ -1,0 +1,63 @@
+-- What a field is read as, and where the text of a field stands in it. Assumes nothing.
+use mathlib.Core.Path.{_≡_, refl, sym}
+use mathlib.Core.Bool.{Bool, true, false, _&&_}
+use mathlib.Core.Option.{Option, none, some}
+use Prim.Native.Nat.{ℕ, _-_, _≤_}
+use native.Mathlib.Omega.{arith}
+use lib.Dec.{leb}
+use lib.ListN.{length}
+use Rattle.page.specs.Bytes.{Bytes, pick}
+use Rattle.page.specs.Fields.{textOf, numberOf}
+use Rattle.page.specs.Section.{Wording, worded, wordsOf, text-field, number-field, fieldOf}
+use Rattle.page.specs.declared.Column.{Column}
+use Rattle.page.specs.declared.Field.{Field}
+use Rattle.page.specs.declared.Field.the-variants as F
+use Rattle.page.specs.declared.Number.{Number}
+use Rattle.page.specs.declared.Number.the-variants as N
+use Rattle.page.proofs.TextLaws.{text-long}
+
+-- of a text column a text, with the place that its wording says; of another a number; or a refusal
+pub data Read (c : Column) (f : Bytes) : Field → Type 0 where
+  a-text : (x : Wording) → c .text ≡ true → wordsOf f ≡ some x → Read c f (F.Text (x .span))
+  a-number : (n : ℕ) → c .text ≡ false → Read c f (F.Number n)
+  no-value : (v : ℕ) → (v ≡ 0 → ⊥) → Read c f (F.Refused v)
+
+pub read-of : (c : Column) (f : Bytes) → Read c f (fieldOf c f)
+unfolding fieldOf text-field number-field
+read-of c f = by (c .text) refl
+  where
+    over : Read c f (F.Refused 13)
+    over = no-value 13 (λ (e : _≡_ {A = ℕ} 13 0). omega arith)
+
+    words : (o : Option Wording) → wordsOf f ≡ o → c .text ≡ true → Read c f (text-field (c .hi) o)
+    words none q t = no-value 11 (λ (e : _≡_ {A = ℕ} 11 0). omega arith)
+    words (some x) q t = sized (leb (length (x .own)) (c .hi))
+      where
+        sized : (b : Bool) → Read c f (pick b (F.Text (x .span)) (F.Refused 13))
+        sized true = a-text x t q
+        sized false = over
+
+    number : (n : Number) → c .text ≡ false → Read c f (number-field (c .lo) (c .hi) n)
+    number (N.Plus n) t = ranged (leb (c .lo) n && leb n (c .hi))
+      where
+        ranged : (b : Bool) → Read c f (pick b (F.Number n) (F.Refused 13))
+        ranged true = a-number n t
+        ranged false = over
+    number (N.Minus n) t = over
+    number N.Nothing t = no-value 12 (λ (e : _≡_ {A = ℕ} 12 0). omega arith)
+
+    by : (b : Bool) → c .text ≡ b → Read c f (pick b (text-field (c .hi) (wordsOf f)) (number-field (c .lo) (c .hi) (numberOf f)))
+    by true t = words (wordsOf f) refl t
+    by false t = number (numberOf f) t
+
+-- the text of a field lies within it
+pub wording-in : (f : Bytes) (x : Wording) → wordsOf f ≡ some x → (x .span .from ≤ x .span .to) × (x .span .to ≤ length f)
+unfolding wordsOf
+wording-in f x e = by (textOf f) refl e
+  where
+    by : (o : Option Bytes) → textOf f ≡ o → worded f o ≡ some x → (x .span .from ≤ x .span .to) × (x .span .to ≤ length f)
+    by none q y = absurd (let z : _≡_ {A = ℕ} 0 1 = cc in omega arith)
+    by (some t) q y =
+        let z : record { own = t; span = record { from = 1; to = length f - 1 } } ≡ x = cc in
+        let n = text-long f t q in
+        rw (sym z) (omega arith)
