@@ -1,6 +1,6 @@
 -- Rounds by the hash of a key: the records passed, of a round, are new and have their bits set. Assumes nothing.
 use mathlib.Core.Path.{_≡_, refl, ap, sym, _∙_}
-use mathlib.Core.Bool.{Bool, true, false, false≢true}
+use mathlib.Core.Bool.{Bool, true, false, not, false≢true}
 use mathlib.Core.List.{List, []}
 use mathlib.Core.Logic.{_⊎_, inl, inr, ⊎-elim}
 use Prim.Native.Nat.{ℕ, _+_, _-_, _<_, _≤_}
@@ -33,32 +33,33 @@ hash-new : (q : Choice) (ls : List Bytes) (i h : ℕ) → i < length ls → h �
     → ((j : ℕ) → j < i → is-record (getD ls j []) ≡ true → hash-at q ls j ≡ h → ⊥) → again-at q ls i ≡ false
 hash-new q ls i h x e f = again-new q ls i x (λ j k y p. f j k y (same-hash q (getD ls j []) (getD ls i []) p ∙ sym e))
 
--- the first pass: of the lines before line i, those in round r of n are new or doubtful, and the records among them are in the table
+-- the first pass: of the lines before line i, those in round r of n are new or doubtful, and the records among them are in the table;
+-- o: some may be doubtful
 
-abbrev pub Marked : Choice → List Bytes → ℕ → ℕ → ℕ → List ℕ → ℕ → List ℕ → ℕ → Type 0
-Marked q ls r n nt t na a i =
+abbrev pub Marked : Choice → List Bytes → ℕ → ℕ → ℕ → List ℕ → ℕ → List ℕ → Bool → ℕ → Type 0
+Marked q ls r n nt t na a o i =
     (m : ℕ) → m < i → lane-of (hash-at q ls m) n ≡ r
-    → ((again-at q ls m ≡ false) ⊎ Doubtful na a (hash-at q ls m)) × (is-record (getD ls m []) ≡ true → Crowded nt t (hash-at q ls m))
+    → ((again-at q ls m ≡ false) ⊎ ((o ≡ true) × Doubtful na a (hash-at q ls m))) × (is-record (getD ls m []) ≡ true → Crowded nt t (hash-at q ls m))
 
-module _ (q : Choice) (ls : List Bytes) (r n i h : ℕ) (e : h ≡ hash-at q ls i) (nt na : ℕ) (t a : List ℕ) (s : Marked q ls r n nt t na a i) where
+module _ (q : Choice) (ls : List Bytes) (r n i h : ℕ) (e : h ≡ hash-at q ls i) (nt na : ℕ) (t a : List ℕ) (o : Bool) (s : Marked q ls r n nt t na a o i) where
   -- a line of another round
-  pub marked-skip : (lane-of h n ≡ r → ⊥) → Marked q ls r n nt t na a (i + 1)
+  pub marked-skip : (lane-of h n ≡ r → ⊥) → Marked q ls r n nt t na a o (i + 1)
   marked-skip d = below-more _ _ s (λ l. absurd (d (rw e l)))
 
-  pub marked-other : is-record (getD ls i []) ≡ false → Marked q ls r n nt t na a (i + 1)
+  pub marked-other : is-record (getD ls i []) ≡ false → Marked q ls r n nt t na a o (i + 1)
   marked-other f = below-more _ _ s (λ l. (inl (again-other q ls i f), λ y. absurd (false≢true (sym f ∙ y))))
 
   module _ (t′ : List ℕ) (b : Bool) (p : Added t nt h (two-of h) b t′) where
-    pub marked-new : i < length ls → lane-of h n ≡ r → b ≡ false → Marked q ls r n nt t′ na a (i + 1)
-    marked-new x o f =
-        let new = hash-new q ls i h x e (λ j k y z. p .fresh f (rw z at (s j k (rw z o) .1 y))) in
+    pub marked-new : i < length ls → lane-of h n ≡ r → b ≡ false → Marked q ls r n nt t′ na a o (i + 1)
+    marked-new x u f =
+        let new = hash-new q ls i h x e (λ j k y z. p .fresh f (rw z at (s j k (rw z u) .1 y))) in
         below-more _ _ (λ m k l. (s m k l .0, λ y. p .keeps _ _ (s m k l .1 y))) (λ l. (inl new, λ y. rw e at (p .holds)))
 
-    pub marked-doubt : (a′ : List ℕ) (c : Bool) → Added a na h (four-of h) c a′ → Marked q ls r n nt t′ na a′ (i + 1)
+    pub marked-doubt : (a′ : List ℕ) (c : Bool) → Added a na h (four-of h) c a′ → Marked q ls r n nt t′ na a′ true (i + 1)
     marked-doubt a′ c d =
         below-more _ _
-        (λ m k l. (⊎-elim (λ f. inl f) (λ g. inr (d .keeps _ _ g)) (s m k l .0), λ y. p .keeps _ _ (s m k l .1 y)))
-        (λ l. (inr (rw e at (d .holds)), λ y. rw e at (p .holds)))
+        (λ m k l. (⊎-elim (λ f. inl f) (λ g. inr (refl, d .keeps _ _ (g .1))) (s m k l .0), λ y. p .keeps _ _ (s m k l .1 y)))
+        (λ l. (inr (refl, rw e at (d .holds)), λ y. rw e at (p .holds)))
 
 -- the second pass: of the lines before line i, the doubtful ones are new, and the records among them are in the table
 
@@ -81,13 +82,21 @@ module _ (q : Choice) (ls : List Bytes) (i h : ℕ) (e : h ≡ hash-at q ls i) (
     pub told-new : i < length ls → Has a na h (four-of h) → b ≡ false → Told q ls na a nt t′ (i + 1)
     told-new x o f = told-met (hash-new q ls i h x e (λ j k y z. p .fresh f (rw z at (s j k (rw z o) .1 y))))
 
-pub round-done : (q : Choice) (ls : List Bytes) (r n last na nb : ℕ) (a : List ℕ) (e : ℕ) → nb ≡ na → Doubted q ls r n last na a → Settled q ls nb a last e
-    → Round q ls r n last e
-round-done q ls r n last na nb a e b d s =
+pub round-none : (q : Choice) (ls : List Bytes) (r n last na : ℕ) (a : List ℕ) (o : Bool) → Doubted q ls r n last na a o → not o ≡ true → Round q ls r n last last
+round-none q ls r n last na a o d f =
+    record {
+      within = omega arith;
+      hit = λ l. absurd (omega arith);
+      clear = λ m k x l. ⊎-elim (λ g. g) (λ g. absurd (false≢true (sym (ap not (g .0)) ∙ f))) (d .each m k x l);
+    }
+
+pub round-done : (q : Choice) (ls : List Bytes) (r n last na nb : ℕ) (a : List ℕ) (o : Bool) (e : ℕ) → nb ≡ na → Doubted q ls r n last na a o
+    → Settled q ls nb a last e → Round q ls r n last e
+round-done q ls r n last na nb a o e b d s =
     record {
       within = s .within;
       hit = s .hit;
-      clear = λ m k x l. ⊎-elim (λ f. f) (λ g. s .clear m k x (rw b g)) (d .each m (omega (arith, s .within)) x l);
+      clear = λ m k x l. ⊎-elim (λ f. f) (λ g. s .clear m k x (rw b (g .1))) (d .each m (omega (arith, s .within)) x l);
     }
 
 -- ---- all rounds

@@ -34,9 +34,11 @@ Crowded nt t h = Has t nt h (two-of h)
 abbrev pub Doubtful : ℕ → List ℕ → ℕ → Type 0
 Doubtful na a h = Has a na h (four-of h)
 
--- each line of round r of n before `last` is new or doubtful
-pub record Doubted (q : Choice) (ls : List Bytes) (r n last na : ℕ) (a : List ℕ) : Type 0 where
-  pub each : (m : ℕ) → m < last → m < length ls → lane-of (hash-at q ls m) n ≡ r → (again-at q ls m ≡ false) ⊎ Doubtful na a (hash-at q ls m)
+-- each line of round r of n before `last` is new or doubtful; b: some may be doubtful
+pub record Doubted (q : Choice) (ls : List Bytes) (r n last na : ℕ) (a : List ℕ) (b : Bool) : Type 0 where
+  pub each :
+      (m : ℕ) → m < last → m < length ls → lane-of (hash-at q ls m) n ≡ r
+      → (again-at q ls m ≡ false) ⊎ ((b ≡ true) × Doubtful na a (hash-at q ls m))
 
 -- e is the first doubtful line before `last` whose key stands before it; or it is `last`
 pub record Settled (q : Choice) (ls : List Bytes) (na : ℕ) (a : List ℕ) (last e : ℕ) : Type 0 where

@@ -35,7 +35,7 @@ fn hash_line(l: &[u8], choice: Choice) -> u64
 }
 
 // One pass over the records of round r of n before line `last`: each whose bits were not all set is new, the others are put among the
-// doubtful ones.
+// doubtful ones. Are there any?
 fn mark_doubts(
     w: &[u8],
     choice: Choice,
@@ -44,17 +44,18 @@ fn mark_doubts(
     last: usize,
     t: &mut [u64],
     doubts: &mut [u64],
-)
+) -> bool
     requires { ⌜ (n < 2 ^ 32) × (0 < length (now t)) × (0 < length (now doubts)) ⌝ }
-    ensures { λ _. ⌜ Doubted choice (lines (now (w .entry))) r n last (length (now (doubts .entry))) (now (doubts .exit)) ⌝ }
+    ensures { λ b. ⌜ Doubted choice (lines (now (w .entry))) r n last (length (now (doubts .entry))) (now (doubts .exit)) b ⌝ }
 {
     let crowd = t.len();
     let size = doubts.len();
     let mut at: usize = 0;
     let mut i: usize = 0;
+    let mut some = false;
     while at < w.len() {
         if i == last {
-            return;
+            return some;
         }
         let here = at;
         let l = Cursor { at: here }.line(w);
@@ -66,10 +67,12 @@ fn mark_doubts(
             if is_record(&w[here..e]) {
                 if put_two(t, crowd, h) {
                     put_four(doubts, size, h);
+                    some = true;
                 }
             }
         }
     }
+    some
 }
 
 // One more pass, over the doubtful records alone: they leave most bits clear, and only those whose bits were all set are searched for.
@@ -126,7 +129,9 @@ fn sift_in(
     requires { ⌜ (n < 2 ^ 32) × (0 < length (now t)) × (0 < length (now doubts)) ⌝ }
     ensures { λ e. ⌜ Round choice (lines (now (w .entry))) r n last e ⌝ }
 {
-    mark_doubts(w, choice, r, n, last, t, doubts);
+    if !mark_doubts(w, choice, r, n, last, t, doubts) {
+        return last;
+    }
     wipe(t);
     settle_doubts(w, choice, last, &doubts[..], t)
 }

@@ -12,11 +12,11 @@ use Rattle.repeats.proofs.rounds.mark_doubts.Statement.{statement}
 use Rattle.repeats.proofs.rounds.mark_doubts.Tie as tie
 
 abbrev Inv-loop : tie.InvT-loop
-Inv-loop w choice r n last t₀ doubts₀ crowd size at₀ i₀ t doubts at i =
-    (i ≤ last) × (length t ≡ crowd) × (length doubts ≡ size) × Stands w at i × Marked choice (lines w) r n crowd t size doubts i
+Inv-loop w choice r n last t₀ doubts₀ crowd size at₀ i₀ some₀ t doubts at i some =
+    (i ≤ last) × (length t ≡ crowd) × (length doubts ≡ size) × Stands w at i × Marked choice (lines w) r n crowd t size doubts some i
 
 abbrev μ-loop : tie.MeasureT-loop
-μ-loop w choice r n last t₀ doubts₀ crowd size at₀ i₀ t doubts at i =
+μ-loop w choice r n last t₀ doubts₀ crowd size at₀ i₀ some₀ t doubts at i some =
     length w - at
 
 loop-holds : tie.Need-loop-holds Inv-loop μ-loop
@@ -108,7 +108,7 @@ loop-again c =
     let t = handed w (v .at) (c .before .before .before .before .before .before .before .before .before .before .before .before .before .before .before .before .line .result) (c .before .before .before .before .before .before .before .before .before .before .before .before .before .before .before .before .before .before .loop-test .taken) (c .before .before .before .before .before .before .before .before .before .before .before .before .before .before .before .before .line .ensures) in
     let e = c .before .before .before .before .before .before .before .before .before .before .before .before .before .before .before .before .line .result .span .to in
     let h = hash-here w (v .at) (v .i) e (v .inv .3) (c .before .before .before .before .before .before .before .before .before .before .before .before .before .before .before .before .before .before .loop-test .taken) (t .size) _ _ (c .before .before .before .before .before .before .before .before .before .before .before .before .before .before .hash-line .ensures) in
-    (omega arith, c .before .before .before .before .before .before .before .put-two .kept .0 ∙ v .inv .1, c .before .before .put-four .kept .0 ∙ v .inv .2, stands-next w (v .at) (v .i) e (v .inv .3) (c .before .before .before .before .before .before .before .before .before .before .before .before .before .before .before .before .before .before .loop-test .taken) (t .size), marked-doubt _ _ _ _ _ _ h _ _ _ _ (v .inv .4) _ _ (c .before .before .before .before .before .before .before .put-two .ensures) _ _ (c .before .before .put-four .ensures))
+    (omega arith, c .before .before .before .before .before .before .before .put-two .kept .0 ∙ v .inv .1, c .before .before .put-four .kept .0 ∙ v .inv .2, stands-next w (v .at) (v .i) e (v .inv .3) (c .before .before .before .before .before .before .before .before .before .before .before .before .before .before .before .before .before .before .loop-test .taken) (t .size), marked-doubt _ _ _ _ _ _ h _ _ _ _ _ (v .inv .4) _ _ (c .before .before .before .before .before .before .before .put-two .ensures) _ _ (c .before .before .put-four .ensures))
 
 loop-less-2 : tie.Need-loop-less-2 Inv-loop μ-loop
 loop-less-2 c =
@@ -124,7 +124,7 @@ loop-again-2 c =
     let t = handed w (v .at) (c .before .before .before .before .before .before .before .before .before .before .before .before .line .result) (c .before .before .before .before .before .before .before .before .before .before .before .before .before .before .loop-test .taken) (c .before .before .before .before .before .before .before .before .before .before .before .before .line .ensures) in
     let e = c .before .before .before .before .before .before .before .before .before .before .before .before .line .result .span .to in
     let h = hash-here w (v .at) (v .i) e (v .inv .3) (c .before .before .before .before .before .before .before .before .before .before .before .before .before .before .loop-test .taken) (t .size) _ _ (c .before .before .before .before .before .before .before .before .before .before .hash-line .ensures) in
-    (omega arith, c .before .before .before .put-two .kept .0 ∙ v .inv .1, v .inv .2, stands-next w (v .at) (v .i) e (v .inv .3) (c .before .before .before .before .before .before .before .before .before .before .before .before .before .before .loop-test .taken) (t .size), marked-new _ _ _ _ _ _ h _ _ _ _ (v .inv .4) _ _ (c .before .before .before .put-two .ensures) (stands-in w (v .at) (v .i) e (v .inv .3) (c .before .before .before .before .before .before .before .before .before .before .before .before .before .before .loop-test .taken) (t .size)) (sym (c .before .before .before .before .before .before .before .before .before .find-lane .ensures) ∙ c .before .before .before .before .before .before .before .before .if2 .taken) (c .if4 .left))
+    (omega arith, c .before .before .before .put-two .kept .0 ∙ v .inv .1, v .inv .2, stands-next w (v .at) (v .i) e (v .inv .3) (c .before .before .before .before .before .before .before .before .before .before .before .before .before .before .loop-test .taken) (t .size), marked-new _ _ _ _ _ _ h _ _ _ _ _ (v .inv .4) _ _ (c .before .before .before .put-two .ensures) (stands-in w (v .at) (v .i) e (v .inv .3) (c .before .before .before .before .before .before .before .before .before .before .before .before .before .before .loop-test .taken) (t .size)) (sym (c .before .before .before .before .before .before .before .before .before .find-lane .ensures) ∙ c .before .before .before .before .before .before .before .before .if2 .taken) (c .if4 .left))
 
 loop-less-3 : tie.Need-loop-less-3 Inv-loop μ-loop
 loop-less-3 c =
@@ -140,7 +140,7 @@ loop-again-3 c =
     let t = handed w (v .at) (c .before .before .before .before .before .before .before .line .result) (c .before .before .before .before .before .before .before .before .before .loop-test .taken) (c .before .before .before .before .before .before .before .line .ensures) in
     let e = c .before .before .before .before .before .before .before .line .result .span .to in
     let h = hash-here w (v .at) (v .i) e (v .inv .3) (c .before .before .before .before .before .before .before .before .before .loop-test .taken) (t .size) _ _ (c .before .before .before .before .before .hash-line .ensures) in
-    (omega arith, v .inv .1, v .inv .2, stands-next w (v .at) (v .i) e (v .inv .3) (c .before .before .before .before .before .before .before .before .before .loop-test .taken) (t .size), marked-other _ _ _ _ _ _ h _ _ _ _ (v .inv .4) (record-here w (v .at) (v .i) e (v .inv .3) (c .before .before .before .before .before .before .before .before .before .loop-test .taken) (t .size) _ (c .before .is-record .ensures) ∙ c .if3 .left))
+    (omega arith, v .inv .1, v .inv .2, stands-next w (v .at) (v .i) e (v .inv .3) (c .before .before .before .before .before .before .before .before .before .loop-test .taken) (t .size), marked-other _ _ _ _ _ _ h _ _ _ _ _ (v .inv .4) (record-here w (v .at) (v .i) e (v .inv .3) (c .before .before .before .before .before .before .before .before .before .loop-test .taken) (t .size) _ (c .before .is-record .ensures) ∙ c .if3 .left))
 
 loop-less-4 : tie.Need-loop-less-4 Inv-loop μ-loop
 loop-less-4 c =
@@ -156,7 +156,7 @@ loop-again-4 c =
     let t = handed w (v .at) (c .before .before .before .before .line .result) (c .before .before .before .before .before .before .loop-test .taken) (c .before .before .before .before .line .ensures) in
     let e = c .before .before .before .before .line .result .span .to in
     let h = hash-here w (v .at) (v .i) e (v .inv .3) (c .before .before .before .before .before .before .loop-test .taken) (t .size) _ _ (c .before .before .hash-line .ensures) in
-    (omega arith, v .inv .1, v .inv .2, stands-next w (v .at) (v .i) e (v .inv .3) (c .before .before .before .before .before .before .loop-test .taken) (t .size), marked-skip _ _ _ _ _ _ h _ _ _ _ (v .inv .4) (λ o. c .if2 .left (c .before .find-lane .ensures ∙ o)))
+    (omega arith, v .inv .1, v .inv .2, stands-next w (v .at) (v .i) e (v .inv .3) (c .before .before .before .before .before .before .loop-test .taken) (t .size), marked-skip _ _ _ _ _ _ h _ _ _ _ _ (v .inv .4) (λ o. c .if2 .left (c .before .find-lane .ensures ∙ o)))
 
 same-length-3 : tie.Need-same-length-3 Inv-loop μ-loop
 same-length-3 c = search needs
