@@ -44,8 +44,8 @@ pub fn wipe(g: &mut [u32]) {
     }
 }
 
-// Marks a key as referred to; 1 if it was not before.
-pub fn note_key(g: &mut [u32], h: u64) -> usize
+// At the first entry from a key's slot on that is its mark or 0, puts what is to stand there in either case; 1 if it was 0.
+fn put_entry(g: &mut [u32], h: u64, marked: u32, empty: u32) -> usize
     ensures { λ r. ⌜ r ≤ 1 ⌝ }
 {
     let mark = find_mark(h);
@@ -53,10 +53,11 @@ pub fn note_key(g: &mut [u32], h: u64) -> usize
     while i < g.len() {
         let x = g[i];
         if x == mark {
+            g[i] = marked;
             return 0;
         }
         if x == 0 {
-            g[i] = mark;
+            g[i] = empty;
             return 1;
         }
         i += 1;
@@ -64,7 +65,15 @@ pub fn note_key(g: &mut [u32], h: u64) -> usize
     0
 }
 
-fn narrow(at: usize) -> u32
+// Marks a key as referred to; 1 if it was not before.
+pub fn note_key(g: &mut [u32], h: u64) -> usize
+    ensures { λ r. ⌜ r ≤ 1 ⌝ }
+{
+    let mark = find_mark(h);
+    put_entry(g, h, mark, mark)
+}
+
+pub fn narrow(at: usize) -> u32
     requires { ⌜ at < 16777216 ⌝ }
     ensures { λ r. ⌜ r < 16777216 ⌝ }
 {
@@ -73,20 +82,7 @@ fn narrow(at: usize) -> u32
 
 // Puts a record's place where its key is marked.
 pub fn note_place(g: &mut [u32], h: u64, at: usize) {
-    if PLACES <= at {
-        return;
-    }
-    let mark = find_mark(h);
-    let mut i = find_slot(h, g.len());
-    while i < g.len() {
-        let x = g[i];
-        if x == 0 {
-            return;
-        }
-        if x == mark {
-            g[i] = find_bits(h) * 16777216 + narrow(at);
-            return;
-        }
-        i += 1;
+    if at < PLACES {
+        put_entry(g, h, find_bits(h) * 16777216 + narrow(at), 0);
     }
 }

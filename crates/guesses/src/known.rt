@@ -1,26 +1,23 @@
 // What is known of a table's references while its records are read. Each has its own field, not a place in an array, so that what is
 // known stays in the machine's registers.
 
-// Of each reference, where it found its last record, and whether it is guessed; and where in the section the guesses end.
+// Of each reference, where it found its last record, and by a bit whether it is guessed; and where in the section the guesses end.
 pub struct Known {
     pub first: usize,
     pub second: usize,
     pub third: usize,
-    pub first_guessed: bool,
-    pub second_guessed: bool,
-    pub third_guessed: bool,
+    pub guessed: usize,
     pub until: usize,
 }
 
+// Nothing is guessed, so nowhere do guesses end.
 pub fn nothing_known() -> Known {
     Known {
         first: 0,
         second: 0,
         third: 0,
-        first_guessed: false,
-        second_guessed: false,
-        third_guessed: false,
-        until: 0,
+        guessed: 0,
+        until: 18446744073709551615,
     }
 }
 
@@ -43,21 +40,13 @@ pub fn keep_place(k: Known, r: usize, at: usize) -> Known {
         first: put_place(r == 0, at, k.first),
         second: put_place(r == 1, at, k.second),
         third: put_place(r == 2, at, k.third),
-        first_guessed: k.first_guessed,
-        second_guessed: k.second_guessed,
-        third_guessed: k.third_guessed,
+        guessed: k.guessed,
         until: k.until,
     }
 }
 
 pub fn is_guessed(k: Known, r: usize) -> bool {
-    if r == 0 {
-        return k.first_guessed;
-    }
-    if r == 1 {
-        return k.second_guessed;
-    }
-    k.third_guessed
+    k.guessed & 1 << r % 64 != 0
 }
 
 // From now on with guesses for a reference.
@@ -66,9 +55,7 @@ pub fn let_guess(k: Known, r: usize) -> Known {
         first: k.first,
         second: k.second,
         third: k.third,
-        first_guessed: r == 0 || k.first_guessed,
-        second_guessed: r == 1 || k.second_guessed,
-        third_guessed: r == 2 || k.third_guessed,
+        guessed: k.guessed | 1 << r % 64,
         until: k.until,
     }
 }
@@ -78,9 +65,7 @@ pub fn keep_end(k: Known, until: usize) -> Known {
         first: k.first,
         second: k.second,
         third: k.third,
-        first_guessed: k.first_guessed,
-        second_guessed: k.second_guessed,
-        third_guessed: k.third_guessed,
+        guessed: k.guessed,
         until: until,
     }
 }

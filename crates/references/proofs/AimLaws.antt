@@ -14,6 +14,7 @@ use Rattle.page.specs.Fields.{fields}
 use Rattle.page.specs.Tables.{MOST, table-at, width}
 use Rattle.page.specs.Order.{Order, arranged}
 use Rattle.page.specs.File.{any, by-primary, lost, first-record, filedOf}
+use Rattle.page.specs.Answers.{sound}
 use Rattle.page.specs.declared.Refusal.{Refusal}
 use Rattle.page.proofs.TableLaws.{references-le}
 use Rattle.tables.specs.declared.choices.Choice.{Choice}
@@ -161,6 +162,20 @@ module _ (s : Bytes) (seats : Seats) (z : Ready s seats) where
           let p : (l - 1) + 1 ≡ l = omega arith in
           let a = lost-at s seats z (n - 1) (l - 1) (omega arith) (y .none e .1) (sym q ∙ sym p) in
           record { none = λ x. absurd (omega arith); some = λ x. sym (rw (o, p) at a) }
+
+  module _ (n : ℕ) (y : Looked s seats n sound) (l : ℕ) (q : l ≡ lost-line s seats (seat-at seats n)) where
+    pub looked-next : l ≡ 0 → Looked s seats (n + 1) sound
+    looked-next f =
+        record { none = λ e. (refl, λ m h. below-more _ _ (y .none refl .1) (sym q ∙ f) m (omega arith)); some = λ x. absurd (x refl) }
+
+    pub looked-here : (l ≡ 0 → ⊥) → n < seats .count → (k : ℕ) → Looked s seats k (record { number = 20; section = n + 1; line = l })
+    looked-here f h k =
+        let p : (l - 1) + 1 ≡ l = omega arith in
+        let a = lost-at s seats z n (l - 1) h (y .none refl .1) (sym q ∙ sym p) in
+        record { none = λ x. absurd (omega arith); some = λ x. sym (rw p at a) }
+
+  pub looked-end : (n : ℕ) → Looked s seats n sound → seats .count ≤ n → Looked s seats (seats .count) sound
+  looked-end n y h = record { none = λ e. (refl, λ m l. y .none refl .1 m (omega arith)); some = λ x. absurd (x refl) }
 
   pub looked-all : (r : Refusal) → Looked s seats (seats .count) r → r ≡ first-record 20 (λ before. lost (filedOf s)) [] (filedOf s)
   looked-all r y = by (eqb (r .number) 0) refl

@@ -4,17 +4,21 @@ ghost use mathlib.Core.Bool.{true};
 ghost use mathlib.Core.List.{[]};
 ghost use Prim.Native.Nat.{_-_, _<_, _≤_};
 ghost use lib.ListN.{length, take, drop};
+ghost use Rattle.page.specs.Lines.{lines};
 ghost use Rattle.page.specs.Tables.{MOST};
 ghost use Rattle.page.specs.File.{lost, first-record, filedOf};
+ghost use Rattle.scans.specs.Scan.{first-line};
 ghost use Rattle.seats.specs.Seating.{seat-at, Ready};
 ghost use Rattle.seats.specs.Faults.{lost-line, Looked};
-ghost use Rattle.references.specs.Aims.{aim-at, reached, lacks-some, Within};
+ghost use Rattle.references.specs.Aims.{aim-at, reached, lacks-some, lacks-any, Within};
 use crate::aims::Aim;
 use crate::aims::Aims;
 use crate::aims::find_aim;
 use crate::aims::take_aims;
 use crate::children::guess_from;
-use crate::children::hash_reference;
+use crate::children::guess_target;
+use crate::children::hash_sought;
+use crate::children::recall;
 use guesses::Known;
 use guesses::finds_guessed;
 use guesses::finds_near;
@@ -22,7 +26,6 @@ use guesses::is_guessed;
 use guesses::keep_place;
 use guesses::last_place;
 use guesses::let_guess;
-use guesses::nothing_known;
 use keys::Key;
 use lines::Cursor;
 use page::Refusal;
@@ -38,20 +41,16 @@ struct Reach {
     known: Known,
 }
 
-// How many lines from the last record on are read before guesses are made.
-const NEAR: usize = 16;
+// Files of fewer bytes are short, and so are sections.
+const FEW: usize = 8192;
 
-// Is the record that a key names soon found? `at` is the place in section w of the line that refers to it.
-fn reaches_soon(
-    s: &[u8],
-    w: &[u8],
-    at: usize,
-    a: Aim,
-    r: usize,
-    key: Key,
-    known: Known,
-    g: &[u32],
-) -> Find
+// How many lines from the last record on are read before guesses are made: fewer in a short file, where these cost little.
+fn count_near(size: usize) -> usize {
+    if size < FEW { 4 } else { 16 }
+}
+
+// Is the record that a key names soon found? `at` is the place in its section of the line that refers to it.
+fn reaches_soon(s: &[u8], at: usize, a: Aim, r: usize, key: Key, known: Known, g: &[u32]) -> Find
     requires { ⌜ (a .from ≤ a .to) × (a .to ≤ length (now s)) ⌝ }
     ensures { λ x. ⌜ (x .met ≡ true → reached (now (s .entry)) a (key .k) ≡ true) ⌝ }
 {
@@ -59,10 +58,16 @@ fn reaches_soon(
     let to = a.to;
     if at < known.until {
         if is_guessed(known, r) {
-            return finds_guessed(&s[from..to], g, hash_reference(w, at, a), a.key, key);
+            return finds_guessed(&s[from..to], g, hash_sought(key, a), a.key, key);
         }
     }
-    finds_near(&s[from..to], last_place(known, r), NEAR, a.key, key)
+    finds_near(
+        &s[from..to],
+        last_place(known, r),
+        count_near(s.len()),
+        a.key,
+        key,
+    )
 }
 
 // With guesses for a reference, unless it has them at a place.
@@ -75,30 +80,25 @@ fn guess_more(
     known: Known,
     g: &mut [u32],
 ) -> Known
-    requires { ⌜ Within (now s) aims ⌝ }
+    requires { ⌜ Within (now s) aims × (r < MOST) ⌝ }
 {
     if at < known.until {
         if is_guessed(known, r) {
             return known;
         }
     }
+    if s.len() < FEW {
+        guess_target(s, find_aim(aims, r), g);
+        return let_guess(known, r);
+    }
     guess_from(s, w, at, aims, let_guess(known, r), g)
 }
 
-fn reaches_late(
-    s: &[u8],
-    w: &[u8],
-    at: usize,
-    a: Aim,
-    r: usize,
-    key: Key,
-    known: Known,
-    g: &[u32],
-) -> Find
+fn reaches_late(s: &[u8], at: usize, a: Aim, r: usize, key: Key, known: Known, g: &[u32]) -> Find
     requires { ⌜ (a .from ≤ a .to) × (a .to ≤ length (now s)) ⌝ }
     ensures { λ x. ⌜ x .met ≡ reached (now (s .entry)) a (key .k) ⌝ }
 {
-    let x = reaches_soon(s, w, at, a, r, key, known, g);
+    let x = reaches_soon(s, at, a, r, key, known, g);
     if x.met {
         return x;
     }
@@ -122,7 +122,7 @@ fn reaches(
     ensures { λ x. ⌜ x .met ≡ reached (now (s .entry)) (aim-at aims r) (key .k) ⌝ }
 {
     let a = find_aim(aims, r);
-    let soon = reaches_soon(s, w, at, a, r, key, known, &g[..]);
+    let soon = reaches_soon(s, at, a, r, key, known, &g[..]);
     if soon.met {
         return Reach {
             met: true,
@@ -130,7 +130,7 @@ fn reaches(
         };
     }
     let more = guess_more(s, w, at, aims, r, known, g);
-    let late = reaches_late(s, w, at, a, r, key, more, &g[..]);
+    let late = reaches_late(s, at, a, r, key, more, &g[..]);
     Reach {
         met: late.met,
         known: keep_place(more, r, late.at),
@@ -186,28 +186,21 @@ fn loses(
     }
 }
 
-// The first line of section i with a reference that finds no record, from 1; 0 if there is none. Guesses are made in the room g.
-fn lost_in(s: &[u8], seats: Seats, i: usize, g: &mut [u32]) -> usize
-    requires { ⌜ Ready (now s) seats × (i < seats .count) ⌝ }
-    ensures { λ r. ⌜ r ≡ lost-line (now (s .entry)) seats (seat-at seats i) ⌝ }
+// The first line of section w of table t with a reference that finds no record, from 1; 0 if there is none.
+fn lost_among(s: &[u8], w: &[u8], t: usize, aims: Aims, first: Known, g: &mut [u32]) -> usize
+    requires { ⌜ Within (now s) aims ⌝ }
+    ensures { λ r. ⌜ r ≡ first-line (lacks-any (now (s .entry)) aims t) [] 0 (lines (now (w .entry))) ⌝ }
 {
-    let seat = find_seat(seats, i);
-    let from = seat.from;
-    let to = seat.to;
-    let t = seat.table;
-    let size = to - from;
-    let order = find_order(s, seats, i);
-    let aims = take_aims(s, seats, t, &order);
-    let mut known = nothing_known();
+    let mut known = first;
     let mut at: usize = 0;
     let mut n: usize = 0;
-    while at < size {
+    while at < w.len() {
         let here = at;
-        let l = Cursor { at: here }.line(&s[from..to]);
+        let l = Cursor { at: here }.line(w);
         let e = l.span.to;
         at = e;
         n += 1;
-        let x = loses(s, &s[from..to], here, e, t, aims, known, g);
+        let x = loses(s, w, here, e, t, aims, known, g);
         known = x.known;
         if x.lost {
             return n;
@@ -216,10 +209,25 @@ fn lost_in(s: &[u8], seats: Seats, i: usize, g: &mut [u32]) -> usize
     0
 }
 
-// A section of so few bytes refers to few records.
-const FEW: usize = 8192;
+// The same of section i. Guesses are made in the room g.
+fn lost_in(s: &[u8], seats: Seats, i: usize, g: &mut [u32]) -> usize
+    requires { ⌜ Ready (now s) seats × (i < seats .count) ⌝ }
+    ensures { λ r. ⌜ r ≡ lost-line (now (s .entry)) seats (seat-at seats i) ⌝ }
+{
+    let seat = find_seat(seats, i);
+    let from = seat.from;
+    let to = seat.to;
+    let t = seat.table;
+    if tables::count_references(t) == 0 {
+        return 0;
+    }
+    let order = find_order(s, seats, i);
+    let aims = take_aims(s, seats, t, &order);
+    let known = recall(aims, &g[..]);
+    lost_among(s, &s[from..to], t, aims, known, g)
+}
 
-// Entries of the room for the guesses of such a section, and of that for any other.
+// Entries of the room for the guesses of a short section or file, and of that for any other section.
 const LITTLE: usize = 2048;
 
 const MUCH: usize = 57344;
@@ -240,7 +248,7 @@ fn lost_by_many(s: &[u8], seats: Seats, i: usize) -> usize
     lost_in(s, seats, i, &mut g)
 }
 
-// No room is made for a table without references, and little for few bytes.
+// Little room is made for few bytes.
 fn lost_line(s: &[u8], seats: Seats, i: usize) -> usize
     requires { ⌜ Ready (now s) seats × (i < seats .count) ⌝ }
     ensures { λ r. ⌜ r ≡ lost-line (now (s .entry)) seats (seat-at seats i) ⌝ }
@@ -248,9 +256,6 @@ fn lost_line(s: &[u8], seats: Seats, i: usize) -> usize
     let seat = find_seat(seats, i);
     let from = seat.from;
     let to = seat.to;
-    if tables::count_references(seat.table) == 0 {
-        return 0;
-    }
     let size = to - from;
     if size < FEW {
         return lost_by_few(s, seats, i);
@@ -286,10 +291,38 @@ fn lost_before(s: &[u8], seats: Seats, n: usize) -> Refusal
     }
 }
 
+// In a short file one room serves all sections, which refer to the same tables.
+fn lost_in_short(s: &[u8], seats: Seats) -> Refusal
+    requires { ⌜ Ready (now s) seats ⌝ }
+    ensures { λ r. ⌜ Looked (now (s .entry)) seats (seats .count) r ⌝ }
+{
+    let mut g: [u32; LITTLE] = [0; LITTLE];
+    let mut n: usize = 0;
+    while n < seats.count {
+        let line = lost_in(s, seats, n, &mut g);
+        n += 1;
+        if line != 0 {
+            return Refusal {
+                number: 20,
+                section: n,
+                line: line,
+            };
+        }
+    }
+    Refusal {
+        number: 0,
+        section: 0,
+        line: 0,
+    }
+}
+
 // "each at the first record in file order that breaks it"
 pub fn first_lost(s: &[u8], seats: Seats) -> Refusal
     requires { ⌜ Ready (now s) seats ⌝ }
     ensures { λ r. ⌜ r ≡ first-record 20 (λ before. lost (filedOf (now (s .entry)))) [] (filedOf (now (s .entry))) ⌝ }
 {
+    if s.len() < FEW {
+        return lost_in_short(s, seats);
+    }
     lost_before(s, seats, seats.count)
 }

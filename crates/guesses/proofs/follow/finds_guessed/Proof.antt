@@ -1,7 +1,6 @@
 -- `guesses::follow::finds_guessed` meets its contract. Assumes nothing.
-use Prim.Native.Nat.{ℕ, _-_, _≤_}
-use mathlib.Core.Path.{_≡_}
-use native.Mathlib.Omega.{arith}
+use Prim.Native.Nat.{_-_, _≤_}
+use mathlib.Core.Bool.{false≢true}
 use lib.ListN.{length}
 use borrow.Author.Needs.{needs}
 use Rattle.guesses.proofs.follow.finds_guessed.Statement.{statement}
@@ -35,7 +34,7 @@ add-i c = search needs
 
 returns : tie.Need-returns Inv-loop μ-loop
 returns c =
-    λ e. absurd (let z : _≡_ {A = ℕ} 0 1 = cc in omega arith)
+    λ e. absurd (false≢true e)
 
 place-of-requires : tie.Need-place-of-requires Inv-loop μ-loop
 place-of-requires c κs = search needs
@@ -61,7 +60,7 @@ loop-again-2 c = search needs
 
 returns-3 : tie.Need-returns-3 Inv-loop μ-loop
 returns-3 c =
-    λ e. absurd (let z : _≡_ {A = ℕ} 0 1 = cc in omega arith)
+    λ e. absurd (false≢true e)
 
 pub finds-guessed-spec : {M : Type 1} → statement M
 finds-guessed-spec =

@@ -3,8 +3,9 @@ use Rattle.guesses.proofs.FollowLaws.{near-hit}
 use Rattle.scans.proofs.ScanLaws.{starts-first, starts-next}
 use Rattle.scans.specs.Scan.{Starts}
 use Rattle.lines.proofs.CursorLaws.{handed}
-use Prim.Native.Nat.{ℕ, _-_, _≤_}
-use mathlib.Core.Path.{_≡_, sym, _∙_}
+use Prim.Native.Nat.{_-_, _≤_}
+use mathlib.Core.Bool.{false≢true}
+use mathlib.Core.Path.{sym, _∙_}
 use native.Mathlib.Omega.{arith}
 use borrow.Author.Needs.{needs}
 use Rattle.guesses.proofs.follow.finds_near.Statement.{statement}
@@ -75,7 +76,7 @@ loop-again-2 c =
 
 returns-2 : tie.Need-returns-2 Inv-loop μ-loop
 returns-2 c =
-    λ e. absurd (let z : _≡_ {A = ℕ} 0 1 = cc in omega arith)
+    λ e. absurd (false≢true e)
 
 pub finds-near-spec : {M : Type 1} → statement M
 finds-near-spec =

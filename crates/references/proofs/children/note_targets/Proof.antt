@@ -7,11 +7,11 @@ use Rattle.references.proofs.children.note_targets.Statement.{statement
 use Rattle.references.proofs.children.note_targets.Tie as tie
 
 abbrev Inv-loop : tie.InvT-loop
-Inv-loop w t choice g₀ from₀ g from =
+Inv-loop w t choice marked g₀ from₀ g from =
     length g ≡ length g₀
 
 abbrev μ-loop : tie.MeasureT-loop
-μ-loop w t choice g₀ from₀ g from =
+μ-loop w t choice marked g₀ from₀ g from =
     length w - from
 
 loop-holds : tie.Need-loop-holds Inv-loop μ-loop
@@ -29,15 +29,15 @@ returns c = search needs
 widen-requires : tie.Need-widen-requires Inv-loop μ-loop
 widen-requires c κs = search needs
 
-note-place-requires : tie.Need-note-place-requires Inv-loop μ-loop
-note-place-requires c κs = search needs
+note-target-requires : tie.Need-note-target-requires Inv-loop μ-loop
+note-target-requires c κs = search needs
 
 loop-less : tie.Need-loop-less Inv-loop μ-loop
 loop-less c = search needs
 
 loop-again : tie.Need-loop-again Inv-loop μ-loop
 loop-again c =
-    c .before .before .note-place .kept .0 ∙ c .before .before .before .before .before .before .before .before .before .loop .inv
+    c .before .before .note-target .kept .0 ∙ c .before .before .before .before .before .before .before .before .before .loop .inv
 
 same-length-2 : tie.Need-same-length-2 Inv-loop μ-loop
 same-length-2 c = search needs
@@ -56,7 +56,7 @@ note-targets-spec =
     same-length
     returns
     widen-requires
-    note-place-requires
+    note-target-requires
     loop-less
     loop-again
     same-length-2

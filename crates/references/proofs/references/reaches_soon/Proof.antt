@@ -17,8 +17,8 @@ part-finds-guessed-start c = search needs
 part-finds-guessed-end : tie.Need-part-finds-guessed-end
 part-finds-guessed-end c = search needs
 
-hash-reference-requires : tie.Need-hash-reference-requires
-hash-reference-requires c κs = search needs
+hash-sought-requires : tie.Need-hash-sought-requires
+hash-sought-requires c κs = search needs
 
 finds-guessed-requires : tie.Need-finds-guessed-requires
 finds-guessed-requires c κs = search needs
@@ -40,6 +40,9 @@ part-finds-near-end c = search needs
 last-place-requires : tie.Need-last-place-requires
 last-place-requires c κs = search needs
 
+count-near-requires : tie.Need-count-near-requires
+count-near-requires c κs = search needs
+
 finds-near-requires : tie.Need-finds-near-requires
 finds-near-requires c κs = search needs
 
@@ -56,12 +59,13 @@ reaches-soon-spec =
     sub-finds-guessed
     part-finds-guessed-start
     part-finds-guessed-end
-    hash-reference-requires
+    hash-sought-requires
     finds-guessed-requires
     returns
     sub-finds-near
     part-finds-near-start
     part-finds-near-end
     last-place-requires
+    count-near-requires
     finds-near-requires
     returns-2)

@@ -1,17 +1,17 @@
--- `guesses::guesses::note_key` meets its contract. Assumes nothing.
+-- `guesses::guesses::put_entry` meets its contract. Assumes nothing.
 use Prim.Native.Nat.{_-_}
 use mathlib.Core.Path.{_≡_}
 use lib.ListN.{length}
 use borrow.Author.Needs.{needs}
-use Rattle.guesses.proofs.guesses.note_key.Statement.{statement}
-use Rattle.guesses.proofs.guesses.note_key.Tie as tie
+use Rattle.guesses.proofs.guesses.put_entry.Statement.{statement}
+use Rattle.guesses.proofs.guesses.put_entry.Tie as tie
 
 abbrev Inv-loop : tie.InvT-loop
-Inv-loop g₀ h mark i₀ g i =
+Inv-loop g₀ h marked empty mark i₀ g i =
     length g ≡ length g₀
 
 abbrev μ-loop : tie.MeasureT-loop
-μ-loop g₀ h mark i₀ g i =
+μ-loop g₀ h marked empty mark i₀ g i =
     length g₀ - i
 
 find-mark-requires : tie.Need-find-mark-requires Inv-loop μ-loop
@@ -29,17 +29,23 @@ mul-x c = search needs
 slice-read-x : tie.Need-slice-read-x Inv-loop μ-loop
 slice-read-x c = search needs
 
+mul-g : tie.Need-mul-g Inv-loop μ-loop
+mul-g c = search needs
+
+slice-write-g : tie.Need-slice-write-g Inv-loop μ-loop
+slice-write-g c = search needs
+
 same-length : tie.Need-same-length Inv-loop μ-loop
 same-length c = search needs
 
 returns : tie.Need-returns Inv-loop μ-loop
 returns c = search needs
 
-mul-g : tie.Need-mul-g Inv-loop μ-loop
-mul-g c = search needs
+mul-g-2 : tie.Need-mul-g-2 Inv-loop μ-loop
+mul-g-2 c = search needs
 
-slice-write-g : tie.Need-slice-write-g Inv-loop μ-loop
-slice-write-g c = search needs
+slice-write-g-2 : tie.Need-slice-write-g-2 Inv-loop μ-loop
+slice-write-g-2 c = search needs
 
 same-length-2 : tie.Need-same-length-2 Inv-loop μ-loop
 same-length-2 c = search needs
@@ -62,8 +68,8 @@ same-length-3 c = search needs
 returns-3 : tie.Need-returns-3 Inv-loop μ-loop
 returns-3 c = search needs
 
-pub note-key-spec : {M : Type 1} → statement M
-note-key-spec =
+pub put-entry-spec : {M : Type 1} → statement M
+put-entry-spec =
     tie.close
     (tie.spec
     Inv-loop
@@ -73,10 +79,12 @@ note-key-spec =
     loop-holds
     mul-x
     slice-read-x
-    same-length
-    returns
     mul-g
     slice-write-g
+    same-length
+    returns
+    mul-g-2
+    slice-write-g-2
     same-length-2
     returns-2
     add-i
