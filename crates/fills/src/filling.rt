@@ -1,16 +1,13 @@
-// Why a fill is refused, before it is asked whether the form has room.
+// Why a fill is refused where the file is accepted and the field is there.
 ghost use mathlib.Core.Path.{_≡_};
 ghost use Prim.Native.Nat.{_-_, _<_};
 ghost use Rattle.page.specs.Tables.{column-at};
 ghost use Rattle.page.specs.Head.{latinOf};
 ghost use Rattle.page.specs.Records.{table-of};
 ghost use Rattle.page.specs.Reading.{section-at, find-refusal};
-ghost use Rattle.page.specs.Writing.{fill-refusal};
 ghost use Rattle.fills.specs.Filling.{empty-value, text-number, fill-number};
-use page::Got;
-use page::Refusal;
+use names::table_at;
 use page::Value;
-use recording::read_table;
 use sections::Located;
 
 // "text empty 11, text byte not allowed in a `rec` 4, over 40 bytes 13"
@@ -46,13 +43,13 @@ fn is_fillable(s: &[u8], i: usize, f: usize) -> bool
     ensures { λ r. ⌜ r ≡ column-at (table-of (section-at (now (s .entry)) i .lines)) (f - 1) .fillable ⌝ }
 {
     match sections::locate(s, i) {
-        Located::At(at) => tables::is_fillable(read_table(&s[at..]), f - 1),
+        Located::At(at) => tables::is_fillable(table_at(s, at), f - 1),
         Located::Refused(_) => false,
     }
 }
 
 // v is the value of field f, from 1, of a record of section i.
-fn judge_fill(s: &[u8], i: usize, f: usize, v: Value, text: &[u8]) -> u32
+pub fn judge_fill(s: &[u8], i: usize, f: usize, v: Value, text: &[u8]) -> u32
     requires { ⌜ (find-refusal (now s) i .number ≡ 0) × (0 < f) ⌝ }
     ensures { λ r.
         ⌜ r ≡ fill-number (column-at (table-of (section-at (now (s .entry)) i .lines)) (f - 1) .fillable) (empty-value v) (latinOf (now (s .entry))) (now (text .entry)) ⌝ }
@@ -64,22 +61,4 @@ fn judge_fill(s: &[u8], i: usize, f: usize, v: Value, text: &[u8]) -> u32
         return 22;
     }
     judge_text(s, text)
-}
-
-// "Order: verdict, 24, 23, 22, text empty 11, text byte not allowed in a `rec` 4, over 40 bytes 13"
-pub fn refuse_fill(s: &[u8], section: usize, record: usize, field: usize, text: &[u8]) -> Refusal
-    ensures { λ r. ⌜ r ≡ fill-refusal (now (s .entry)) section «record» field (now (text .entry)) ⌝ }
-{
-    let verdict = files::check_file(s);
-    if verdict.number != 0 {
-        return verdict;
-    }
-    match values::value(s, section, record, field) {
-        Got::Is(v) => Refusal {
-            number: judge_fill(s, section, field, v, text),
-            section: 0,
-            line: 0,
-        },
-        Got::Refused(x) => x,
-    }
 }

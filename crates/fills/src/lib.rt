@@ -1,4 +1,4 @@
-// What refuses a fill.
+// What refuses the fill of a field that is there.
 mod filling;
 
-pub use filling::refuse_fill;
+pub use filling::judge_fill;

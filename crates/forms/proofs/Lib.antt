@@ -1,7 +1,1 @@
-pub mod SoundLaws
-pub mod RoomLaws
-pub mod HeadLaws
-pub mod ModelLaws
-pub mod HeaderLaws
-pub mod FormLaws
-pub mod FillLaws
+pub mod FillingLaws

@@ -1,6 +1,5 @@
-// The written form of a file: written, filled and stripped by one writer into lent output.
+// A file written, stripped and filled, and what refuses it.
 mod answer;
-mod file;
 
 pub use answer::fill;
 pub use answer::strip;

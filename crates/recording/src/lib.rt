@@ -4,4 +4,3 @@ mod section;
 
 pub use section::Progress;
 pub use section::put_section;
-pub use section::read_table;

@@ -22,6 +22,7 @@ ghost use Rattle.recording.specs.Said.{row};
 use copies::Plan;
 use copies::all_written;
 use decimals::put_decimal;
+use frames::put_line;
 use frames::put_mark;
 use output::put_bytes;
 use output::put_line_end;
@@ -233,8 +234,7 @@ pub fn put_record(
     let i = column_in(o, t, m);
     if is_kept(w, listed, i, plan) {
         let a = put_bytes(out, at, b"rec;");
-        let b = put_bytes(out, a, w);
-        return put_line_end(out, b, ends);
+        return put_line(out, a, ends, w);
     }
     let a = put_marks(out, at, t, i, plan);
     let b = put_bytes(out, a, b"rec");

@@ -110,7 +110,7 @@ fn put_records(
 }
 
 // The table that the section's first line names.
-pub fn read_table(s: &[u8]) -> usize
+fn read_table(s: &[u8]) -> usize
     requires { ⌜ 0 < length (now s) ⌝ }
     ensures { λ r. ⌜ r ≡ table-of (lines (now (s .entry))) ⌝ }
 {

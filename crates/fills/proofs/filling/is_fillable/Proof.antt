@@ -1,11 +1,11 @@
 -- `fills::filling::is_fillable` meets its contract. Assumes nothing.
-use mathlib.Core.Path.{ap, _∙_}
+use mathlib.Core.Path.{ap, sym, _∙_}
 use Prim.Native.Nat.{ℕ, _-_}
-use native.Mathlib.Omega.{arith}
 use borrow.Author.Needs.{needs}
+use Rattle.page.specs.Cut.{Section}
 use Rattle.page.specs.Tables.{column-at}
+use Rattle.page.specs.Records.{table-of}
 use Rattle.page.specs.declared.Refusal.{Refusal}
-use Rattle.fills.proofs.FillingLaws.{from-some, table-begun}
 use Rattle.fills.proofs.filling.is_fillable.Statement.{statement}
 use Rattle.fills.proofs.filling.is_fillable.Tie as tie
 
@@ -15,23 +15,8 @@ locate-requires c κs = search needs
 enum-known-at : tie.Need-enum-known-at
 enum-known-at c = search needs
 
-sub-read-table : tie.Need-sub-read-table
-sub-read-table c =
-    let b = rw (c .before .at .given .1) at (c .before .before .before .locate .ensures .1) in
-    omega (arith, b .inside)
-
-part-read-table-start : tie.Need-part-read-table-start
-part-read-table-start c =
-    let b = rw (c .before .at .given .1) at (c .before .before .before .locate .ensures .1) in
-    omega (arith, b .inside)
-
-part-read-table-end : tie.Need-part-read-table-end
-part-read-table-end c = search needs
-
-read-table-requires : tie.Need-read-table-requires
-read-table-requires c κs =
-    let b = rw (c .before .before .at .given .1) at (c .before .before .before .before .locate .ensures .1) in
-    from-some (c .before .before .before .before .before .before .args .s .now) _ (b .inside)
+table-at-requires : tie.Need-table-at-requires
+table-at-requires c κs = rw (c .before .at .given .1) at (c .before .before .before .locate .ensures .1) .inside
 
 sub-is-fillable : tie.Need-sub-is-fillable
 sub-is-fillable c = search needs
@@ -44,9 +29,9 @@ enum-told c = search needs
 
 returns : tie.Need-returns
 returns c =
-    let a = c .before .before .before .before .before .before .before .before .args in
-    let b = rw (c .before .before .before .before .at .given .1) at (c .before .before .before .before .before .before .locate .ensures .1) in
-    let t = c .before .read-table .ensures ∙ table-begun (a .s .now) _ _ b in
+    let a = c .before .before .before .before .before .before .before .args in
+    let b = rw (c .before .before .before .at .given .1) at (c .before .before .before .before .before .locate .ensures .1) in
+    let t = c .before .table-at .ensures ∙ ap (λ (x : Section). table-of (x .lines)) (sym (b .is)) in
     c .is-fillable .ensures ∙ ap (λ (n : ℕ). column-at n (a .f - 1) .fillable) t
 
 returns-2 : tie.Need-returns-2
@@ -60,10 +45,7 @@ is-fillable-spec =
     (tie.spec
     locate-requires
     enum-known-at
-    sub-read-table
-    part-read-table-start
-    part-read-table-end
-    read-table-requires
+    table-at-requires
     sub-is-fillable
     is-fillable-requires
     enum-told

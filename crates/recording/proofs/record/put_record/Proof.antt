@@ -30,9 +30,9 @@ slice-aggregate-put-bytes c = search needs
 put-bytes-requires : tie.Need-put-bytes-requires
 put-bytes-requires c κs = search needs
 
-put-bytes-requires-2 : tie.Need-put-bytes-requires-2
+put-line-requires : tie.Need-put-line-requires
 unfolding record-by
-put-bytes-requires-2 c κs =
+put-line-requires c κs =
     let a = c .before .before .before .before .before .before .before .before .before .before .before .before .args in
     let q = c .before .before .before .before .before .before .before .before .before .before .before .before .pre in
     let w = a .w .now in
@@ -43,34 +43,21 @@ put-bytes-requires-2 c κs =
     let z = passed-wrong (a .t) o (a .m) (fields w) (q .4) in
     omega (arith, q .0, copied-length (a .plan .ends) (a .plan .strip) (a .text .now) (a .plan .field) (column-in o (a .m)) (a .t) o w n z (q .3 (k .0)) (i, k .2, k .3), c .before .before .before .put-bytes .ensures .next)
 
-put-line-end-requires : tie.Need-put-line-end-requires
-unfolding record-by
-put-line-end-requires c κs =
-    let a = c .before .before .before .before .before .before .before .before .before .before .before .before .before .before .before .before .args in
-    let q = c .before .before .before .before .before .before .before .before .before .before .before .before .before .before .before .before .pre in
-    let w = a .w .now in
-    let o = held (a .t) (a .o .now) in
-    let k = c .before .before .before .before .before .before .before .before .before .before .before .is-kept .ensures (c .before .before .before .before .before .before .before .before .before .before .if1 .taken) in
-    let i = sym (c .before .before .before .before .before .before .before .before .before .before .before .before .column-in .ensures) ∙ k .1 in
-    let n = passed-width (a .t) o (a .m) (fields w) (q .4) in
-    let z = passed-wrong (a .t) o (a .m) (fields w) (q .4) in
-    omega (arith, q .0, copied-length (a .plan .ends) (a .plan .strip) (a .text .now) (a .plan .field) (column-in o (a .m)) (a .t) o w n z (q .3 (k .0)) (i, k .2, k .3), c .before .before .before .before .before .before .before .put-bytes .ensures .next, c .before .before .before .put-bytes2 .ensures .next)
-
 same-length : tie.Need-same-length
 same-length c = search needs
 
 returns : tie.Need-returns
 unfolding bytes record-by
 returns c =
-    let a = c .before .before .before .before .before .before .before .before .before .before .before .before .before .before .before .before .before .before .before .args in
-    let q = c .before .before .before .before .before .before .before .before .before .before .before .before .before .before .before .before .before .before .before .pre in
+    let a = c .before .before .before .before .before .before .before .before .before .before .before .before .before .before .before .args in
+    let q = c .before .before .before .before .before .before .before .before .before .before .before .before .before .before .before .pre in
     let w = a .w .now in
     let o = held (a .t) (a .o .now) in
-    let k = c .before .before .before .before .before .before .before .before .before .before .before .before .before .before .is-kept .ensures (c .before .before .before .before .before .before .before .before .before .before .before .before .before .if1 .taken) in
-    let i = sym (c .before .before .before .before .before .before .before .before .before .before .before .before .before .before .before .column-in .ensures) ∙ k .1 in
+    let k = c .before .before .before .before .before .before .before .before .before .before .is-kept .ensures (c .before .before .before .before .before .before .before .before .before .if1 .taken) in
+    let i = sym (c .before .before .before .before .before .before .before .before .before .before .before .column-in .ensures) ∙ k .1 in
     let n = passed-width (a .t) o (a .m) (fields w) (q .4) in
     let z = passed-wrong (a .t) o (a .m) (fields w) (q .4) in
-    put-as (record-copied (a .plan .ends) (a .plan .strip) (a .text .now) (a .plan .field) (column-in o (a .m)) (a .t) o w n z (q .3 (k .0)) (i, k .2, k .3)) (puts (c .before .before .before .before .before .before .before .before .before .before .put-bytes .ensures) (puts (c .before .before .before .before .before .before .put-bytes2 .ensures) (c .before .before .put-line-end .ensures)))
+    put-as (record-copied (a .plan .ends) (a .plan .strip) (a .text .now) (a .plan .field) (column-in o (a .m)) (a .t) o w n z (q .3 (k .0)) (i, k .2, k .3)) (puts (c .before .before .before .before .before .before .put-bytes .ensures) (c .before .before .put-line .ensures))
 
 put-marks-requires : tie.Need-put-marks-requires
 unfolding record-by
@@ -88,9 +75,9 @@ put-marks-requires c κs =
 slice-aggregate-put-bytes-2 : tie.Need-slice-aggregate-put-bytes-2
 slice-aggregate-put-bytes-2 c = search needs
 
-put-bytes-requires-3 : tie.Need-put-bytes-requires-3
+put-bytes-requires-2 : tie.Need-put-bytes-requires-2
 unfolding record-by
-put-bytes-requires-3 c κs =
+put-bytes-requires-2 c κs =
     let a = c .before .before .before .before .before .before .before .before .before .before .before .before .args in
     let q = c .before .before .before .before .before .before .before .before .before .before .before .before .pre in
     let w = a .w .now in
@@ -112,11 +99,11 @@ put-fields-requires c κs =
     let e = columns-many (a .t) o (fields w) (q .2 .arranged) in
     let n = record-length (a .plan .ends) (a .plan .strip) (a .plan .field) (i .result) (a .text .now) (columns (a .t)) (by-column o (fields w)) e in
     let room = rw (sym (i .ensures)) at (q .0) in
-    (omega (arith, room, c .before .before .before .before .before .before .before .before .put-marks .ensures .next, c .before .before .before .put-bytes3 .ensures .next), q .1, q .2, passed-width (a .t) o (a .m) (fields w) (q .4), passed-wrong (a .t) o (a .m) (fields w) (q .4))
+    (omega (arith, room, c .before .before .before .before .before .before .before .before .put-marks .ensures .next, c .before .before .before .put-bytes2 .ensures .next), q .1, q .2, passed-width (a .t) o (a .m) (fields w) (q .4), passed-wrong (a .t) o (a .m) (fields w) (q .4))
 
-put-line-end-requires-2 : tie.Need-put-line-end-requires-2
+put-line-end-requires : tie.Need-put-line-end-requires
 unfolding record-by
-put-line-end-requires-2 c κs =
+put-line-end-requires c κs =
     let a = c .before .before .before .before .before .before .before .before .before .before .before .before .before .before .before .before .before .before .before .before .args in
     let q = c .before .before .before .before .before .before .before .before .before .before .before .before .before .before .before .before .before .before .before .before .pre in
     let w = a .w .now in
@@ -125,7 +112,7 @@ put-line-end-requires-2 c κs =
     let e = columns-many (a .t) o (fields w) (q .2 .arranged) in
     let n = record-length (a .plan .ends) (a .plan .strip) (a .plan .field) (i .result) (a .text .now) (columns (a .t)) (by-column o (fields w)) e in
     let room = rw (sym (i .ensures)) at (q .0) in
-    omega (arith, room, c .before .before .before .before .before .before .before .before .before .before .before .before .put-marks .ensures .next, c .before .before .before .before .before .before .before .put-bytes3 .ensures .next, c .before .before .before .put-fields .ensures .next)
+    omega (arith, room, c .before .before .before .before .before .before .before .before .before .before .before .before .put-marks .ensures .next, c .before .before .before .before .before .before .before .put-bytes2 .ensures .next, c .before .before .before .put-fields .ensures .next)
 
 same-length-2 : tie.Need-same-length-2
 same-length-2 c = search needs
@@ -141,7 +128,7 @@ returns-2 c =
     let e = columns-many (a .t) o (fields w) (q .2 .arranged) in
     let r = record-is (a .plan .ends) (a .plan .strip) (a .plan .field) (i .result) (a .text .now) (columns (a .t)) (by-column o (fields w)) e in
     let s = ap (λ (j : ℕ). record-form (a .plan .ends) (changed-values (a .plan .strip) (a .plan .field) (a .text .now) (valuesOf j 1 (columns (a .t)) (by-column o (fields w))))) (i .ensures) in
-    put-as (r ∙ s) (puts (c .before .before .before .before .before .before .before .before .before .before .before .before .before .before .before .put-marks .ensures) (puts (c .before .before .before .before .before .before .before .before .before .before .put-bytes3 .ensures) (puts (c .before .before .before .before .before .before .put-fields .ensures) (c .before .before .put-line-end2 .ensures))))
+    put-as (r ∙ s) (puts (c .before .before .before .before .before .before .before .before .before .before .before .before .before .before .before .put-marks .ensures) (puts (c .before .before .before .before .before .before .before .before .before .before .put-bytes2 .ensures) (puts (c .before .before .before .before .before .before .put-fields .ensures) (c .before .before .put-line-end .ensures))))
 
 pub put-record-spec : {M : Type 1} → statement M
 put-record-spec =
@@ -151,14 +138,13 @@ put-record-spec =
     is-kept-requires
     slice-aggregate-put-bytes
     put-bytes-requires
-    put-bytes-requires-2
-    put-line-end-requires
+    put-line-requires
     same-length
     returns
     put-marks-requires
     slice-aggregate-put-bytes-2
-    put-bytes-requires-3
+    put-bytes-requires-2
     put-fields-requires
-    put-line-end-requires-2
+    put-line-end-requires
     same-length-2
     returns-2)

@@ -32,11 +32,11 @@ use Rattle.copies.specs.Changed.{kept-tables, changed-tables, changed-model}
 use Rattle.copies.specs.Planned.{tables-by}
 use Rattle.copies.proofs.KeptLaws.{kept-count}
 use Rattle.recording.proofs.SectionLaws.{changed-tables-count}
-use Rattle.forms.proofs.SoundLaws.{accepted-said}
-use Rattle.forms.proofs.RoomLaws.{said-length}
-use Rattle.forms.proofs.HeadLaws.{head-placed}
-use Rattle.forms.proofs.HeaderLaws.{header-texts}
-use Rattle.forms.proofs.ModelLaws.{coded, Beside, planned}
+use Rattle.writing.proofs.SoundLaws.{accepted-said}
+use Rattle.writing.proofs.RoomLaws.{said-length}
+use Rattle.writing.proofs.HeadLaws.{head-placed}
+use Rattle.writing.proofs.HeaderLaws.{header-texts}
+use Rattle.writing.proofs.ModelLaws.{coded, Beside, planned}
 
 module _ (s : Bytes) (h : file-refusal s .number ≡ 0) (p : Plan) (t : Bytes) where
   head-is : head-raw (p .ends) s (header-values (header-lines s)) ≡ head-form (p .ends) (head-values (header-lines s))

@@ -1,11 +1,11 @@
 use Rattle.page.specs.declared.Refusal.{Refusal}
-use Rattle.forms.proofs.FormLaws.{strip-done}
+use Rattle.writing.proofs.FormLaws.{strip-done}
 use Prim.Native.Nat.{_-_}
 use mathlib.Core.Path.{ap, sym, _∙_}
 use native.Mathlib.Omega.{arith}
 use borrow.Author.Needs.{needs}
-use Rattle.forms.proofs.answer.strip_checked.Statement.{statement}
-use Rattle.forms.proofs.answer.strip_checked.Tie as tie
+use Rattle.writing.proofs.checked.strip_checked.Statement.{statement}
+use Rattle.writing.proofs.checked.strip_checked.Tie as tie
 
 slice-aggregate-hand-form : tie.Need-slice-aggregate-hand-form
 slice-aggregate-hand-form c = search needs

@@ -40,7 +40,7 @@ use Rattle.copies.specs.Planned.{tables-by}
 use Rattle.copies.specs.declared.plan.Plan.{Plan}
 use Rattle.copies.proofs.FieldLaws.{text-narrow}
 use Rattle.copies.proofs.KeptLaws.{kept-few, kept-every, kept-count}
-use Rattle.forms.proofs.SoundLaws.{accepted-said}
+use Rattle.writing.proofs.SoundLaws.{accepted-said}
 use Rattle.laws.proofs.Earlier.{earlier-none}
 
 -- a value

@@ -1,8 +1,8 @@
 use Rattle.output.proofs.WriteLaws.{refused, no-room, fits}
 use Prim.Native.Nat.{_-_}
 use borrow.Author.Needs.{needs}
-use Rattle.forms.proofs.answer.hand_form.Statement.{statement}
-use Rattle.forms.proofs.answer.hand_form.Tie as tie
+use Rattle.writing.proofs.checked.hand_form.Statement.{statement}
+use Rattle.writing.proofs.checked.hand_form.Tie as tie
 
 returns : tie.Need-returns
 returns c =

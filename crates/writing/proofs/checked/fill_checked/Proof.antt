@@ -1,8 +1,8 @@
-use Rattle.forms.proofs.FillLaws.{fill-ready, fill-done}
+use Rattle.writing.proofs.FillLaws.{fill-ready, fill-done}
 use Prim.Native.Nat.{_-_}
 use borrow.Author.Needs.{needs}
-use Rattle.forms.proofs.answer.fill_checked.Statement.{statement}
-use Rattle.forms.proofs.answer.fill_checked.Tie as tie
+use Rattle.writing.proofs.checked.fill_checked.Statement.{statement}
+use Rattle.writing.proofs.checked.fill_checked.Tie as tie
 
 hand-form-requires : tie.Need-hand-form-requires
 hand-form-requires c κs =

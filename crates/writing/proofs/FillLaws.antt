@@ -24,8 +24,8 @@ use Rattle.page.specs.declared.Stays.the-variants as St
 use Rattle.page.specs.declared.Written.{Written}
 use Rattle.output.specs.Put.{Wrote}
 use Rattle.copies.specs.Changed.{changed-model}
-use Rattle.forms.proofs.ModelLaws.{coded, Beside}
-use Rattle.forms.proofs.FormLaws.{wrote-by}
+use Rattle.writing.proofs.ModelLaws.{coded, Beside}
+use Rattle.writing.proofs.FormLaws.{wrote-by}
 use Rattle.page.proofs.TestLaws.{neither}
 use Rattle.laws.proofs.Earlier.{earlier-none}
 

@@ -14,7 +14,7 @@ use Rattle.page.specs.Places.{line-of}
 use Rattle.page.specs.Head.{stands-in}
 use Rattle.page.specs.Rules.{times, SoundHeader}
 use Rattle.page.proofs.TestLaws.{and-right}
-use Rattle.forms.proofs.HeadLaws.{Texts}
+use Rattle.writing.proofs.HeadLaws.{Texts}
 use Rattle.round.proofs.RoundHeaderReads.{held-said, once-said, the-once, source-parts}
 
 module _ (ls : List Bytes) (s : SoundHeader ls) where

@@ -2,15 +2,13 @@
 use mathlib.Core.Path.{_≡_, refl, ap, sym, _∙_}
 use mathlib.Core.Bool.{Bool, true, false, not}
 use mathlib.Core.List.{[], _∷_}
-use Prim.Native.Nat.{ℕ, _+_, _-_, _<_, _≤_}
-use native.Mathlib.Nat.{le-of-eq}
+use Prim.Native.Nat.{ℕ, _-_, _<_, _≤_}
 use native.Mathlib.Omega.{arith}
 use borrow.Author.Tests.{eqb-true, eqb-false, eq-eqb, ne-eqb}
 use lib.Dec.{eqb, ltb}
-use lib.ListN.{length, take, drop, length-drop}
-use lib.Seq.{take-all}
+use lib.ListN.{length}
 use Rattle.page.specs.Bytes.{Bytes, pick, all}
-use Rattle.page.specs.Lines.{lines, allowed}
+use Rattle.page.specs.Lines.{allowed}
 use Rattle.page.specs.Fields.{quote}
 use Rattle.page.specs.Tables.{column-at}
 use Rattle.page.specs.Cut.{sections}
@@ -24,40 +22,17 @@ use Rattle.page.specs.Reading.{no-section, outside, section-at, row-at, find-re
 use Rattle.page.specs.Writing.{empty-datum, fill-place, fill-refusal}
 use Rattle.page.specs.declared.Refusal.{Refusal}
 use Rattle.page.specs.declared.Value.{Value}
-use Rattle.page.proofs.LineLaws.{line-size}
 use Rattle.page.proofs.ScanLaws.{part-length}
 use Rattle.calls.specs.Handed.{StandsFor, a-number, a-text}
 use Rattle.round.proofs.Round.{accepted-sections}
 use Rattle.calls.proofs.CallNumbers.{value-given}
 use Rattle.calls.proofs.Handed.{value-says}
-use Rattle.cut.specs.Walk.{section-from}
-use Rattle.sections.specs.Located.{Begins}
 use Rattle.values.proofs.ValueLaws.{inside}
-use Rattle.names.proofs.TitleLaws.{table-from}
 use Rattle.handing.specs.Own.{Spans}
 use Rattle.handing.proofs.PassLaws.{every-at}
 use Rattle.handing.proofs.TextLaws.{value-spans}
 use Rattle.fills.specs.Filling.{empty-value, text-number, fill-number}
-use Rattle.recording.proofs.SectionLaws.{table-first}
 use Rattle.laws.proofs.Earlier.{earlier-none}
-
--- the table that the section's first line names
-table-here : (s : Bytes) (at : ℕ) → at < length s → table-of (lines (drop at s)) ≡ table-of (section-from s at .lines)
-table-here s at h =
-    let n = line-size (drop at s) in
-    let z : at + n - at ≡ n = omega arith in
-    let k : 0 < length (drop at s) = omega (arith, length-drop at s) in
-    sym (table-first (drop at s) n k (omega arith)) ∙ sym (rw z at (table-from s at h (at + n) refl))
-
--- what follows a place is all of it
-from-all : (s : Bytes) (at : ℕ) → take (length s - at) (drop at s) ≡ drop at s
-from-all s at = take-all _ _ (le-of-eq (length-drop at s))
-
-pub from-some : (s : Bytes) (at : ℕ) → at < length s → 0 < length (take (length s - at) (drop at s))
-from-some s at h = rw from-all (omega (arith, length-drop at s))
-
-pub table-begun : (s : Bytes) (i at : ℕ) → Begins s i at → table-of (lines (take (length s - at) (drop at s))) ≡ table-of (section-at s i .lines)
-table-begun s i at b = rw (from-all, b .is) (table-here s at (b .inside))
 
 -- an empty text has nothing between its quotes
 

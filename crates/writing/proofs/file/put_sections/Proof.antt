@@ -13,8 +13,8 @@ use Prim.Native.Nat.{_+_, _-_, _≤_}
 use mathlib.Core.Path.{_≡_, ap, _∙_}
 use native.Mathlib.Omega.{arith}
 use lib.ListN.{length}
-use Rattle.forms.proofs.file.put_sections.Statement.{statement}
-use Rattle.forms.proofs.file.put_sections.Tie as tie
+use Rattle.writing.proofs.file.put_sections.Statement.{statement}
+use Rattle.writing.proofs.file.put_sections.Tie as tie
 
 abbrev Inv-loop : tie.InvT-loop
 Inv-loop out₀ at s plan text a₀ n₀ o₀ out a n o =

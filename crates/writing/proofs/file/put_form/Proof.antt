@@ -1,14 +1,14 @@
 use Rattle.page.specs.Bytes.{bytes}
 use Rattle.frames.proofs.LineLaws.{head-raw-length}
 use Rattle.output.proofs.PutLaws.{puts, put-as}
-use Rattle.forms.proofs.SoundLaws.{accepted-passing}
-use Rattle.forms.proofs.RoomLaws.{accepted-short, accepted-room}
-use Rattle.forms.proofs.FormLaws.{form-is}
+use Rattle.writing.proofs.SoundLaws.{accepted-passing}
+use Rattle.writing.proofs.RoomLaws.{accepted-short, accepted-room}
+use Rattle.writing.proofs.FormLaws.{form-is}
 use Prim.Native.Nat.{_-_}
 use native.Mathlib.Omega.{arith}
 use borrow.Author.Needs.{needs}
-use Rattle.forms.proofs.file.put_form.Statement.{statement}
-use Rattle.forms.proofs.file.put_form.Tie as tie
+use Rattle.writing.proofs.file.put_form.Statement.{statement}
+use Rattle.writing.proofs.file.put_form.Tie as tie
 
 read-values-requires : tie.Need-read-values-requires
 read-values-requires c κs =

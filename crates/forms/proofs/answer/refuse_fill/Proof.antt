@@ -1,12 +1,12 @@
--- `fills::filling::refuse_fill` meets its contract. Assumes nothing.
+-- `forms::answer::refuse_fill` meets its contract. Assumes nothing.
 use mathlib.Core.Path.{ap, sym, _∙_}
 use borrow.Author.Needs.{needs}
 use Rattle.page.specs.declared.Refusal.{Refusal}
 use Rattle.page.specs.Reading.{section-at, value-refusal, value-at, valueOf}
 use Rattle.handing.proofs.TextLaws.{got-is, got-refused}
-use Rattle.fills.proofs.FillingLaws.{fill-unsound, asked-there, fill-nowhere, fill-there}
-use Rattle.fills.proofs.filling.refuse_fill.Statement.{statement}
-use Rattle.fills.proofs.filling.refuse_fill.Tie as tie
+use Rattle.forms.proofs.FillingLaws.{fill-unsound, asked-there, fill-nowhere, fill-there}
+use Rattle.forms.proofs.answer.refuse_fill.Statement.{statement}
+use Rattle.forms.proofs.answer.refuse_fill.Tie as tie
 
 check-file-requires : tie.Need-check-file-requires
 check-file-requires c κs = search needs
