@@ -54,10 +54,10 @@ fn digits_end(w: &[u8], from: usize) -> usize
     let mut i = from;
     while i < w.len() {
         let b = w[i];
-        if b == 59 {
-            return i;
-        }
         if !digits::is_digit(b) {
+            if b == 59 {
+                return i;
+            }
             return 0;
         }
         i += 1;

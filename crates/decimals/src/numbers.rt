@@ -1,6 +1,8 @@
 // "Numbers without leading zeros", and what is made of numbers.
 ghost use mathlib.Core.Path.{_≡_};
+ghost use mathlib.Core.List.{_∷_, _++_};
 ghost use Prim.Native.Nat.{_+_, _<_, _^_, _%_};
+ghost use Rattle.page.specs.Bytes.{bytes};
 ghost use Rattle.page.specs.Form.{decimal-in, decimal, padded, date-text, time-text, format-text};
 ghost use Rattle.output.specs.Put.{Put};
 use output::put_byte;
@@ -50,16 +52,23 @@ pub fn put_padded(out: &mut [u8], at: usize, k: usize, n: u64) -> usize
     put_byte(out, p, digit_of(n))
 }
 
+// A separator, and k digits after it.
+fn put_next(out: &mut [u8], at: usize, separator: u8, k: usize, n: u64) -> usize
+    requires { ⌜ at + k + 1 < 2 ^ 62 ⌝ }
+    ensures { λ r. ⌜ Put (now (out .entry)) at (separator ∷ padded k n) (now (out .exit)) r ⌝ }
+{
+    let p = put_byte(out, at, separator);
+    put_padded(out, p, k, n)
+}
+
 // DD.MM.YYYY
 pub fn put_date(out: &mut [u8], at: usize, date: Date) -> usize
     requires { ⌜ at + 10 < 2 ^ 62 ⌝ }
     ensures { λ r. ⌜ Put (now (out .entry)) at (date-text date) (now (out .exit)) r ⌝ }
 {
     let a = put_padded(out, at, 2, date.day);
-    let b = put_byte(out, a, b'.');
-    let c = put_padded(out, b, 2, date.month);
-    let d = put_byte(out, c, b'.');
-    put_padded(out, d, 4, date.year)
+    let b = put_next(out, a, b'.', 2, date.month);
+    put_next(out, b, b'.', 4, date.year)
 }
 
 // HH:MM:SS
@@ -68,10 +77,26 @@ pub fn put_time(out: &mut [u8], at: usize, time: Time) -> usize
     ensures { λ r. ⌜ Put (now (out .entry)) at (time-text time) (now (out .exit)) r ⌝ }
 {
     let a = put_padded(out, at, 2, time.hour);
-    let b = put_byte(out, a, b':');
-    let c = put_padded(out, b, 2, time.minute);
-    let d = put_byte(out, c, b':');
-    put_padded(out, d, 2, time.second)
+    let b = put_next(out, a, b':', 2, time.minute);
+    put_next(out, b, b':', 2, time.second)
+}
+
+fn put_char(out: &mut [u8], at: usize, size: u64) -> usize
+    requires { ⌜ at + 32 < 2 ^ 62 ⌝ }
+    ensures { λ r. ⌜ Put (now (out .entry)) at (bytes "char[" ++ (decimal size ++ bytes "]")) (now (out .exit)) r ⌝ }
+{
+    let a = put_bytes(out, at, b"char[");
+    let b = put_decimal(out, a, size);
+    put_byte(out, b, b']')
+}
+
+fn put_num(out: &mut [u8], at: usize, size: u64) -> usize
+    requires { ⌜ at + 32 < 2 ^ 62 ⌝ }
+    ensures { λ r. ⌜ Put (now (out .entry)) at (bytes "num[" ++ (decimal size ++ bytes ".0]")) (now (out .exit)) r ⌝ }
+{
+    let a = put_bytes(out, at, b"num[");
+    let b = put_decimal(out, a, size);
+    put_bytes(out, b, b".0]")
 }
 
 // "formats with the sizes above"
@@ -80,11 +105,7 @@ pub fn put_format(out: &mut [u8], at: usize, column: Column) -> usize
     ensures { λ r. ⌜ Put (now (out .entry)) at (format-text column) (now (out .exit)) r ⌝ }
 {
     if column.text {
-        let a = put_bytes(out, at, b"char[");
-        let b = put_decimal(out, a, column.size);
-        return put_byte(out, b, b']');
+        return put_char(out, at, column.size);
     }
-    let a = put_bytes(out, at, b"num[");
-    let b = put_decimal(out, a, column.size);
-    put_bytes(out, b, b".0]")
+    put_num(out, at, column.size)
 }

@@ -1,7 +1,7 @@
 -- Laws of the lines that begin a section: their fields one by one, and how long they are at most, computed over the list of tables.
 -- Assumes nothing.
-use mathlib.Core.Path.{_≡_, refl, ap, sym, _∙_}
-use mathlib.Core.Bool.{Bool}
+use mathlib.Core.Path.{_≡_, refl, sym}
+use mathlib.Core.Bool.{Bool, true, false}
 use mathlib.Core.List.{List, [], _++_, map, append-assoc, append-nil}
 use Prim.Native.Nat.{ℕ, _+_, _<_, _≤_}
 use Prim.Native.String.{String}
@@ -12,13 +12,14 @@ use lib.Dec.{leb}
 use lib.ListN.{length, getD, drop, length-append, length-map, List·getD-map, drop-of-length-le}
 use lib.Seq.{drop-cons}
 use Rattle.page.specs.Bytes.{Bytes, bytes}
-use Rattle.page.specs.Tables.{Named, Table, all-tables, no-column, table-at, columns, width, column-at, name-at}
+use Rattle.page.specs.Tables.{Table, all-tables, no-column, table-at, columns, width, column-at, name-at}
 use Rattle.page.specs.Form.{line-end, separated, line, decimal, decimal-in, format-text, table-head}
 use Rattle.page.specs.declared.LineEnd.{LineEnd}
 use Rattle.page.specs.declared.Column.{Column}
 use Rattle.page.proofs.LineEndLaws.{line-end-length}
 use Rattle.page.proofs.TableLaws.{each, table-test}
-use Rattle.frames.specs.Titles.{tbl-line, names, formats}
+use Rattle.output.specs.Raw.{line-with}
+use Rattle.frames.specs.Titles.{tbl-line, title-of, title-at, titles}
 
 -- fields from one on
 
@@ -31,27 +32,27 @@ pub separated-end : (fs : List Bytes) (k : ℕ) → length fs ≤ k → separate
 unfolding separated
 separated-end fs k h = rw (drop-of-length-le fs h)
 
-pub line-parts : (ends : LineEnd) (word : String) (fs : List Bytes) → bytes word ++ (separated fs ++ line-end ends) ≡ line ends word fs
-unfolding line
-line-parts ends word fs = refl
+pub titles-line : (ends : LineEnd) (word : Bytes) (fs : List Bytes) → word ++ (separated fs ++ line-end ends) ≡ line-with ends word fs
+unfolding line-with
+titles-line ends word fs = refl
 
--- the names and the formats of a table's columns
+-- the names or the formats of a table's columns
 
-pub names-count : (t : ℕ) → length (names t) ≡ width t
-unfolding names width
-names-count t = length-map (columns t) (λ (c : Named). bytes (c .name))
+pub titles-count : (formats : Bool) (t : ℕ) → length (titles formats t) ≡ width t
+unfolding titles width
+titles-count formats t = length-map (columns t) (title-of formats)
 
-pub formats-count : (t : ℕ) → length (formats t) ≡ width t
-unfolding formats width
-formats-count t = length-map (columns t) (λ (c : Named). format-text (c .column))
+pub title-is : (formats : Bool) (t k : ℕ) → title-at formats t k ≡ getD (titles formats t) k (title-of formats no-column)
+unfolding titles title-at
+title-is formats t k = sym (List·getD-map (title-of formats) (columns t) k no-column)
 
-pub name-of : (t k : ℕ) (w : String) → w ≡ name-at t k → bytes w ≡ getD (names t) k []
-unfolding names name-at bytes
-name-of t k w e = ap bytes e ∙ sym (List·getD-map (λ (c : Named). bytes (c .name)) (columns t) k no-column)
+pub title-format : (formats : Bool) (t k : ℕ) → formats ≡ true → format-text (column-at t k) ≡ title-at formats t k
+unfolding title-at column-at
+title-format formats t k e = rw e
 
-pub format-of : (t k : ℕ) → format-text (column-at t k) ≡ getD (formats t) k (format-text (no-column .column))
-unfolding formats column-at
-format-of t k = sym (List·getD-map (λ (x : Named). format-text (x .column)) (columns t) k no-column)
+pub title-name : (formats : Bool) (t k : ℕ) (w : String) → formats ≡ false → w ≡ name-at t k → bytes w ≡ title-at formats t k
+unfolding title-at name-at
+title-name formats t k w e f = rw (e, f)
 
 -- a format asks its column for kind and size alone
 pub format-read : (c d : Column) → d .text ≡ c .text → d .size ≡ c .size → format-text d ≡ format-text c
@@ -64,22 +65,26 @@ abbrev title-small : Table → Bool
 title-small x = leb (length (bytes (x .name))) 32
 
 abbrev names-small : Table → Bool
-names-small x = leb (length (separated (map (λ (c : Named). bytes (c .name)) (x .columns)))) 256
+names-small x = leb (length (separated (map (title-of false) (x .columns)))) 256
 
 abbrev formats-small : Table → Bool
-formats-small x = leb (length (separated (map (λ (c : Named). format-text (c .column)) (x .columns)))) 256
+formats-small x = leb (length (separated (map (title-of true) (x .columns)))) 256
 
 pub title-length : (t : ℕ) → length (bytes (table-at t .name)) ≤ 32
 unfolding all-tables each bytes
 title-length t = leb-true (length (bytes (table-at t .name))) 32 (table-test title-small refl refl t)
 
-pub names-length : (t : ℕ) → length (separated (names t)) ≤ 256
-unfolding all-tables each bytes separated names columns
-names-length t = leb-true (length (separated (names t))) 256 (table-test names-small refl refl t)
+names-length : (t : ℕ) → length (separated (titles false t)) ≤ 256
+unfolding all-tables each bytes separated titles columns
+names-length t = leb-true (length (separated (titles false t))) 256 (table-test names-small refl refl t)
 
-pub formats-length : (t : ℕ) → length (separated (formats t)) ≤ 256
-unfolding all-tables each bytes separated formats columns format-text decimal decimal-in
-formats-length t = leb-true (length (separated (formats t))) 256 (table-test formats-small refl refl t)
+formats-length : (t : ℕ) → length (separated (titles true t)) ≤ 256
+unfolding all-tables each bytes separated titles columns format-text decimal decimal-in
+formats-length t = leb-true (length (separated (titles true t))) 256 (table-test formats-small refl refl t)
+
+pub titles-length : (formats : Bool) (t : ℕ) → length (separated (titles formats t)) ≤ 256
+titles-length true t = formats-length t
+titles-length false t = names-length t
 
 pub tbl-is : (ends : LineEnd) (t : ℕ) (w : String) → w ≡ table-at t .name → bytes "tbl; " ++ (bytes w ++ line-end ends) ≡ tbl-line ends t
 unfolding bytes tbl-line line separated
@@ -89,18 +94,18 @@ pub tbl-length : (ends : LineEnd) (t : ℕ) → length (tbl-line ends t) ≤ 39
 unfolding bytes tbl-line line separated
 tbl-length ends t = simp length-append (omega (arith, title-length t, line-end-length ends))
 
-pub atr-length : (ends : LineEnd) (t : ℕ) → length (line ends "atr" (names t)) ≤ 261
-unfolding bytes line
-atr-length ends t = simp length-append (omega (arith, names-length t, line-end-length ends))
+pub titles-line-length : (ends : LineEnd) (word : Bytes) (formats : Bool) (t : ℕ) → length (line-with ends word (titles formats t)) ≤ length word + 258
+titles-line-length ends word formats t =
+    rw (← titles-line ends word (titles formats t)) (simp length-append (omega (arith, titles-length formats t, line-end-length ends)))
 
-pub frm-length : (ends : LineEnd) (t : ℕ) → length (line ends "frm" (formats t)) ≤ 261
-unfolding bytes line
-frm-length ends t = simp length-append (omega (arith, formats-length t, line-end-length ends))
-
-pub table-head-is : (ends : LineEnd) (t : ℕ) → tbl-line ends t ++ (line ends "atr" (names t) ++ line ends "frm" (formats t)) ≡ table-head ends (table-at t)
-unfolding table-head tbl-line names formats columns
+pub table-head-is : (ends : LineEnd) (t : ℕ)
+    → tbl-line ends t ++ (line-with ends (bytes "atr") (titles false t) ++ line-with ends (bytes "frm") (titles true t)) ≡ table-head ends (table-at t)
+unfolding table-head tbl-line line line-with titles columns
 table-head-is ends t = refl
 
 pub table-head-length : (ends : LineEnd) (t : ℕ) → length (table-head ends (table-at t)) ≤ 561
+unfolding bytes
 table-head-length ends t =
-    rw (← table-head-is ends t) (simp length-append (omega (arith, tbl-length ends t, atr-length ends t, frm-length ends t)))
+    rw (← table-head-is ends t)
+    (simp length-append
+    (omega (arith, tbl-length ends t, titles-line-length ends (bytes "atr") false t, titles-line-length ends (bytes "frm") true t)))

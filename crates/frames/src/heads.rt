@@ -2,7 +2,9 @@
 ghost use Prim.Native.Nat.{_+_, _*_, _<_, _^_};
 ghost use lib.ListN.{length};
 ghost use Rattle.output.specs.Put.{Put};
-ghost use Rattle.output.specs.Raw.{mod-line, src-line, chs-line, stated-line, head-raw};
+ghost use Rattle.output.specs.Raw.{src-line, chs-line, stated-line, head-raw};
+ghost use Rattle.frames.specs.Heads.{versions};
+use crate::lines::put_line;
 use crate::lines::put_text_line;
 use decimals::put_date;
 use decimals::put_time;
@@ -16,14 +18,6 @@ use page::LineEnd;
 use page::Span;
 use page::Stated;
 use page::Time;
-
-fn put_mod_line(out: &mut [u8], at: usize, ends: LineEnd) -> usize
-    requires { ⌜ at + 33 < 2 ^ 62 ⌝ }
-    ensures { λ r. ⌜ Put (now (out .entry)) at (mod-line ends) (now (out .exit)) r ⌝ }
-{
-    let a = put_bytes(out, at, b"mod; DD.MM.YYYY; HH:MM:SS; free");
-    put_line_end(out, a, ends)
-}
 
 fn put_src_line(
     out: &mut [u8],
@@ -53,11 +47,9 @@ fn put_chs_line(out: &mut [u8], at: usize, ends: LineEnd, latin: bool) -> usize
     ensures { λ r. ⌜ Put (now (out .entry)) at (chs-line ends latin) (now (out .exit)) r ⌝ }
 {
     if latin {
-        let a = put_bytes(out, at, b"chs; \"ISO8859-1\"");
-        return put_line_end(out, a, ends);
+        return put_line(out, at, ends, b"chs; \"ISO8859-1\"");
     }
-    let a = put_bytes(out, at, b"chs; \"ASCII\"");
-    put_line_end(out, a, ends)
+    put_line(out, at, ends, b"chs; \"ASCII\"")
 }
 
 fn put_stated_line(
@@ -77,6 +69,20 @@ fn put_stated_line(
     }
 }
 
+fn put_versions(out: &mut [u8], at: usize, ends: LineEnd, file: &[u8], header: Header) -> usize
+    requires { ⌜ at + 4 * length (now file) + 36 < 2 ^ 62 ⌝ }
+    ensures { λ r. ⌜ Put (now (out .entry)) at (versions ends (now (file .entry)) header) (now (out .exit)) r ⌝ }
+{
+    let ver = header.ver;
+    let ifv = header.ifv;
+    let dve = header.dve;
+    let fft = header.fft;
+    let a = put_text_line(out, at, ends, b"ver", file, ver);
+    let b = put_text_line(out, a, ends, b"ifv", file, ifv);
+    let c = put_stated_line(out, b, ends, b"dve", file, dve);
+    put_stated_line(out, c, ends, b"fft", file, fft)
+}
+
 // A header's values, its texts as they stand in the file.
 pub fn put_head(out: &mut [u8], at: usize, ends: LineEnd, file: &[u8], header: Header) -> usize
     requires { ⌜ at + 5 * length (now file) + 122 < 2 ^ 62 ⌝ }
@@ -85,15 +91,8 @@ pub fn put_head(out: &mut [u8], at: usize, ends: LineEnd, file: &[u8], header: H
     let source = header.source;
     let date = header.date;
     let time = header.time;
-    let ver = header.ver;
-    let ifv = header.ifv;
-    let dve = header.dve;
-    let fft = header.fft;
-    let a = put_mod_line(out, at, ends);
+    let a = put_line(out, at, ends, b"mod; DD.MM.YYYY; HH:MM:SS; free");
     let b = put_src_line(out, a, ends, file, source, date, time);
     let c = put_chs_line(out, b, ends, header.latin);
-    let d = put_text_line(out, c, ends, b"ver", file, ver);
-    let e = put_text_line(out, d, ends, b"ifv", file, ifv);
-    let f = put_stated_line(out, e, ends, b"dve", file, dve);
-    put_stated_line(out, f, ends, b"fft", file, fft)
+    put_versions(out, c, ends, file, header)
 }

@@ -1,8 +1,8 @@
 // Single lines of the written file.
-ghost use mathlib.Core.List.{[], _∷_};
+ghost use mathlib.Core.List.{[], _∷_, _++_};
 ghost use Prim.Native.Nat.{_+_, _<_, _^_};
 ghost use lib.ListN.{length};
-ghost use Rattle.page.specs.Form.{decimal, mark-line};
+ghost use Rattle.page.specs.Form.{line-end, decimal, mark-line};
 ghost use Rattle.output.specs.Put.{Put};
 ghost use Rattle.output.specs.Raw.{line-with, text-line};
 use decimals::put_decimal;
@@ -13,6 +13,15 @@ use output::put_raw_part;
 use output::put_separator;
 use page::LineEnd;
 use page::Span;
+
+// A line that is known whole.
+pub fn put_line(out: &mut [u8], at: usize, ends: LineEnd, text: &[u8]) -> usize
+    requires { ⌜ at + length (now text) + 2 < 2 ^ 62 ⌝ }
+    ensures { λ r. ⌜ Put (now (out .entry)) at (now (text .entry) ++ line-end ends) (now (out .exit)) r ⌝ }
+{
+    let a = put_bytes(out, at, text);
+    put_line_end(out, a, ends)
+}
 
 // `end; count` and `eof; count`
 pub fn put_count_line(out: &mut [u8], at: usize, ends: LineEnd, word: &[u8], n: u64) -> usize

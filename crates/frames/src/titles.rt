@@ -1,11 +1,13 @@
 // The lines that begin a section, from the fixed tables.
 ghost use Prim.Native.Nat.{_+_, _<_, _^_};
+ghost use lib.ListN.{length};
 ghost use Rattle.page.specs.Bytes.{bytes};
 ghost use Rattle.page.specs.Tables.{table-at, column-at};
-ghost use Rattle.page.specs.Form.{line, format-text, table-head};
+ghost use Rattle.page.specs.Form.{format-text, table-head};
 ghost use Rattle.tables.specs.Words.{word};
 ghost use Rattle.output.specs.Put.{Put};
-ghost use Rattle.frames.specs.Titles.{tbl-line, names, formats};
+ghost use Rattle.output.specs.Raw.{line-with};
+ghost use Rattle.frames.specs.Titles.{tbl-line, title-at, titles};
 use decimals::put_format;
 use output::put_bytes;
 use output::put_line_end;
@@ -40,21 +42,6 @@ fn put_tbl_line(out: &mut [u8], at: usize, ends: LineEnd, t: usize) -> usize
     put_line_end(out, b, ends)
 }
 
-fn put_atr_line(out: &mut [u8], at: usize, ends: LineEnd, t: usize) -> usize
-    requires { ⌜ at + 1024 < 2 ^ 62 ⌝ }
-    ensures { λ r. ⌜ Put (now (out .entry)) at (line ends "atr" (names t)) (now (out .exit)) r ⌝ }
-{
-    let n = find_width(t);
-    let mut o = put_bytes(out, at, b"atr");
-    let mut k = 0;
-    while k < n {
-        o = put_separator(out, o);
-        o = put_word(out, o, look_name(t, k));
-        k += 1;
-    }
-    put_line_end(out, o, ends)
-}
-
 // "formats with the sizes above": of a column this asks for kind and size alone.
 fn put_format_of(out: &mut [u8], at: usize, t: usize, k: usize) -> usize
     requires { ⌜ at + 32 < 2 ^ 62 ⌝ }
@@ -77,16 +64,35 @@ fn put_format_of(out: &mut [u8], at: usize, t: usize, k: usize) -> usize
     )
 }
 
-fn put_frm_line(out: &mut [u8], at: usize, ends: LineEnd, t: usize) -> usize
-    requires { ⌜ at + 1024 < 2 ^ 62 ⌝ }
-    ensures { λ r. ⌜ Put (now (out .entry)) at (line ends "frm" (formats t)) (now (out .exit)) r ⌝ }
+// What is said of a column: its format, or its name.
+fn put_title(out: &mut [u8], at: usize, t: usize, k: usize, formats: bool) -> usize
+    requires { ⌜ at + 328 < 2 ^ 62 ⌝ }
+    ensures { λ r. ⌜ Put (now (out .entry)) at (title-at formats t k) (now (out .exit)) r ⌝ }
+{
+    if formats {
+        return put_format_of(out, at, t, k);
+    }
+    put_word(out, at, look_name(t, k))
+}
+
+// `atr; names` and `frm; formats`
+fn put_titles(
+    out: &mut [u8],
+    at: usize,
+    ends: LineEnd,
+    word: &[u8],
+    t: usize,
+    formats: bool,
+) -> usize
+    requires { ⌜ at + length (now word) + 768 < 2 ^ 62 ⌝ }
+    ensures { λ r. ⌜ Put (now (out .entry)) at (line-with ends (now (word .entry)) (titles formats t)) (now (out .exit)) r ⌝ }
 {
     let n = find_width(t);
-    let mut o = put_bytes(out, at, b"frm");
+    let mut o = put_bytes(out, at, word);
     let mut k = 0;
     while k < n {
         o = put_separator(out, o);
-        o = put_format_of(out, o, t, k);
+        o = put_title(out, o, t, k, formats);
         k += 1;
     }
     put_line_end(out, o, ends)
@@ -97,6 +103,6 @@ pub fn put_table_head(out: &mut [u8], at: usize, ends: LineEnd, t: usize) -> usi
     ensures { λ r. ⌜ Put (now (out .entry)) at (table-head ends (table-at t)) (now (out .exit)) r ⌝ }
 {
     let a = put_tbl_line(out, at, ends, t);
-    let b = put_atr_line(out, a, ends, t);
-    put_frm_line(out, b, ends, t)
+    let b = put_titles(out, a, ends, b"atr", t, false);
+    put_titles(out, b, ends, b"frm", t, true)
 }

@@ -27,7 +27,7 @@ use Rattle.page.proofs.FieldLaws.{from, from-end}
 use Rattle.tables.specs.Choices.{rules-of}
 use Rattle.tables.specs.Orders.{held, Stands}
 use Rattle.tables.proofs.OrderLaws.{held-length, held-at, held-standing, held-column}
-use Rattle.judging.specs.Judging.{number-of, Numbers, Amounts, Judged, breaks, broken-by}
+use Rattle.judging.specs.Judging.{number-of, Tells, Numbers, Amounts, Judged, breaks, broken-by}
 
 -- a field's number and value are the same wherever it stands
 
@@ -50,11 +50,15 @@ module _ (c d : Column) (f : Bytes) (a : d .text ≡ c .text) (b : d .lo ≡ c .
   unfolding fieldOf
   column-read = q ∙ rw (a, b, e)
 
-  pub refusal-read : field-number r ≡ field-number (fieldOf c f)
+  refusal-read : field-number r ≡ field-number (fieldOf c f)
   refusal-read = ap field-number column-read ∙ later-refusal k (fieldOf c f)
 
-  pub value-read : number-of r ≡ number-of (fieldOf c f)
+  value-read : number-of r ≡ number-of (fieldOf c f)
   value-read = ap number-of column-read ∙ later-value k (fieldOf c f)
+
+pub tells : (d : Column) (f : Bytes) (k : ℕ) (r : Field) → r ≡ later-field k (fieldOf d f) → (wrong value : ℕ) → wrong ≡ field-number r → value ≡ number-of r
+    → Tells (d .text) (d .lo) (d .hi) f wrong value
+tells d f k r q wrong value x y c a b e = (x ∙ refusal-read c d f a b e k r q, y ∙ value-read c d f a b e k r q)
 
 number-known : (c : Column) (f : Bytes) → field-number (fieldOf c f) ≡ 0 → c .text ≡ false → number-of (fieldOf c f) ≡ amount (numberOf f)
 unfolding fieldOf number-field field-number number-of

@@ -8,7 +8,8 @@ use lib.ListN.{length, getD}
 use Rattle.page.specs.Bytes.{Bytes, pick}
 use Rattle.page.specs.Tables.{Rule, points-differ, rule-number, width, column-at}
 use Rattle.page.specs.Order.{Order, standing, by-column}
-use Rattle.page.specs.Section.{first-wrong, amount-at}
+use Rattle.page.specs.Section.{fieldOf, field-number, first-wrong, amount-at}
+use Rattle.page.specs.declared.Column.{Column}
 use Rattle.page.specs.declared.Field.{Field}
 use Rattle.page.specs.declared.Field.the-variants as F
 
@@ -17,6 +18,11 @@ unfoldable pub number-of : Field → ℕ
 number-of (F.Text sp) = 0
 number-of (F.Number n) = n
 number-of (F.Refused v) = 0
+
+-- what a field says for a column of this kind and with these bounds: the number of what is wrong with it, and its value
+abbrev pub Tells : Bool → ℕ → ℕ → Bytes → ℕ → ℕ → Type 0
+Tells text lo hi f wrong value =
+    (c : Column) → text ≡ c .text → lo ≡ c .lo → hi ≡ c .hi → (wrong ≡ field-number (fieldOf c f)) × (value ≡ number-of (fieldOf c f))
 
 -- the values of the number columns that stand at the first k places of the array a, by column
 abbrev pub Numbers : ℕ → List ℕ → List Bytes → ℕ → List ℕ → Type 0

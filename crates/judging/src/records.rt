@@ -1,13 +1,15 @@
 // A record's fields against the columns of its table: `w` is what stands after its line's first `;`.
 ghost use mathlib.Core.Path.{_≡_};
-ghost use mathlib.Core.Bool.{true};
+ghost use mathlib.Core.Bool.{true, false};
+ghost use Prim.Native.Nat.{_+_, _≤_};
 ghost use lib.Dec.{eqb};
-ghost use lib.ListN.{length};
-ghost use Rattle.page.specs.Fields.{fields};
+ghost use lib.ListN.{length, drop};
+ghost use Rattle.page.specs.Fields.{fields, field-size};
 ghost use Rattle.page.specs.Tables.{width, rules};
-ghost use Rattle.page.specs.Section.{field-number, empty-marked, rec-verdict};
+ghost use Rattle.page.specs.Section.{empty-marked, rec-verdict};
+ghost use Rattle.digits.specs.Runs.{field-from};
 ghost use Rattle.tables.specs.Orders.{held, Stands};
-ghost use Rattle.judging.specs.Judging.{number-of, Judged, broken-by};
+ghost use Rattle.judging.specs.Judging.{Tells, Judged, broken-by};
 use page::Column;
 use page::Field;
 use tables::WIDEST;
@@ -25,25 +27,47 @@ struct Judgement {
     numbers: [u64; WIDEST],
 }
 
-// The paper's number for what a field is read as.
-fn refusal_of(f: Field) -> u32
-    ensures { λ r. ⌜ r ≡ field-number f ⌝ }
-{
-    match f {
-        Field::Text(_) => 0,
-        Field::Number(_) => 0,
-        Field::Refused(v) => v,
-    }
+// What one field says: the number of what is wrong with it (0: nothing), its value if it is a number, and where it ends.
+struct Told {
+    wrong: u32,
+    value: u64,
+    end: usize,
 }
 
-// The value of a field that is a number.
-fn number_of(f: Field) -> u64
-    ensures { λ r. ⌜ r ≡ number-of f ⌝ }
+// The field that begins at a place of w, for a column of this kind and with these bounds.
+fn judge_field(w: &[u8], at: usize, text: bool, lo: u64, hi: u64) -> Told
+    requires { ⌜ at ≤ length (now w) ⌝ }
+    ensures { λ r. ⌜ (r .end ≡ at + field-size false (drop at (now (w .entry))))
+        × Tells text lo hi (field-from (now (w .entry)) at) (r .wrong) (r .value) ⌝ }
 {
+    let column = Column {
+        text: text,
+        lo: lo,
+        hi: hi,
+        size: 0,
+        primary: false,
+        second: false,
+        fillable: false,
+    };
+    let r = fields::read_field(w, at, column);
+    let f = r.field;
+    let e = r.end;
     match f {
-        Field::Text(_) => 0,
-        Field::Number(n) => n,
-        Field::Refused(_) => 0,
+        Field::Text(_) => Told {
+            wrong: 0,
+            value: 0,
+            end: e,
+        },
+        Field::Number(n) => Told {
+            wrong: 0,
+            value: n,
+            end: e,
+        },
+        Field::Refused(v) => Told {
+            wrong: v,
+            value: 0,
+            end: e,
+        },
     }
 }
 
@@ -68,19 +92,10 @@ fn judge_fields(w: &[u8], t: usize, o: &[u8; WIDEST]) -> Judgement
             };
         }
         let c = o[k] as usize;
-        let column = Column {
-            text: kinds[c],
-            lo: lows[c],
-            hi: highs[c],
-            size: 0,
-            primary: false,
-            second: false,
-            fillable: false,
-        };
-        let r = fields::read_field(w, at, column);
-        let f = r.field;
-        let e = r.end;
-        let v = refusal_of(f);
+        let told = judge_field(w, at, kinds[c], lows[c], highs[c]);
+        let v = told.wrong;
+        let value = told.value;
+        let e = told.end;
         if v != 0 {
             return Judgement {
                 wrong: v,
@@ -88,7 +103,7 @@ fn judge_fields(w: &[u8], t: usize, o: &[u8; WIDEST]) -> Judgement
                 numbers: ns,
             };
         }
-        ns[c] = number_of(f);
+        ns[c] = value;
         at = e + 1;
         k += 1;
     }

@@ -55,9 +55,6 @@ module _ (w : Bytes) (at n e : ℕ) (z : Stands w at n) (h : at < length w) (q :
       }
 
   -- what is said of the line at the place is said of line n
-  pub record-here : (b : Bool) → b ≡ is-record (take (e - at) (drop at w)) → is-record (getD (lines w) n []) ≡ b
-  record-here b x = ap is-record (head .1) ∙ sym x
-
   pub again-here : (c : Choice) (b : Bool) → b ≡ again c (lines (take at w)) (take (e - at) (drop at w)) → again-at c (lines w) n ≡ b
   unfolding again-at
   again-here c b x = rw (head .1, sym (z .before)) (sym x)

@@ -3,11 +3,14 @@ ghost use mathlib.Core.Path.{_≡_};
 ghost use mathlib.Core.List.{[]};
 ghost use Rattle.page.specs.File.{repeats, first-record, filedOf};
 ghost use Rattle.tables.specs.Choices.{by-key};
-ghost use Rattle.seats.specs.Seating.{Ready};
-ghost use Rattle.seats.specs.Faults.{repeat-number, scan-end};
+ghost use Prim.Native.Nat.{_<_};
+ghost use Rattle.page.specs.Answers.{refusal};
+ghost use Rattle.seats.specs.Seating.{seat-at, Ready};
+ghost use Rattle.seats.specs.Faults.{repeat-number, seat-key, scan-end};
+ghost use Rattle.repeats.specs.Parts.{scan-part};
 use crate::rounds::find_repeat;
+use crate::rounds::pass_line;
 use keys::Key;
-use lines::Cursor;
 use page::Refusal;
 use scans::find_rise;
 use seats::Seat;
@@ -22,6 +25,16 @@ fn repeat_number(second: bool) -> u32
     if second { 19 } else { 18 }
 }
 
+fn refuse_repeat(second: bool, section: usize, line: usize) -> Refusal
+    ensures { λ r. ⌜ r ≡ refusal (repeat-number second) section line ⌝ }
+{
+    Refusal {
+        number: repeat_number(second),
+        section: section,
+        line: line,
+    }
+}
+
 // A table without the key has nothing to repeat.
 fn find_end(seat: Seat, choice: Choice) -> usize
     ensures { λ r. ⌜ r ≡ scan-end seat choice ⌝ }
@@ -33,13 +46,31 @@ fn find_end(seat: Seat, choice: Choice) -> usize
     }
 }
 
+fn find_part(s: &[u8], seats: Seats, i: usize, choice: Choice) -> &[u8]
+    requires { ⌜ Ready (now s) seats × (i < seats .count) ⌝ }
+    ensures { λ r. ⌜ now r ≡ scan-part (now (s .entry)) (seat-at seats i) choice ⌝ }
+{
+    let seat = find_seat(seats, i);
+    let from = seat.from;
+    let to = find_end(seat, choice);
+    &s[from..to]
+}
+
+fn find_choice(s: &[u8], seats: Seats, i: usize, second: bool) -> Choice
+    requires { ⌜ Ready (now s) seats × (i < seats .count) ⌝ }
+    ensures { λ r. ⌜ r ≡ seat-key (now (s .entry)) second (seat-at seats i) ⌝ }
+{
+    let seat = find_seat(seats, i);
+    let order = find_order(s, seats, i);
+    tables::choose_key(seat.table, second, &order)
+}
+
 // "each at the first record in file order that breaks it"
 pub fn first_repeat(s: &[u8], seats: Seats, second: bool) -> Refusal
     requires { ⌜ Ready (now s) seats ⌝ }
     ensures { λ r. ⌜ r ≡ first-record (repeat-number second) (repeats (by-key second)) [] (filedOf (now (s .entry))) ⌝ }
 {
     let count = seats.count;
-    let number = repeat_number(second);
     let mut found = Refusal {
         number: 0,
         section: 0,
@@ -47,36 +78,25 @@ pub fn first_repeat(s: &[u8], seats: Seats, second: bool) -> Refusal
     };
     let mut i: usize = 0;
     'scan: while i < count {
-        let seat = find_seat(seats, i);
-        let from = seat.from;
-        let order = find_order(s, seats, i);
-        let choice = tables::choose_key(seat.table, second, &order);
-        let to = find_end(seat, choice);
-        let size = to - from;
+        let choice = find_choice(s, seats, i, second);
+        let w = find_part(s, seats, i, choice);
+        i += 1;
         let mut top = Key { k: [0; 7] };
         let mut at: usize = 0;
-        while at < size {
+        while at < w.len() {
             let here = at;
-            let l = Cursor { at: here }.line(&s[from..to]);
-            let e = l.span.to;
-            at = e;
-            let rise = find_rise(&s[from..to], here, e, choice, top);
+            at = pass_line(w, here);
+            let rise = find_rise(w, here, at, choice, top);
             top = rise.top;
             if !rise.rises {
-                let n = find_repeat(&s[from..to], choice);
-                if n != 0 {
-                    found = Refusal {
-                        number: number,
-                        section: i + 1,
-                        line: n,
-                    };
-                    break 'scan;
+                let n = find_repeat(w, choice);
+                if n == 0 {
+                    continue 'scan;
                 }
-                i += 1;
-                continue 'scan;
+                found = refuse_repeat(second, i, n);
+                break 'scan;
             }
         }
-        i += 1;
     }
     found
 }

@@ -1,11 +1,14 @@
 // The first line of a section whose key stands before it, where keys do not rise.
 ghost use mathlib.Core.Path.{_≡_};
+ghost use mathlib.Core.Bool.{true};
 ghost use mathlib.Core.List.{[]};
-ghost use Prim.Native.Nat.{_<_, _^_};
-ghost use lib.ListN.{length};
+ghost use Prim.Native.Nat.{_+_, _<_, _≤_, _^_};
+ghost use lib.ListN.{length, drop};
 ghost use Rattle.page.specs.Lines.{lines};
-ghost use Rattle.scans.specs.Scan.{again, first-line};
-ghost use Rattle.repeats.specs.Rounds.{hash-of, Round, Doubted, Settled};
+ghost use Rattle.page.proofs.LineLaws.{line-size};
+ghost use Rattle.bits.specs.Bits.{two-of, lane-of};
+ghost use Rattle.scans.specs.Scan.{is-record, again, first-line};
+ghost use Rattle.repeats.specs.Rounds.{hash-of, Round, Sieved, MarkedLine, Doubted, SettledLine, Settled};
 use bits::find_lane;
 use bits::has_four;
 use bits::put_four;
@@ -27,11 +30,49 @@ const LITTLE_CROWD: usize = 512;
 
 const LITTLE_DOUBTS: usize = 128;
 
+// Where the line at a place ends.
+pub fn pass_line(w: &[u8], at: usize) -> usize
+    requires { ⌜ at < length (now w) ⌝ }
+    ensures { λ e. ⌜ (e ≡ at + line-size (drop at (now (w .entry)))) × (at < e) × (e ≤ length (now (w .entry))) ⌝ }
+{
+    let l = Cursor { at: at }.line(w);
+    l.span.to
+}
+
 fn hash_line(l: &[u8], choice: Choice) -> u64
     ensures { λ r. ⌜ r ≡ hash-of choice (now (l .entry)) ⌝ }
 {
     let c = lines::content_of(l);
     keys::hash_key(keys::read_chosen(lines::rest_of(c), choice))
+}
+
+// A record of round r of n is put into the table of all records. Were its bits all set?
+fn put_in_round(l: &[u8], h: u64, r: u64, n: u64, t: &mut [u64]) -> bool
+    requires { ⌜ (n < 2 ^ 32) × (0 < length (now t)) ⌝ }
+    ensures { λ b. ⌜ Sieved ((lane-of h n ≡ r) × (is-record (now (l .entry)) ≡ true)) (length (now (t .entry))) h (two-of h) (now (t .entry)) b (now (t .exit)) ⌝ }
+{
+    if find_lane(h, n) != r {
+        return false;
+    }
+    if !is_record(l) {
+        return false;
+    }
+    let crowd = t.len();
+    put_two(t, crowd, h)
+}
+
+// A record of the round whose bits were all set is put among the doubtful ones. Was it?
+fn mark_line(l: &[u8], choice: Choice, r: u64, n: u64, t: &mut [u64], doubts: &mut [u64]) -> bool
+    requires { ⌜ (n < 2 ^ 32) × (0 < length (now t)) × (0 < length (now doubts)) ⌝ }
+    ensures { λ b. ⌜ MarkedLine (now (l .entry)) (hash-of choice (now (l .entry))) r n (length (now (t .entry))) (now (t .entry)) (now (t .exit)) (length (now (doubts .entry))) (now (doubts .entry)) b (now (doubts .exit)) ⌝ }
+{
+    let h = hash_line(l, choice);
+    if put_in_round(l, h, r, n, t) {
+        let size = doubts.len();
+        put_four(doubts, size, h);
+        return true;
+    }
+    false
 }
 
 // One pass over the records of round r of n before line `last`: each whose bits were not all set is new, the others are put among the
@@ -48,8 +89,6 @@ fn mark_doubts(
     requires { ⌜ (n < 2 ^ 32) × (0 < length (now t)) × (0 < length (now doubts)) ⌝ }
     ensures { λ b. ⌜ Doubted choice (lines (now (w .entry))) r n last (length (now (doubts .entry))) (now (doubts .exit)) b ⌝ }
 {
-    let crowd = t.len();
-    let size = doubts.len();
     let mut at: usize = 0;
     let mut i: usize = 0;
     let mut some = false;
@@ -58,21 +97,27 @@ fn mark_doubts(
             return some;
         }
         let here = at;
-        let l = Cursor { at: here }.line(w);
-        let e = l.span.to;
-        at = e;
+        at = pass_line(w, here);
         i += 1;
-        let h = hash_line(&w[here..e], choice);
-        if find_lane(h, n) == r {
-            if is_record(&w[here..e]) {
-                if put_two(t, crowd, h) {
-                    put_four(doubts, size, h);
-                    some = true;
-                }
-            }
+        if mark_line(&w[here..at], choice, r, n, t, doubts) {
+            some = true;
         }
     }
     some
+}
+
+// A doubtful line is put into a table of its own. Were its bits all set?
+fn put_doubtful(l: &[u8], choice: Choice, doubts: &[u64], t: &mut [u64]) -> bool
+    requires { ⌜ (0 < length (now doubts)) × (0 < length (now t)) ⌝ }
+    ensures { λ b. ⌜ SettledLine (hash-of choice (now (l .entry))) (length (now (doubts .entry))) (now (doubts .entry)) (length (now (t .entry))) (now (t .entry)) b (now (t .exit)) ⌝ }
+{
+    let h = hash_line(l, choice);
+    let size = doubts.len();
+    if !has_four(doubts, size, h) {
+        return false;
+    }
+    let crowd = t.len();
+    put_four(t, crowd, h)
 }
 
 // One more pass, over the doubtful records alone: they leave most bits clear, and only those whose bits were all set are searched for.
@@ -80,8 +125,6 @@ fn settle_doubts(w: &[u8], choice: Choice, last: usize, doubts: &[u64], t: &mut 
     requires { ⌜ (0 < length (now doubts)) × (0 < length (now t)) ⌝ }
     ensures { λ e. ⌜ Settled choice (lines (now (w .entry))) (length (now (doubts .entry))) (now (doubts .entry)) last e ⌝ }
 {
-    let size = doubts.len();
-    let crowd = t.len();
     let mut at: usize = 0;
     let mut i: usize = 0;
     while at < w.len() {
@@ -90,18 +133,11 @@ fn settle_doubts(w: &[u8], choice: Choice, last: usize, doubts: &[u64], t: &mut 
         }
         let here = at;
         let k = i;
-        let l = Cursor { at: here }.line(w);
-        let e = l.span.to;
-        at = e;
+        at = pass_line(w, here);
         i += 1;
-        let h = hash_line(&w[here..e], choice);
-        if has_four(doubts, size, h) {
-            if is_record(&w[here..e]) {
-                if put_four(t, crowd, h) {
-                    if is_again(w, here, e, choice) {
-                        return k;
-                    }
-                }
+        if put_doubtful(&w[here..at], choice, doubts, t) {
+            if is_again(w, here, at, choice) {
+                return k;
             }
         }
     }
@@ -165,11 +201,10 @@ fn sift_round(w: &[u8], choice: Choice, r: u64, n: u64, last: usize) -> usize
 }
 
 fn count_lines(w: &[u8]) -> usize {
-    let mut c = Cursor { at: 0 };
+    let mut at: usize = 0;
     let mut n: usize = 0;
-    while c.at < w.len() {
-        let l = c.line(w);
-        c = l.next;
+    while at < w.len() {
+        at = pass_line(w, at);
         n += 1;
     }
     n

@@ -24,15 +24,15 @@ loop-holds c = (omega arith, omega arith, refl, (λ h. absurd (omega arith)))
 shared-slice-read-b : tie.Need-shared-slice-read-b Inv-loop μ-loop
 shared-slice-read-b c = search needs
 
-returns : tie.Need-returns Inv-loop μ-loop
-returns c =
-    let w = c .before .before .before .before .before .args .w .now in
-    let l = c .before .before .before .loop in
-    let z = field-hit false w (l .i) (c .before .before .loop-test .taken) (eq-eqb (getD w (l .i) 0) 59 (c .if1 .taken)) in
-    λ h. (omega (arith, l .inv .2), l .inv .3)
-
 is-digit-requires : tie.Need-is-digit-requires Inv-loop μ-loop
 is-digit-requires c κs = search needs
+
+returns : tie.Need-returns Inv-loop μ-loop
+returns c =
+    let w = c .before .before .before .before .before .before .before .args .w .now in
+    let l = c .before .before .before .before .before .loop in
+    let z = field-hit false w (l .i) (c .before .before .before .before .loop-test .taken) (eq-eqb (getD w (l .i) 0) 59 (c .if2 .taken)) in
+    λ h. (omega (arith, l .inv .2), l .inv .3)
 
 returns-2 : tie.Need-returns-2 Inv-loop μ-loop
 returns-2 c = λ h. absurd (omega arith)
@@ -45,10 +45,10 @@ loop-less c = omega arith
 
 loop-again : tie.Need-loop-again Inv-loop μ-loop
 loop-again c =
-    let w = c .before .before .before .before .before .before .before .args .w .now in
-    let l = c .before .before .before .before .before .loop in
-    let d : digit (getD w (l .i) 0) ≡ true = sym (c .before .is-digit .ensures) ∙ not-false _ (c .if2 .left) in
-    let m = digit-more w (l .i) (c .before .before .before .before .loop-test .taken) d in
+    let w = c .before .before .before .before .before .before .args .w .now in
+    let l = c .before .before .before .before .loop in
+    let d : digit (getD w (l .i) 0) ≡ true = sym (c .before .is-digit .ensures) ∙ not-false _ (c .if1 .left) in
+    let m = digit-more w (l .i) (c .before .before .before .loop-test .taken) d in
     let n : l .i + 1 - 1 ≡ l .i = omega arith in
     (omega arith, omega arith, omega (arith, l .inv .2), (λ h. rw n (digit-low (getD w (l .i) 0) d)))
 
@@ -67,8 +67,8 @@ digits-end-spec =
     μ-loop
     loop-holds
     shared-slice-read-b
-    returns
     is-digit-requires
+    returns
     returns-2
     add-i
     loop-less

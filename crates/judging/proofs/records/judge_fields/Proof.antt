@@ -14,7 +14,7 @@ use Rattle.digits.specs.Runs.{field-from}
 use Rattle.digits.proofs.RunLaws.{from-next}
 use Rattle.tables.specs.Orders.{held}
 use Rattle.judging.specs.Judging.{Numbers}
-use Rattle.judging.proofs.RecordLaws.{refusal-read, value-read, wrong-hit, wrong-more, numbers-more, judged-few, judged-wrong, judged-all}
+use Rattle.judging.proofs.RecordLaws.{wrong-hit, wrong-more, numbers-more, judged-few, judged-wrong, judged-all}
 use Rattle.judging.proofs.records.judge_fields.Statement.{statement}
 use Rattle.judging.proofs.records.judge_fields.Tie as tie
 
@@ -56,60 +56,50 @@ element-copy-out-c c = omega (arith, width-le (c .before .before .before .before
 cast-c : tie.Need-cast-c Inv-loop μ-loop
 cast-c c = let s = c .before .before .before .before .before .before .before .before .before .pre .orderly .small (c .before .before .before .loop .k) in search needs
 
-array-read-if2 : tie.Need-array-read-if2 Inv-loop μ-loop
-array-read-if2 c = c .before .before .before .before .before .before .before .before .before .pre .orderly .small (c .before .before .before .loop .k)
+array-read-judge-field : tie.Need-array-read-judge-field Inv-loop μ-loop
+array-read-judge-field c = c .before .before .before .before .before .before .before .before .before .pre .orderly .small (c .before .before .before .loop .k)
 
-mul-t20 : tie.Need-mul-t20 Inv-loop μ-loop
-mul-t20 c = let s = c .before .before .before .before .before .before .before .before .before .pre .orderly .small (c .before .before .before .loop .k) in search needs
+mul-judge-field : tie.Need-mul-judge-field Inv-loop μ-loop
+mul-judge-field c = let s = c .before .before .before .before .before .before .before .before .before .pre .orderly .small (c .before .before .before .loop .k) in search needs
 
-array-read-t29 : tie.Need-array-read-t29 Inv-loop μ-loop
-array-read-t29 c = c .before .before .before .before .before .before .before .before .before .pre .orderly .small (c .before .before .before .loop .k)
+array-read-judge-field-2 : tie.Need-array-read-judge-field-2 Inv-loop μ-loop
+array-read-judge-field-2 c = c .before .before .before .before .before .before .before .before .before .pre .orderly .small (c .before .before .before .loop .k)
 
-mul-ns : tie.Need-mul-ns Inv-loop μ-loop
-mul-ns c = let s = c .before .before .before .before .before .before .before .before .before .pre .orderly .small (c .before .before .before .loop .k) in search needs
+mul-judge-field-2 : tie.Need-mul-judge-field-2 Inv-loop μ-loop
+mul-judge-field-2 c = let s = c .before .before .before .before .before .before .before .before .before .pre .orderly .small (c .before .before .before .loop .k) in search needs
 
-array-read-ns : tie.Need-array-read-ns Inv-loop μ-loop
-array-read-ns c = c .before .before .before .before .before .before .before .before .before .pre .orderly .small (c .before .before .before .loop .k)
+array-read-judge-field-3 : tie.Need-array-read-judge-field-3 Inv-loop μ-loop
+array-read-judge-field-3 c = c .before .before .before .before .before .before .before .before .before .pre .orderly .small (c .before .before .before .loop .k)
 
-read-field-requires : tie.Need-read-field-requires Inv-loop μ-loop
-read-field-requires c κs = search needs
-
-refusal-of-requires : tie.Need-refusal-of-requires Inv-loop μ-loop
-refusal-of-requires c κs = search needs
+judge-field-requires : tie.Need-judge-field-requires Inv-loop μ-loop
+judge-field-requires c κs = search needs
 
 returns-2 : tie.Need-returns-2 Inv-loop μ-loop
 returns-2 c =
-    let a = c .before .before .before .before .before .before .before .before .before .before .before .before .args in
-    let x = c .before .before .before .before .before .before .before .before .before .before .before .before .pre in
-    let l = c .before .before .before .before .before .before .loop in
-    let r = c .before .before .read-field in
+    let a = c .before .before .before .before .before .before .before .before .before .before .before .args in
+    let x = c .before .before .before .before .before .before .before .before .before .before .before .pre in
+    let l = c .before .before .before .before .before .loop in
+    let r = c .before .judge-field in
     let w = a .w .now in
     let i = getD (a .o .now) (l .k) 0 in
     let h : l .at ≤ length w = search needs in
-    let k : l .k < width (a .t) = omega (arith, c .before .before .before .before .before .before .before .before .before .before .find-width .ensures) in
+    let k : l .k < width (a .t) = omega (arith, c .before .before .before .before .before .before .before .before .before .find-width .ensures) in
     let m = from-next w (l .at) (r .result .end) h (r .ensures .0) in
     let s : i < WIDEST = x .orderly .small (l .k) in
-    let kind = c .before .before .before .before .before .before .before .before .before .find-kinds .ensures i s in
-    let low = c .before .before .before .before .before .before .before .before .find-lows .ensures i s in
-    let high = c .before .before .before .before .before .before .before .find-highs .ensures i s in
-    let v = c .before .refusal-of .ensures ∙ refusal-read (column-at (a .t) i) _ (field-from w (l .at)) kind low high _ _ (r .ensures .1) in
-    judged-wrong (a .t) (held (a .t) (a .o .now)) (fields w) _ (l .ns) (c .if2 .taken) (sym (sym (l .inv .2) ∙ wrong-hit (a .t) (a .o .now) x (l .k) k _ _ (from w (l .at)) m _ v (c .if2 .taken)))
+    let v = r .ensures .1 (column-at (a .t) i) (c .before .before .before .before .before .before .before .before .find-kinds .ensures i s) (c .before .before .before .before .before .before .before .find-lows .ensures i s) (c .before .before .before .before .before .before .find-highs .ensures i s) in
+    judged-wrong (a .t) (held (a .t) (a .o .now)) (fields w) _ (l .ns) (c .if2 .taken) (sym (sym (l .inv .2) ∙ wrong-hit (a .t) (a .o .now) x (l .k) k _ _ (from w (l .at)) m _ (v .0) (c .if2 .taken)))
 
-number-of-requires : tie.Need-number-of-requires Inv-loop μ-loop
-number-of-requires c κs = search needs
-
-mul-ns-2 : tie.Need-mul-ns-2 Inv-loop μ-loop
-mul-ns-2 c = let s = c .before .before .before .before .before .before .before .before .before .before .before .before .before .pre .orderly .small (c .before .before .before .before .before .before .before .loop .k) in search needs
+mul-ns : tie.Need-mul-ns Inv-loop μ-loop
+mul-ns c = let s = c .before .before .before .before .before .before .before .before .before .before .before .pre .orderly .small (c .before .before .before .before .before .loop .k) in search needs
 
 array-write-ns : tie.Need-array-write-ns Inv-loop μ-loop
-array-write-ns c = c .before .before .before .before .before .before .before .before .before .before .before .before .before .pre .orderly .small (c .before .before .before .before .before .before .before .loop .k)
+array-write-ns c = c .before .before .before .before .before .before .before .before .before .before .before .pre .orderly .small (c .before .before .before .before .before .loop .k)
 
 add-at : tie.Need-add-at Inv-loop μ-loop
 add-at c =
-    let l = c .before .before .before .before .before .before .before .loop in
-    let a = c .before .before .before .before .before .before .before .before .before .before .before .before .before .args in
-    let r = c .before .before .before .read-field in
-    let h = end-in (a .w .now) (l .at) (r .result .end) (search needs) (r .ensures .0) in
+    let l = c .before .before .before .before .before .loop in
+    let r = c .before .judge-field in
+    let h = end-in (c .before .before .before .before .before .before .before .before .before .before .before .args .w .now) (l .at) (r .result .end) (search needs) (r .ensures .0) in
     search needs
 
 add-k : tie.Need-add-k Inv-loop μ-loop
@@ -120,29 +110,26 @@ loop-less c = search needs
 
 loop-again : tie.Need-loop-again Inv-loop μ-loop
 loop-again c =
-    let a = c .before .before .before .before .before .before .before .before .before .before .before .before .before .args in
-    let x = c .before .before .before .before .before .before .before .before .before .before .before .before .before .pre in
-    let l = c .before .before .before .before .before .before .before .loop in
-    let r = c .before .before .before .read-field in
+    let a = c .before .before .before .before .before .before .before .before .before .before .before .args in
+    let x = c .before .before .before .before .before .before .before .before .before .before .before .pre in
+    let l = c .before .before .before .before .before .loop in
+    let r = c .before .judge-field in
     let w = a .w .now in
     let i = getD (a .o .now) (l .k) 0 in
     let h : l .at ≤ length w = search needs in
-    let k : l .k < width (a .t) = omega (arith, c .before .before .before .before .before .before .before .before .before .before .before .find-width .ensures) in
+    let k : l .k < width (a .t) = omega (arith, c .before .before .before .before .before .before .before .before .before .find-width .ensures) in
     let m = from-next w (l .at) (r .result .end) h (r .ensures .0) in
     let s : i < WIDEST = x .orderly .small (l .k) in
-    let kind = c .before .before .before .before .before .before .before .before .before .before .find-kinds .ensures i s in
-    let low = c .before .before .before .before .before .before .before .before .before .find-lows .ensures i s in
-    let high = c .before .before .before .before .before .before .before .before .find-highs .ensures i s in
-    let v = c .before .before .refusal-of .ensures ∙ refusal-read (column-at (a .t) i) _ (field-from w (l .at)) kind low high _ _ (r .ensures .1) in
+    let v = r .ensures .1 (column-at (a .t) i) (c .before .before .before .before .before .before .before .before .find-kinds .ensures i s) (c .before .before .before .before .before .before .before .find-lows .ensures i s) (c .before .before .before .before .before .before .find-highs .ensures i s) in
     let y = end-in w (l .at) (r .result .end) h (r .ensures .0) in
-    let g = c .number-of .ensures ∙ value-read (column-at (a .t) i) _ (field-from w (l .at)) kind low high _ _ (r .ensures .1) in (
+    let d = l .inv .3 ∙ m in (
       omega arith,
       omega arith,
-      sym (wrong-more (a .t) (a .o .now) x (l .k) k _ _ (from w (l .at)) m _ v (c .before .if2 .left)) ∙ l .inv .2,
-      next-left (fields w) (l .k) _ _ (l .inv .3 ∙ m),
-      omega (arith, ap length (l .inv .3 ∙ m), length-drop (l .k) (fields w)),
-      length-set (l .ns) i (c .number-of .result) ∙ l .inv .5,
-      numbers-more (a .t) (a .o .now) x (fields w) (l .k) (l .ns) (field-from w (l .at)) _ k (l .inv .5) (l .inv .6) (head-left (fields w) (l .k) _ _ (l .inv .3 ∙ m)) (sym v ∙ c .before .if2 .left) g,
+      sym (wrong-more (a .t) (a .o .now) x (l .k) k _ _ (from w (l .at)) m _ (v .0) (c .if2 .left)) ∙ l .inv .2,
+      next-left (fields w) (l .k) _ _ d,
+      omega (arith, ap length d, length-drop (l .k) (fields w)),
+      length-set (l .ns) i (r .result .value) ∙ l .inv .5,
+      numbers-more (a .t) (a .o .now) x (fields w) (l .k) (l .ns) (field-from w (l .at)) _ k (l .inv .5) (l .inv .6) (head-left (fields w) (l .k) _ _ d) (sym (v .0) ∙ c .if2 .left) (v .1),
     )
 
 returns-3 : tie.Need-returns-3 Inv-loop μ-loop
@@ -166,16 +153,14 @@ judge-fields-spec =
     returns
     element-copy-out-c
     cast-c
-    array-read-if2
-    mul-t20
-    array-read-t29
-    mul-ns
-    array-read-ns
-    read-field-requires
-    refusal-of-requires
+    array-read-judge-field
+    mul-judge-field
+    array-read-judge-field-2
+    mul-judge-field-2
+    array-read-judge-field-3
+    judge-field-requires
     returns-2
-    number-of-requires
-    mul-ns-2
+    mul-ns
     array-write-ns
     add-at
     add-k

@@ -1,6 +1,5 @@
 -- `repeats::repeats::find_end` meets its contract. Assumes nothing.
 use Rattle.seats.specs.Faults.{scan-end}
-use Prim.Native.Nat.{_-_}
 use borrow.Author.Tests.{eq-eqb, ne-eqb}
 use Rattle.repeats.proofs.repeats.find_end.Statement.{statement}
 use Rattle.repeats.proofs.repeats.find_end.Tie as tie

@@ -1,6 +1,5 @@
 -- `repeats::repeats::repeat_number` meets its contract. Assumes nothing.
 use Rattle.seats.specs.Faults.{repeat-number}
-use Prim.Native.Nat.{_-_}
 use Rattle.repeats.proofs.repeats.repeat_number.Statement.{statement}
 use Rattle.repeats.proofs.repeats.repeat_number.Tie as tie
 

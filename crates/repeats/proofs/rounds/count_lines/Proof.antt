@@ -1,5 +1,4 @@
 -- `repeats::rounds::count_lines` meets its contract. Assumes nothing.
-use Rattle.lines.proofs.CursorLaws.{handed}
 use lib.ListN.{length}
 use Prim.Native.Nat.{_-_, _≤_}
 use native.Mathlib.Omega.{arith}
@@ -8,31 +7,27 @@ use Rattle.repeats.proofs.rounds.count_lines.Statement.{statement}
 use Rattle.repeats.proofs.rounds.count_lines.Tie as tie
 
 abbrev Inv-loop : tie.InvT-loop
-Inv-loop w c₀ n₀ c n =
-    (c .at ≤ length w) × (n ≤ c .at)
+Inv-loop w at₀ n₀ at n =
+    (at ≤ length w) × (n ≤ at)
 
 abbrev μ-loop : tie.MeasureT-loop
-μ-loop w c₀ n₀ c n =
-    length w - c .at
+μ-loop w at₀ n₀ at n =
+    length w - at
 
 loop-holds : tie.Need-loop-holds Inv-loop μ-loop
 loop-holds c = (omega arith, omega arith)
 
-line-requires : tie.Need-line-requires Inv-loop μ-loop
-line-requires c κs = search needs
+pass-line-requires : tie.Need-pass-line-requires Inv-loop μ-loop
+pass-line-requires c κs = c .loop-test .taken
 
 add-n : tie.Need-add-n Inv-loop μ-loop
-add-n c = search needs
+add-n c = omega (arith, c .before .loop-test .taken)
 
 loop-less : tie.Need-loop-less Inv-loop μ-loop
-loop-less c =
-    let t = handed (c .before .before .before .before .before .before .args .w .now) (c .before .before .before .before .loop .c .at) (c .before .line .result) (c .before .before .if1 .taken) (c .before .line .ensures) in
-    omega arith
+loop-less c = omega arith
 
 loop-again : tie.Need-loop-again Inv-loop μ-loop
-loop-again c =
-    let t = handed (c .before .before .before .before .before .before .args .w .now) (c .before .before .before .before .loop .c .at) (c .before .line .result) (c .before .before .if1 .taken) (c .before .line .ensures) in
-    (omega arith, omega arith)
+loop-again c = (omega arith, omega arith)
 
 returns : tie.Need-returns Inv-loop μ-loop
 returns c = search needs
@@ -40,12 +35,4 @@ returns c = search needs
 pub count-lines-spec : {M : Type 1} → statement M
 count-lines-spec =
     tie.close
-    (tie.spec
-    Inv-loop
-    μ-loop
-    loop-holds
-    line-requires
-    add-n
-    loop-less
-    loop-again
-    returns)
+    (tie.spec Inv-loop μ-loop loop-holds pass-line-requires add-n loop-less loop-again returns)
