@@ -33,8 +33,10 @@ pub fn less_key(a: Key, b: Key) -> bool
     let y = b.k;
     let mut i: usize = 0;
     while i < PLACES {
-        if x[i] != y[i] {
-            return x[i] < y[i];
+        let p = x[i];
+        let q = y[i];
+        if p != q {
+            return p < q;
         }
         i += 1;
     }

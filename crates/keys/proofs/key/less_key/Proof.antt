@@ -18,29 +18,17 @@ abbrev μ-loop : tie.MeasureT-loop
 loop-holds : tie.Need-loop-holds Inv-loop μ-loop
 loop-holds c = (omega arith, search needs, search needs, refl)
 
-mul-if1 : tie.Need-mul-if1 Inv-loop μ-loop
-mul-if1 c = search needs
+mul-p : tie.Need-mul-p Inv-loop μ-loop
+mul-p c = search needs
 
-array-read-if1 : tie.Need-array-read-if1 Inv-loop μ-loop
-array-read-if1 c = search needs
+array-read-p : tie.Need-array-read-p Inv-loop μ-loop
+array-read-p c = search needs
 
-mul-if1-2 : tie.Need-mul-if1-2 Inv-loop μ-loop
-mul-if1-2 c = search needs
+mul-q : tie.Need-mul-q Inv-loop μ-loop
+mul-q c = search needs
 
-array-read-if1-2 : tie.Need-array-read-if1-2 Inv-loop μ-loop
-array-read-if1-2 c = search needs
-
-mul-result : tie.Need-mul-result Inv-loop μ-loop
-mul-result c = search needs
-
-array-read-result : tie.Need-array-read-result Inv-loop μ-loop
-array-read-result c = search needs
-
-mul-result-2 : tie.Need-mul-result-2 Inv-loop μ-loop
-mul-result-2 c = search needs
-
-array-read-result-2 : tie.Need-array-read-result-2 Inv-loop μ-loop
-array-read-result-2 c = search needs
+array-read-q : tie.Need-array-read-q Inv-loop μ-loop
+array-read-q c = search needs
 
 returns : tie.Need-returns Inv-loop μ-loop
 returns c = let a = c .before .before .before .before .before .args .a .k in
@@ -75,14 +63,10 @@ less-key-spec =
     Inv-loop
     μ-loop
     loop-holds
-    mul-if1
-    array-read-if1
-    mul-if1-2
-    array-read-if1-2
-    mul-result
-    array-read-result
-    mul-result-2
-    array-read-result-2
+    mul-p
+    array-read-p
+    mul-q
+    array-read-q
     returns
     add-i
     loop-less
