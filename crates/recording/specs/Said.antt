@@ -8,16 +8,11 @@ use Rattle.page.specs.Bytes.{Bytes, pick}
 use Rattle.page.specs.Lines.{content, command, rest, Rec}
 use Rattle.page.specs.Fields.{fields}
 use Rattle.page.specs.Cut.{Section, sections}
-use Rattle.page.specs.Tables.{columns}
-use Rattle.page.specs.Order.{Order, by-column, column-in}
+use Rattle.page.specs.Order.{Order}
 use Rattle.page.specs.Section.{rec-verdict}
-use Rattle.page.specs.Records.{Record, valuesOf, waits, record-in, table-of, order-in}
+use Rattle.page.specs.Records.{Record, waits, record-in, table-of, order-in}
 use Rattle.page.specs.Model.{Content}
 use Rattle.page.specs.Rules.{Every}
-
--- what a record's line says, of which w is what stands after the first `;`
-abbrev pub row : ℕ → Order → ℕ → Bytes → Record
-row t o m w = valuesOf (column-in o m) 1 (columns t) (by-column o (fields w))
 
 -- the records of these lines, in the order o, where a mark of field m waits
 unfoldable pub rows-of : ℕ → Order → ℕ → List Bytes → List Record

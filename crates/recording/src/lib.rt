@@ -1,5 +1,4 @@
-// Records and sections of the written file.
-mod record;
+// Sections of the written file.
 mod section;
 
 pub use section::Progress;

@@ -15,11 +15,13 @@ fn pair() -> Pair<'static> {
     }
 }
 
+/// The large ones are left to the program, which is compiled to be fast.
 #[test]
-fn drawn_and_large_files() {
+fn drawn_files() {
     let options = Options {
         seed: 2,
         count: 2_000,
+        large: false,
         ..Options::default()
     };
     let summary = run(pair(), &options, |_| {});

@@ -2,7 +2,7 @@ use mathlib.Core.Path.{sym}
 use borrow.Author.Needs.{needs}
 use Rattle.tables.specs.Orders.{held}
 use Rattle.output.proofs.PutLaws.{put-as, put-none}
-use Rattle.recording.specs.Said.{row}
+use Rattle.records.specs.Row.{row}
 use Rattle.recording.proofs.SectionLaws.{record-stays, record-goes, stays-count, goes-count}
 use Rattle.recording.proofs.section.put_staying.Statement.{statement}
 use Rattle.recording.proofs.section.put_staying.Tie as tie

@@ -1,6 +1,6 @@
 use borrow.Author.Tests.{eq-eqb, ne-eqb}
-use Rattle.recording.proofs.record.is_plain.Statement.{statement}
-use Rattle.recording.proofs.record.is_plain.Tie as tie
+use Rattle.records.proofs.record.is_plain.Statement.{statement}
+use Rattle.records.proofs.record.is_plain.Tie as tie
 
 returns : tie.Need-returns
 returns c = rw (eq-eqb (c .before .before .args .m) 0 (c .before .if1 .taken))

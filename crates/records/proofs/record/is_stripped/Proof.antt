@@ -1,6 +1,6 @@
 use borrow.Author.Needs.{needs}
-use Rattle.recording.proofs.record.is_stripped.Statement.{statement}
-use Rattle.recording.proofs.record.is_stripped.Tie as tie
+use Rattle.records.proofs.record.is_stripped.Statement.{statement}
+use Rattle.records.proofs.record.is_stripped.Tie as tie
 
 add-result : tie.Need-add-result
 add-result c = search needs

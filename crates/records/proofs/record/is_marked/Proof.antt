@@ -1,8 +1,8 @@
 use Rattle.copies.proofs.FieldLaws.{marked-filled, marked-stripped, marked-other, marked-waiting}
 use mathlib.Core.Path.{_∙_}
 use borrow.Author.Needs.{needs}
-use Rattle.recording.proofs.record.is_marked.Statement.{statement}
-use Rattle.recording.proofs.record.is_marked.Tie as tie
+use Rattle.records.proofs.record.is_marked.Statement.{statement}
+use Rattle.records.proofs.record.is_marked.Tie as tie
 
 add-if1 : tie.Need-add-if1
 add-if1 c = search needs

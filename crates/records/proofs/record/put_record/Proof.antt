@@ -14,9 +14,9 @@ use Rattle.output.proofs.PutLaws.{puts, put-as}
 use Rattle.copies.specs.Changed.{changed-values}
 use Rattle.copies.specs.Planned.{record-by}
 use Rattle.copies.proofs.PartLaws.{record-is, record-length}
-use Rattle.recording.proofs.RecordLaws.{columns-many, record-copied, copied-length}
-use Rattle.recording.proofs.record.put_record.Statement.{statement}
-use Rattle.recording.proofs.record.put_record.Tie as tie
+use Rattle.records.proofs.RecordLaws.{columns-many, record-copied, copied-length}
+use Rattle.records.proofs.record.put_record.Statement.{statement}
+use Rattle.records.proofs.record.put_record.Tie as tie
 
 column-in-requires : tie.Need-column-in-requires
 column-in-requires c κs = c .before .before .before .pre .2 .orderly

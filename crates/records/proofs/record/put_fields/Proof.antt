@@ -12,9 +12,9 @@ use Rattle.frames.proofs.LineLaws.{separator-length}
 use Rattle.output.proofs.PutLaws.{Todo, begin, next-by, at-end, same, puts}
 use Rattle.copies.specs.Parts.{fields-form}
 use Rattle.copies.proofs.FieldLaws.{fields-more, fields-end}
-use Rattle.recording.proofs.RecordLaws.{place-within, start-within, start-field, start-sound}
-use Rattle.recording.proofs.record.put_fields.Statement.{statement}
-use Rattle.recording.proofs.record.put_fields.Tie as tie
+use Rattle.records.proofs.RecordLaws.{place-within, start-within, start-field, start-sound}
+use Rattle.records.proofs.record.put_fields.Statement.{statement}
+use Rattle.records.proofs.record.put_fields.Tie as tie
 
 abbrev Inv-loop : tie.InvT-loop
 Inv-loop out₀ at w t o m plan text n starts q₀ k₀ out q k =

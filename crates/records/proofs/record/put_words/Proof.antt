@@ -5,9 +5,9 @@ use Rattle.page.specs.Bytes.{part}
 use Rattle.output.specs.Raw.{raw-text}
 use Rattle.output.proofs.FormLaws.{raw-length}
 use Rattle.output.proofs.PutLaws.{put-as}
-use Rattle.recording.proofs.RecordLaws.{picked, unpicked}
-use Rattle.recording.proofs.record.put_words.Statement.{statement}
-use Rattle.recording.proofs.record.put_words.Tie as tie
+use Rattle.records.proofs.RecordLaws.{picked, unpicked}
+use Rattle.records.proofs.record.put_words.Statement.{statement}
+use Rattle.records.proofs.record.put_words.Tie as tie
 
 slice-aggregate-put-bytes : tie.Need-slice-aggregate-put-bytes
 slice-aggregate-put-bytes c = search needs

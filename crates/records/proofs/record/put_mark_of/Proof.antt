@@ -1,8 +1,8 @@
 use Rattle.output.proofs.PutLaws.{put-as, put-none}
 use Rattle.copies.proofs.FieldLaws.{mark-put, mark-left}
 use borrow.Author.Needs.{needs}
-use Rattle.recording.proofs.record.put_mark_of.Statement.{statement}
-use Rattle.recording.proofs.record.put_mark_of.Tie as tie
+use Rattle.records.proofs.record.put_mark_of.Statement.{statement}
+use Rattle.records.proofs.record.put_mark_of.Tie as tie
 
 is-marked-requires : tie.Need-is-marked-requires
 is-marked-requires c κs = search needs

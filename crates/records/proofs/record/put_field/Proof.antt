@@ -2,9 +2,9 @@ use borrow.Author.Needs.{needs}
 use native.Mathlib.Omega.{arith}
 use Rattle.output.proofs.PutLaws.{put-as}
 use Rattle.copies.proofs.FieldLaws.{text-narrow, field-filled, field-text, field-amount}
-use Rattle.recording.proofs.RecordLaws.{words-asked, number-asked, refusal-asked}
-use Rattle.recording.proofs.record.put_field.Statement.{statement}
-use Rattle.recording.proofs.record.put_field.Tie as tie
+use Rattle.records.proofs.RecordLaws.{words-asked, number-asked, refusal-asked}
+use Rattle.records.proofs.record.put_field.Statement.{statement}
+use Rattle.records.proofs.record.put_field.Tie as tie
 
 add-if1 : tie.Need-add-if1
 add-if1 c = search needs

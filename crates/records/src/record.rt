@@ -18,7 +18,7 @@ ghost use Rattle.output.specs.Raw.{raw-text};
 ghost use Rattle.tables.specs.Orders.{held, Stands};
 ghost use Rattle.copies.specs.Parts.{marked-by, mark-by, marks-form, datum-by, fields-form, Whole};
 ghost use Rattle.copies.specs.Planned.{record-by};
-ghost use Rattle.recording.specs.Said.{row};
+ghost use Rattle.records.specs.Row.{row};
 use copies::Plan;
 use copies::all_written;
 use decimals::put_decimal;

@@ -8,8 +8,8 @@ use borrow.Author.Needs.{needs}
 use Prim.Native.Nat.{_+_, _-_, _<_, _≤_}
 use native.Mathlib.Omega.{arith}
 use lib.ListN.{drop}
-use Rattle.recording.proofs.record.put_marks.Statement.{statement}
-use Rattle.recording.proofs.record.put_marks.Tie as tie
+use Rattle.records.proofs.record.put_marks.Statement.{statement}
+use Rattle.records.proofs.record.put_marks.Tie as tie
 
 abbrev Inv-loop : tie.InvT-loop
 Inv-loop out₀ at t m plan n o₀ k₀ out o k =

@@ -4,8 +4,8 @@ use mathlib.Core.Bool.{false≢true}
 use borrow.Author.Tests.{eqb-true, not-false}
 use lib.Dec.{eqb}
 use Rattle.page.proofs.TestLaws.{and-left, and-right}
-use Rattle.recording.proofs.record.is_kept.Statement.{statement}
-use Rattle.recording.proofs.record.is_kept.Tie as tie
+use Rattle.records.proofs.record.is_kept.Statement.{statement}
+use Rattle.records.proofs.record.is_kept.Tie as tie
 
 returns : tie.Need-returns
 returns c = λ e. absurd (false≢true e)
