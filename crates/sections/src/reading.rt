@@ -8,12 +8,14 @@ ghost use Rattle.page.specs.File.{rowOf};
 ghost use Rattle.cut.specs.Walk.{section-from};
 use cut::section_end;
 use lines::Cursor;
+use machine::read_order;
 use machine::step;
 use page::Outcome;
 use page::Phase;
 use page::Row;
 use page::Step;
 use tables::find_number;
+use tables::list_columns;
 
 // "Table number is 0 if the `tbl` line fails."
 fn table_in(p: Phase) -> u32
@@ -64,16 +66,21 @@ pub fn read_lines(s: &[u8], latin: bool) -> Outcome
     let mut c = Cursor { at: 0 };
     let mut n: usize = 0;
     let mut p = Phase::Tbl;
+    let mut o = list_columns();
     while c.at < s.len() {
         let at = c.at;
         let l = c.line(s);
         let e = l.span.to;
-        let st = step(&s[at..e], p, latin);
+        let st = step(&s[at..e], p, &o, latin);
         n += 1;
         c = l.next;
         match st {
             Step::Go(q) => {
+                let last = p;
                 p = q;
+                if let Phase::Atr(t) = last {
+                    o = read_order(&s[at..e], t);
+                }
             }
             Step::Stop(v) => {
                 return refuse(table_in(p), v, n);

@@ -6,18 +6,18 @@ use Rattle.page.specs.Section.{atr-step, choose}
 use Rattle.machine.proofs.machine.step_atr.Statement.{statement}
 use Rattle.machine.proofs.machine.step_atr.Tie as tie
 
-names-match-requires : tie.Need-names-match-requires
-names-match-requires c κs = search needs
+arrange-requires : tie.Need-arrange-requires
+arrange-requires c κs = search needs
 
 returns : tie.Need-returns
 unfolding atr-step choose
 returns c =
-    rw (sym (c .before .names-match .ensures) ∙ c .if1 .taken)
+    rw (sym (c .before .arrange .ensures .0) ∙ c .if1 .taken)
 
 returns-2 : tie.Need-returns-2
 unfolding atr-step choose
 returns-2 c =
-    rw (sym (c .before .names-match .ensures) ∙ c .if1 .left)
+    rw (sym (c .before .arrange .ensures .0) ∙ c .if1 .left)
 
 pub step-atr-spec : {M : Type 1} → statement M
-step-atr-spec = tie.close (tie.spec names-match-requires returns returns-2)
+step-atr-spec = tie.close (tie.spec arrange-requires returns returns-2)
