@@ -6,12 +6,12 @@ ghost use Rattle.page.specs.File.{any};
 ghost use Rattle.scans.specs.Scan.{bears};
 use crate::guesses::find_bits;
 use crate::guesses::find_slot;
+use choices::Choice;
 use keys::Key;
 use lines::Cursor;
 use scans::Find;
 use scans::bears_key;
 use scans::find_start;
-use tables::Choice;
 
 // Among some lines from the one at a place on, and round again.
 pub fn finds_near(w: &[u8], at: usize, steps: usize, choice: Choice, key: Key) -> Find

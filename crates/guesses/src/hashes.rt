@@ -1,8 +1,8 @@
 // A hash of the numbers that a line has in the fields of a choice, in one walk over its bytes. It is for guesses: nothing is checked, and
 // a line that is no record has one too. Records whose numbers are equal have the same, however they are written and in whatever order.
+use choices::Choice;
 use keys::Key;
 use lines::Cursor;
-use tables::Choice;
 
 // A line's hash, and where the next line begins.
 pub struct Hashed {

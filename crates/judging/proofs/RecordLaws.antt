@@ -24,7 +24,7 @@ use Rattle.page.proofs.TestLaws.{false-true}
 use Rattle.page.proofs.OrderLaws.{place-in, place-at, by-column-at}
 use Rattle.page.proofs.TableLaws.{width-le, points-there}
 use Rattle.page.proofs.FieldLaws.{from, from-end}
-use Rattle.tables.specs.Choices.{rules-of}
+use Rattle.tables.specs.Keys.{rules-of}
 use Rattle.tables.specs.Orders.{held, Stands}
 use Rattle.tables.proofs.OrderLaws.{held-length, held-at, held-standing, held-column}
 use Rattle.judging.specs.Judging.{number-of, Tells, Numbers, Amounts, Judged, breaks, broken-by}

@@ -23,8 +23,9 @@ use Rattle.page.proofs.OrderLaws.{arranged-long, arranged-once, arranged-below,
 use Rattle.page.proofs.TableLaws.{width-le}
 use Rattle.tables.specs.Arrays.{fill}
 use Rattle.tables.proofs.ArrayLaws.{fill-at}
-use Rattle.tables.specs.Choices.{coded, kind-of, total, rank, choice-of, by-key, key-columns, key-choice, flags, reference-at, refer-columns, refer-choice}
-use Rattle.tables.proofs.ChoiceLaws.{rank-le, rank-lt, rank-up, rank-find, key-few, refer-few}
+use Rattle.tables.specs.Keys.{by-key, key-columns, flags, reference-at, refer-columns}
+use Rattle.choices.specs.Choices.{coded, kind-of, total, rank, choice-of, key-choice, refer-choice}
+use Rattle.choices.proofs.ChoiceLaws.{rank-le, rank-lt, rank-up, rank-find, key-few, refer-few}
 use Rattle.tables.proofs.ReferenceLaws.{flagged, flags-columns}
 use Rattle.keys.specs.Numbers.{datum-number, seven, key-numbers, refer-numbers, packed-from, packed, field-as, gather, gathered}
 use Rattle.keys.proofs.StoreLaws.{put, gather-one, gather-none}

@@ -17,7 +17,7 @@ use Rattle.page.specs.declared.Owner.{Owner}
 use Rattle.page.proofs.TestLaws.{and-left, and-right}
 use Rattle.page.proofs.TableLaws.{each}
 use Rattle.tables.specs.Arrays.{fill}
-use Rattle.tables.specs.Choices.{reference-at}
+use Rattle.tables.specs.Keys.{reference-at}
 use Rattle.keys.specs.Numbers.{datum-number, seven, key-numbers, refer-numbers}
 use Rattle.keys.proofs.PackLaws.{byte, packed-same}
 use Rattle.tables.proofs.ReferenceLaws.{count, Small, short, plain-at, reference-size, reference-plain, primary-plain, small-primary}

@@ -11,7 +11,7 @@ use Rattle.page.specs.Section.{record-text, amount}
 use Rattle.page.specs.Records.{Datum, number, words, Record, own-bytes}
 use Rattle.page.specs.File.{key-in, referred}
 use Rattle.tables.specs.Arrays.{fill}
-use Rattle.tables.specs.declared.choices.Choice.{Choice}
+use Rattle.choices.specs.declared.Choice.{Choice}
 use Rattle.page.specs.declared.Column.{Column}
 
 -- one byte more, in base 256; past seven bytes there is no room

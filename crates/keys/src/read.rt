@@ -13,9 +13,9 @@ ghost use Rattle.digits.specs.Runs.{field-from};
 ghost use Rattle.keys.specs.Numbers.{push, packed, field-as, gathered};
 use crate::key::Key;
 use crate::key::PLACES;
+use choices::Choice;
 use page::Column;
 use page::Field;
-use tables::Choice;
 
 // A field as a number, and where it ends.
 struct Taken {

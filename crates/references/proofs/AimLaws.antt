@@ -17,9 +17,10 @@ use Rattle.page.specs.File.{any, by-primary, lost, first-record, filedOf}
 use Rattle.page.specs.Answers.{sound}
 use Rattle.page.specs.declared.Refusal.{Refusal}
 use Rattle.page.proofs.TableLaws.{references-le}
-use Rattle.tables.specs.declared.choices.Choice.{Choice}
+use Rattle.choices.specs.declared.Choice.{Choice}
 use Rattle.tables.specs.Orders.{held}
-use Rattle.tables.specs.Choices.{key-choice, refer-choice, target-at}
+use Rattle.tables.specs.Keys.{target-at}
+use Rattle.choices.specs.Choices.{key-choice, refer-choice}
 use Rattle.keys.specs.Numbers.{gathered}
 use Rattle.keys.proofs.GatherLaws.{gathered-reference}
 use Rattle.references.specs.declared.aims.Aim.{Aim}

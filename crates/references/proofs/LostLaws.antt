@@ -19,8 +19,9 @@ use Rattle.page.specs.Answers.{refusal, sound}
 use Rattle.page.specs.File.{any, Filed, filed-in, filed, filedOf, key-of, by-primary, meets, lost, first-record}
 use Rattle.page.proofs.CutLaws.{no-section}
 use Rattle.page.proofs.FileLaws.{first-section, by-section, meets-nowhere, meets-in}
-use Rattle.tables.specs.declared.choices.Choice.{Choice}
-use Rattle.tables.specs.Choices.{key-choice, no-reference, reference-at, target-at}
+use Rattle.choices.specs.declared.Choice.{Choice}
+use Rattle.tables.specs.Keys.{no-reference, reference-at, target-at}
+use Rattle.choices.specs.Choices.{key-choice}
 use Rattle.keys.specs.Numbers.{key-numbers, refer-numbers}
 use Rattle.keys.proofs.GatherLaws.{gathered-key, gathered-reference}
 use Rattle.keys.proofs.SameLaws.{Fitting, reference-same}

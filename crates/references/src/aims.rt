@@ -4,10 +4,10 @@ ghost use lib.ListN.{getD};
 ghost use Rattle.tables.specs.Orders.{held, Stands};
 ghost use Rattle.seats.specs.Seating.{Ready};
 ghost use Rattle.references.specs.Aims.{aim-at, Aimed, Aiming};
+use choices::Choice;
 use seats::Seats;
 use seats::find_order;
 use seats::find_seat;
-use tables::Choice;
 use tables::TABLES;
 use tables::WIDEST;
 
@@ -44,7 +44,7 @@ fn take_aim(s: &[u8], seats: Seats, t: usize, r: usize, o: &[u8; WIDEST]) -> Aim
     requires { ⌜ Ready (now s) seats × Stands t (now o) ⌝ }
     ensures { λ x. ⌜ Aimed (now (s .entry)) seats t (held t (now (o .entry))) r x ⌝ }
 {
-    let refer = tables::choose_reference(t, r, o);
+    let refer = choices::choose_reference(t, r, o);
     let u = tables::find_target(t, r);
     let k = find_place(seats, u);
     if k == 0 {
@@ -60,7 +60,7 @@ fn take_aim(s: &[u8], seats: Seats, t: usize, r: usize, o: &[u8; WIDEST]) -> Aim
     let from = seat.from;
     let to = seat.to;
     let order = find_order(s, seats, k - 1);
-    let key = tables::choose_key(u, false, &order);
+    let key = choices::choose_key(u, false, &order);
     Aim {
         refer: refer,
         target: u,

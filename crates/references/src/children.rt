@@ -7,6 +7,7 @@ ghost use Rattle.references.specs.Aims.{Within};
 use crate::aims::Aim;
 use crate::aims::Aims;
 use crate::aims::find_aim;
+use choices::Choice;
 use guesses::Known;
 use guesses::add_place;
 use guesses::hash_key;
@@ -23,7 +24,6 @@ use guesses::set_noted;
 use guesses::wipe;
 use keys::Key;
 use lines::Cursor;
-use tables::Choice;
 use tables::MOST;
 
 fn widen(t: usize) -> u64 {

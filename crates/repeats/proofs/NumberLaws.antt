@@ -15,7 +15,7 @@ use Rattle.page.specs.File.{any}
 use Rattle.page.proofs.LineLaws.{line-size, line-in, cut-at, lines-end}
 use Rattle.page.proofs.KeyLaws.{any-no}
 use Rattle.page.proofs.TestLaws.{same-true}
-use Rattle.tables.specs.declared.choices.Choice.{Choice}
+use Rattle.choices.specs.declared.Choice.{Choice}
 use Rattle.scans.specs.Scan.{is-record, line-key, bears, again, Starts, first-line}
 use Rattle.repeats.specs.Rounds.{again-at}
 use Rattle.scans.proofs.ScanLaws.{starts-first, starts-next, passed-lines}

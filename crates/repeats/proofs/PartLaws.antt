@@ -11,8 +11,8 @@ use Rattle.page.specs.Lines.{lines}
 use Rattle.page.specs.Answers.{refusal, sound}
 use Rattle.page.specs.File.{repeats, first-record, filedOf}
 use Rattle.page.proofs.LineLaws.{line-size}
-use Rattle.tables.specs.declared.choices.Choice.{Choice}
-use Rattle.tables.specs.Choices.{by-key}
+use Rattle.choices.specs.declared.Choice.{Choice}
+use Rattle.tables.specs.Keys.{by-key}
 use Rattle.scans.specs.Scan.{again, rises, raised, Topped, first-line}
 use Rattle.scans.proofs.ScanLaws.{passed-lines}
 use Rattle.scans.proofs.TopLaws.{topped-none, rise-new, rise-topped}

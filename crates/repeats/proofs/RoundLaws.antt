@@ -14,7 +14,7 @@ use Rattle.page.specs.Bytes.{Bytes}
 use Rattle.page.specs.Lines.{lines}
 use Rattle.page.proofs.LineLaws.{line-size}
 use Rattle.keys.specs.Orders.{hashed}
-use Rattle.tables.specs.declared.choices.Choice.{Choice}
+use Rattle.choices.specs.declared.Choice.{Choice}
 use Rattle.scans.specs.Scan.{is-record, line-key, again, first-line}
 use Rattle.bits.specs.Bits.{Has, Added, two-of, four-of, lane-of}
 use Rattle.repeats.specs.Rounds.{again-at, hash-of, hash-at, Round, Crowded, Doubtful, Sieved, MarkedLine, Doubted, SettledLine, Settled}

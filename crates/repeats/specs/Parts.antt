@@ -2,7 +2,7 @@
 use Prim.Native.Nat.{_-_}
 use lib.ListN.{take, drop}
 use Rattle.page.specs.Bytes.{Bytes}
-use Rattle.tables.specs.declared.choices.Choice.{Choice}
+use Rattle.choices.specs.declared.Choice.{Choice}
 use Rattle.seats.specs.declared.seating.Seat.{Seat}
 use Rattle.seats.specs.Faults.{scan-end}
 

@@ -6,7 +6,7 @@ use mathlib.Core.Logic.{_⊎_}
 use Prim.Native.Nat.{ℕ, _<_, _≤_}
 use lib.ListN.{length, getD, take}
 use Rattle.page.specs.Bytes.{Bytes}
-use Rattle.tables.specs.declared.choices.Choice.{Choice}
+use Rattle.choices.specs.declared.Choice.{Choice}
 use Rattle.keys.specs.Orders.{hashed}
 use Rattle.scans.specs.Scan.{is-record, line-key, again}
 use Rattle.bits.specs.Bits.{two-of, four-of, lane-of, Has}

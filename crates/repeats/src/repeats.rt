@@ -2,7 +2,7 @@
 ghost use mathlib.Core.Path.{_≡_};
 ghost use mathlib.Core.List.{[]};
 ghost use Rattle.page.specs.File.{repeats, first-record, filedOf};
-ghost use Rattle.tables.specs.Choices.{by-key};
+ghost use Rattle.tables.specs.Keys.{by-key};
 ghost use Prim.Native.Nat.{_<_};
 ghost use Rattle.page.specs.Answers.{refusal};
 ghost use Rattle.seats.specs.Seating.{seat-at, Ready};
@@ -10,6 +10,7 @@ ghost use Rattle.seats.specs.Faults.{repeat-number, seat-key, scan-end};
 ghost use Rattle.repeats.specs.Parts.{scan-part};
 use crate::rounds::find_repeat;
 use crate::rounds::pass_line;
+use choices::Choice;
 use keys::Key;
 use page::Refusal;
 use scans::find_rise;
@@ -17,7 +18,6 @@ use seats::Seat;
 use seats::Seats;
 use seats::find_order;
 use seats::find_seat;
-use tables::Choice;
 
 fn repeat_number(second: bool) -> u32
     ensures { λ r. ⌜ r ≡ repeat-number second ⌝ }
@@ -62,7 +62,7 @@ fn find_choice(s: &[u8], seats: Seats, i: usize, second: bool) -> Choice
 {
     let seat = find_seat(seats, i);
     let order = find_order(s, seats, i);
-    tables::choose_key(seat.table, second, &order)
+    choices::choose_key(seat.table, second, &order)
 }
 
 // "each at the first record in file order that breaks it"

@@ -13,10 +13,10 @@ use bits::find_lane;
 use bits::has_four;
 use bits::put_four;
 use bits::put_two;
+use choices::Choice;
 use commands::is_record;
 use lines::Cursor;
 use scans::is_again;
-use tables::Choice;
 
 // Words of the table that all records of a round are put into, and of that of the doubtful ones.
 const CROWD: usize = 20480;

@@ -17,7 +17,7 @@ use Rattle.page.proofs.ScanLaws.{part-length}
 use Rattle.page.proofs.LineLaws.{line-size, line-in, cut-at, lines-end, joined-lines, joined-length, run-lines, ends, lines-append}
 use Rattle.page.proofs.PartLaws.{part-rest}
 use Rattle.page.proofs.KeyLaws.{any-append}
-use Rattle.tables.specs.declared.choices.Choice.{Choice}
+use Rattle.choices.specs.declared.Choice.{Choice}
 use Rattle.keys.specs.Numbers.{gathered}
 use Rattle.scans.specs.Scan.{is-record, line-key, bears, again, Starts, first-line, some}
 use Rattle.page.proofs.TestLaws.{or-false}

@@ -10,7 +10,7 @@ use Rattle.page.specs.Fields.{fields}
 use Rattle.page.specs.File.{any}
 use Rattle.page.proofs.KeyLaws.{any-append}
 use Rattle.page.proofs.TestLaws.{same-true, neither}
-use Rattle.tables.specs.declared.choices.Choice.{Choice}
+use Rattle.choices.specs.declared.Choice.{Choice}
 use Rattle.keys.specs.Numbers.{gathered}
 use Rattle.keys.specs.Orders.{less}
 use Rattle.keys.proofs.OrderLaws.{less-self, less-new, less-top}

@@ -11,7 +11,7 @@ use Rattle.page.specs.Fields.{fields}
 use Rattle.page.specs.Answers.{refusal, sound}
 use Rattle.page.specs.File.{any}
 use Rattle.page.specs.declared.Refusal.{Refusal}
-use Rattle.tables.specs.declared.choices.Choice.{Choice}
+use Rattle.choices.specs.declared.Choice.{Choice}
 use Rattle.keys.specs.Numbers.{gathered}
 use Rattle.keys.specs.Orders.{less}
 

@@ -5,9 +5,9 @@ ghost use lib.ListN.{length, take, drop};
 ghost use Rattle.page.specs.Lines.{lines};
 ghost use Rattle.page.specs.File.{any};
 ghost use Rattle.scans.specs.Scan.{bears, again, rises, raised, Starts};
+use choices::Choice;
 use keys::Key;
 use lines::Cursor;
-use tables::Choice;
 
 // Is a line a record that has a key in the fields of a choice?
 pub fn bears_key(l: &[u8], choice: Choice, key: Key) -> bool

@@ -22,13 +22,14 @@ use Rattle.page.specs.declared.Column.{Column}
 use Rattle.page.proofs.CutLaws.{no-section}
 use Rattle.page.proofs.KeyLaws.{any-append, faulty, record-none}
 use Rattle.page.proofs.FileLaws.{repeats-by-section}
-use Rattle.tables.specs.declared.choices.Choice.{Choice}
+use Rattle.choices.specs.declared.Choice.{Choice}
 use Rattle.tables.specs.Orders.{held}
-use Rattle.tables.specs.Choices.{by-key, key-choice}
+use Rattle.tables.specs.Keys.{by-key}
+use Rattle.choices.specs.Choices.{key-choice}
 use Rattle.names.specs.Told.{Told}
 use Rattle.names.proofs.ToldLaws.{told-order}
 use Rattle.keys.specs.Numbers.{key-numbers}
-use Rattle.tables.proofs.ChoiceLaws.{has-choice}
+use Rattle.choices.proofs.ChoiceLaws.{has-choice}
 use Rattle.tables.proofs.ReferenceLaws.{Small, small-primary, small-second}
 use Rattle.keys.proofs.GatherLaws.{gathered-key}
 use Rattle.keys.proofs.SameLaws.{Fitting, key-same}

@@ -14,8 +14,9 @@ use Rattle.page.specs.Records.{valuesOf}
 use Rattle.page.specs.Answers.{sound}
 use Rattle.page.specs.File.{any, by-primary, lost, first-record, filedOf}
 use Rattle.page.specs.declared.Refusal.{Refusal}
-use Rattle.tables.specs.declared.choices.Choice.{Choice}
-use Rattle.tables.specs.Choices.{by-key, key-choice, reference-at, target-at}
+use Rattle.choices.specs.declared.Choice.{Choice}
+use Rattle.tables.specs.Keys.{by-key, reference-at, target-at}
+use Rattle.choices.specs.Choices.{key-choice}
 use Rattle.keys.specs.Numbers.{refer-numbers}
 use Rattle.scans.specs.Scan.{is-record, bears, again, first-line, some}
 use Rattle.seats.specs.Seating.{seat-at, seat-lines, seat-order}

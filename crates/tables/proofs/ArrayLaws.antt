@@ -8,7 +8,7 @@ use Rattle.page.specs.Tables.{Named, Rule, points-differ, Table, all-tables, TA
 use Rattle.page.specs.declared.Column.{Column}
 use Rattle.page.proofs.TableLaws.{tables-counted, width-le, past-tables, past-width, past-columns, listed, each-table}
 use Rattle.tables.specs.Arrays.{fill, rows}
-use Rattle.tables.specs.Choices.{rules-of}
+use Rattle.tables.specs.Keys.{rules-of}
 
 pub fill-at : {A : Type 0} (d e : A) (n : ℕ) (xs : List A) (k : ℕ) → k < n → getD (fill n d xs) k e ≡ getD xs k d
 unfolding fill

@@ -1,5 +1,4 @@
 pub mod ArrayLaws
 pub mod WordLaws
 pub mod ReferenceLaws
-pub mod ChoiceLaws
 pub mod OrderLaws

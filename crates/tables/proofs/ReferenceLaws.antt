@@ -15,7 +15,7 @@ use Rattle.page.specs.declared.Column.{Column}
 use Rattle.page.proofs.TestLaws.{same-true}
 use Rattle.page.proofs.TableLaws.{each, each-at, table-test, references-le, past-tables}
 use Rattle.tables.specs.Arrays.{fill, rows}
-use Rattle.tables.specs.Choices.{no-reference, reference-at, flags}
+use Rattle.tables.specs.Keys.{no-reference, reference-at, flags}
 use Rattle.tables.proofs.ArrayLaws.{entry}
 
 pub reference-test : (p : Table → Reference → Bool) → ((x : Table) → p x no-reference ≡ true)

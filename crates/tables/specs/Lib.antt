@@ -1,4 +1,4 @@
 pub mod Arrays
 pub mod Words
-pub mod Choices
+pub mod Keys
 pub mod Orders

@@ -5,7 +5,7 @@ ghost use mathlib.Core.Bool.{false};
 ghost use Prim.Native.Nat.{ℕ, _<_};
 ghost use lib.ListN.{getD};
 ghost use Rattle.page.specs.Tables.{WIDEST, number-at, width, column-at, rules};
-ghost use Rattle.tables.specs.Choices.{rules-of};
+ghost use Rattle.tables.specs.Keys.{rules-of};
 use crate::FILLABLE;
 use crate::HIGH;
 use crate::LOW;

@@ -1,15 +1,11 @@
 // "The columns, kinds, ranges and keys stand once, as fixed tables": one array a property, indexed by table and column or by table
 // and reference, for the reader, the checker and the writer alike. The tables stand in the order of document 01; past a table's own
 // columns and references its places are empty.
-mod choices;
 mod columns;
 mod names;
 mod order;
 mod references;
 
-pub use choices::Choice;
-pub use choices::choose_key;
-pub use choices::choose_reference;
 pub use columns::find_column;
 pub use columns::find_highs;
 pub use columns::find_kinds;
@@ -29,6 +25,8 @@ pub use order::is_listed;
 pub use order::list_columns;
 pub use order::may_mark;
 pub use references::count_references;
+pub use references::find_key;
+pub use references::find_reference;
 pub use references::find_target;
 
 pub const TABLES: usize = 8;

@@ -1,13 +1,30 @@
-// The references of a table.
+// The keys and references of a table.
 ghost use mathlib.Core.Path.{_≡_};
 ghost use lib.ListN.{length};
 ghost use Rattle.page.specs.Tables.{table-at};
-ghost use Rattle.tables.specs.Choices.{target-at};
+ghost use Rattle.tables.specs.Keys.{by-key, key-columns, refer-columns, target-at};
 use crate::COUNTS;
 use crate::MOST;
 use crate::NONE;
+use crate::PRIMARY;
+use crate::REFERENCES;
+use crate::SECOND;
 use crate::TABLES;
 use crate::TARGETS;
+use crate::WIDEST;
+
+// The columns of the primary key of table t, or of its second one.
+pub fn find_key(t: usize, second: bool) -> [bool; WIDEST]
+    ensures { λ r. ⌜ r ≡ key-columns (by-key second) t ⌝ }
+{
+    if t < TABLES {
+        if second {
+            return SECOND[t];
+        }
+        return PRIMARY[t];
+    }
+    [false; WIDEST]
+}
 
 pub fn count_references(t: usize) -> usize
     ensures { λ r. ⌜ r ≡ length (table-at t .references) ⌝ }
@@ -16,6 +33,18 @@ pub fn count_references(t: usize) -> usize
         return COUNTS[t];
     }
     0
+}
+
+// The columns of reference r of table t, from 0.
+pub fn find_reference(t: usize, r: usize) -> [bool; WIDEST]
+    ensures { λ x. ⌜ x ≡ refer-columns t r ⌝ }
+{
+    if t < TABLES {
+        if r < MOST {
+            return REFERENCES[t][r];
+        }
+    }
+    [false; WIDEST]
 }
 
 // The table that it goes to; past the last, if there is none.

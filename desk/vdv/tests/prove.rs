@@ -19,8 +19,11 @@ impl Repository {
         repository.put("crates.txt", "page:\nvdv: page\n");
         repository.put("crates/page/src/lib.rt", "fine\n");
         repository.put("crates/vdv/src/lib.rt", "");
-        let prove = Path::new(env!("CARGO_MANIFEST_DIR")).join("prove");
-        symlink(prove, repository.0.join("desk/vdv/prove")).unwrap();
+        let scripts = Path::new(env!("CARGO_MANIFEST_DIR"));
+        for script in ["prove", "room"] {
+            let link = repository.0.join("desk/vdv").join(script);
+            symlink(scripts.join(script), link).unwrap();
+        }
         repository
     }
 

@@ -2,7 +2,7 @@
 use Rattle.page.specs.Bytes.{same, bytes}
 use Rattle.page.specs.Lines.{find}
 use Rattle.page.specs.Tables.{TABLES, all-tables, table-named}
-use Rattle.tables.specs.Choices.{target-at}
+use Rattle.tables.specs.Keys.{target-at}
 use Rattle.tables.specs.Arrays.{fill, rows}
 use Rattle.tables.proofs.ReferenceLaws.{reference-entry, past-entry, past-row, target-in, no-target}
 use borrow.Author.Needs.{needs}

@@ -1,4 +1,4 @@
--- `tables::choices::find_key` meets its contract. Assumes nothing.
+-- `tables::references::find_key` meets its contract. Assumes nothing.
 use mathlib.Core.Path.{ap, sym, _∙_}
 use mathlib.Core.Bool.{Bool, false}
 use mathlib.Core.List.{map}
@@ -6,10 +6,10 @@ use borrow.Author.Needs.{needs}
 use Rattle.page.specs.Tables.{Named, Table, all-tables, WIDEST, columns}
 use Rattle.page.proofs.TableLaws.{past-tables}
 use Rattle.tables.specs.Arrays.{fill, rows}
-use Rattle.tables.specs.Choices.{by-key, key-columns}
+use Rattle.tables.specs.Keys.{by-key, key-columns}
 use Rattle.tables.proofs.ArrayLaws.{row-at}
-use Rattle.tables.proofs.choices.find_key.Statement.{statement}
-use Rattle.tables.proofs.choices.find_key.Tie as tie
+use Rattle.tables.proofs.references.find_key.Statement.{statement}
+use Rattle.tables.proofs.references.find_key.Tie as tie
 
 mul-result : tie.Need-mul-result
 mul-result c = search needs

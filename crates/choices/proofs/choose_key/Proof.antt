@@ -1,13 +1,13 @@
--- `tables::choices::choose_key` meets its contract. Assumes nothing.
+-- `choices::choose_key` meets its contract. Assumes nothing.
 use mathlib.Core.Path.{ap, _∙_}
 use mathlib.Core.Bool.{Bool}
 use mathlib.Core.List.{List}
 use borrow.Author.Needs.{needs}
-use Rattle.tables.specs.Choices.{choice-of, key-choice}
+use Rattle.choices.specs.Choices.{choice-of, key-choice}
 use Rattle.tables.specs.Orders.{held}
-use Rattle.tables.proofs.ChoiceLaws.{key-few}
-use Rattle.tables.proofs.choices.choose_key.Statement.{statement}
-use Rattle.tables.proofs.choices.choose_key.Tie as tie
+use Rattle.choices.proofs.ChoiceLaws.{key-few}
+use Rattle.choices.proofs.choose_key.Statement.{statement}
+use Rattle.choices.proofs.choose_key.Tie as tie
 
 find-key-requires : tie.Need-find-key-requires
 find-key-requires c κs = search needs

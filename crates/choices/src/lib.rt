@@ -4,16 +4,14 @@ ghost use Prim.Native.Nat.{ℕ, _<_, _≤_};
 ghost use lib.ListN.{getD};
 ghost use Rattle.page.specs.Bytes.{pick};
 ghost use Rattle.page.specs.Tables.{WIDEST};
-ghost use Rattle.tables.specs.Choices.{total, rank, choice-of, by-key, key-columns, key-choice, refer-columns, refer-choice};
+ghost use Rattle.tables.specs.Keys.{by-key};
+ghost use Rattle.choices.specs.Choices.{total, rank, choice-of, key-choice, refer-choice};
 ghost use Rattle.tables.specs.Orders.{held, Orderly};
-use crate::MOST;
-use crate::PRIMARY;
-use crate::REFERENCES;
-use crate::SECOND;
-use crate::TABLES;
-use crate::WIDEST;
-use crate::columns::find_kinds;
-use crate::columns::find_width;
+use tables::WIDEST;
+use tables::find_key;
+use tables::find_kinds;
+use tables::find_reference;
+use tables::find_width;
 
 // A digit a place, from the left the lowest first. Of base 4 in kinds: 0: not this field; 1: its number; 2: its text. Of base 8 in slots:
 // which of the key's numbers it is, by column.
@@ -76,35 +74,12 @@ fn choose_columns(t: usize, taken: [bool; WIDEST], o: &[u8; WIDEST]) -> Choice
     }
 }
 
-fn find_key(t: usize, second: bool) -> [bool; WIDEST]
-    ensures { λ r. ⌜ r ≡ key-columns (by-key second) t ⌝ }
-{
-    if t < TABLES {
-        if second {
-            return SECOND[t];
-        }
-        return PRIMARY[t];
-    }
-    [false; WIDEST]
-}
-
 // The primary key of table t, or its second one; no field if it has none.
 pub fn choose_key(t: usize, second: bool, o: &[u8; WIDEST]) -> Choice
     requires { ⌜ Orderly (now o) ⌝ }
     ensures { λ r. ⌜ r ≡ key-choice (by-key second) t (held t (now (o .entry))) ⌝ }
 {
     choose_columns(t, find_key(t, second), o)
-}
-
-fn find_reference(t: usize, r: usize) -> [bool; WIDEST]
-    ensures { λ x. ⌜ x ≡ refer-columns t r ⌝ }
-{
-    if t < TABLES {
-        if r < MOST {
-            return REFERENCES[t][r];
-        }
-    }
-    [false; WIDEST]
 }
 
 // The fields of reference r of table t, from 0.

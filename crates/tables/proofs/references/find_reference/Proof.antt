@@ -1,14 +1,14 @@
--- `tables::choices::find_reference` meets its contract. Assumes nothing.
+-- `tables::references::find_reference` meets its contract. Assumes nothing.
 use mathlib.Core.Bool.{false}
 use mathlib.Core.List.{[]}
 use borrow.Author.Needs.{needs}
 use Rattle.page.specs.Tables.{all-tables, WIDEST}
 use Rattle.page.specs.File.{any}
 use Rattle.tables.specs.Arrays.{fill, rows}
-use Rattle.tables.specs.Choices.{flags, refer-columns}
+use Rattle.tables.specs.Keys.{flags, refer-columns}
 use Rattle.tables.proofs.ReferenceLaws.{reference-entry, past-entry, past-row, flags-in, no-flags}
-use Rattle.tables.proofs.choices.find_reference.Statement.{statement}
-use Rattle.tables.proofs.choices.find_reference.Tie as tie
+use Rattle.tables.proofs.references.find_reference.Statement.{statement}
+use Rattle.tables.proofs.references.find_reference.Tie as tie
 
 mul-result : tie.Need-mul-result
 mul-result c = search needs

@@ -1,4 +1,4 @@
--- `tables::choices::choose_columns` meets its contract. Assumes nothing.
+-- `choices::choose_columns` meets its contract. Assumes nothing.
 use mathlib.Core.Path.{_≡_, sym}
 use mathlib.Core.Bool.{false}
 use Prim.Native.Nat.{_+_, _-_, _≤_}
@@ -7,12 +7,12 @@ use borrow.Author.Needs.{needs}
 use lib.ListN.{length, getD}
 use Rattle.page.specs.Tables.{width, column-at}
 use Rattle.page.proofs.TableLaws.{width-le}
-use Rattle.tables.specs.Choices.{kind-of}
+use Rattle.choices.specs.Choices.{kind-of}
 use Rattle.tables.specs.Orders.{held}
 use Rattle.tables.proofs.OrderLaws.{held-length, held-at}
-use Rattle.tables.proofs.ChoiceLaws.{rank-le, kind-told, kinds-from, slots-from, kinds-end, slots-end, kinds-down, slots-down, kinds-small, slots-small, choice-all}
-use Rattle.tables.proofs.choices.choose_columns.Statement.{statement}
-use Rattle.tables.proofs.choices.choose_columns.Tie as tie
+use Rattle.choices.proofs.ChoiceLaws.{rank-le, kind-told, kinds-from, slots-from, kinds-end, slots-end, kinds-down, slots-down, kinds-small, slots-small, choice-all}
+use Rattle.choices.proofs.choose_columns.Statement.{statement}
+use Rattle.choices.proofs.choose_columns.Tie as tie
 
 abbrev Inv-loop : tie.InvT-loop
 Inv-loop t o taken texts ranks kinds₀ slots₀ k₀ kinds slots k =

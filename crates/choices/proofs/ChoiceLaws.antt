@@ -18,10 +18,11 @@ use Rattle.page.specs.declared.Column.{Column}
 use Rattle.page.proofs.TableLaws.{each, table-test, width-le}
 use Rattle.page.proofs.KeyLaws.{any-yes, any-no}
 use Rattle.page.proofs.OrderLaws.{arranged-below, place-in}
 use Rattle.tables.specs.Arrays.{fill}
-use Rattle.tables.specs.Choices.{coded, kind-of, total, rank, choice-of, by-key, key-columns, key-choice, refer-columns, flags}
+use Rattle.tables.specs.Keys.{by-key, key-columns, refer-columns, flags}
+use Rattle.choices.specs.Choices.{coded, kind-of, total, rank, choice-of, key-choice}
 use Rattle.tables.proofs.ArrayLaws.{fill-at}
 use Rattle.tables.proofs.ReferenceLaws.{reference-test}
 
 -- the columns taken before a column
 

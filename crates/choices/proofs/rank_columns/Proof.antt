@@ -1,4 +1,4 @@
--- `tables::choices::rank_columns` meets its contract. Assumes nothing.
+-- `choices::rank_columns` meets its contract. Assumes nothing.
 use mathlib.Core.Path.{_≡_, refl, sym, _∙_}
 use Prim.Native.Nat.{ℕ, _-_, _<_, _≤_}
 use native.Mathlib.Omega.{arith}
@@ -7,10 +7,10 @@ use borrow.Author.Needs.{needs}
 use lib.ListN.{length, getD, length-set}
 use lib.Seq.{getD-set-same, getD-set-other}
 use Rattle.page.specs.Tables.{WIDEST}
-use Rattle.tables.specs.Choices.{rank}
-use Rattle.tables.proofs.ChoiceLaws.{rank-first, rank-step}
-use Rattle.tables.proofs.choices.rank_columns.Statement.{statement}
-use Rattle.tables.proofs.choices.rank_columns.Tie as tie
+use Rattle.choices.specs.Choices.{rank}
+use Rattle.choices.proofs.ChoiceLaws.{rank-first, rank-step}
+use Rattle.choices.proofs.rank_columns.Statement.{statement}
+use Rattle.choices.proofs.rank_columns.Tie as tie
 
 abbrev Inv-loop : tie.InvT-loop
 Inv-loop taken ranks₀ n₀ c₀ ranks n c =

@@ -1,13 +1,13 @@
--- `tables::choices::choose_reference` meets its contract. Assumes nothing.
+-- `choices::choose_reference` meets its contract. Assumes nothing.
 use mathlib.Core.Path.{ap, _∙_}
 use mathlib.Core.Bool.{Bool}
 use mathlib.Core.List.{List}
 use borrow.Author.Needs.{needs}
-use Rattle.tables.specs.Choices.{choice-of, refer-choice}
+use Rattle.choices.specs.Choices.{choice-of, refer-choice}
 use Rattle.tables.specs.Orders.{held}
-use Rattle.tables.proofs.ChoiceLaws.{refer-few}
-use Rattle.tables.proofs.choices.choose_reference.Statement.{statement}
-use Rattle.tables.proofs.choices.choose_reference.Tie as tie
+use Rattle.choices.proofs.ChoiceLaws.{refer-few}
+use Rattle.choices.proofs.choose_reference.Statement.{statement}
+use Rattle.choices.proofs.choose_reference.Tie as tie
 
 find-reference-requires : tie.Need-find-reference-requires
 find-reference-requires c κs = search needs
