@@ -27,12 +27,7 @@ use Rattle.page.specs.declared.Step.the-variants as S
 use Rattle.page.proofs.Phase.{the-type}
 use Rattle.laws.proofs.Tests.{blank-missing}
 use Rattle.names.specs.Told.{Told}
-use Rattle.machine.specs.Carries.{order-at, Carries}
-
--- after a line of content c that led from p to q, the array a holds what the order is then
-pub record Carried (p q : Phase) (o : Order) (c : Bytes) (a : List ℕ) : Type 0 where
-  pub is : order-after p o c ≡ order-at q a
-  pub carries : Carries q a
+use Rattle.machine.specs.Carries.{order-at, Carries, Found, Carried}
 
 -- a phase at which no `atr` line is due: what the code's test on the phase tells
 abbrev pub Other : Phase → Type 0
@@ -43,6 +38,14 @@ due t (inl e) = absurd (omega arith)
 due t (inr (inl e)) = absurd (omega arith)
 due t (inr (inr (inl e))) = absurd (omega arith)
 due t (inr (inr (inr e))) = absurd (omega arith)
+
+pub none-due : (p : Phase) (w : Bytes) (b : Bool) → Other p → Found p w b
+unfolding Found
+none-due P.Tbl w b n = tt
+none-due (P.Atr t) w b n = due t n
+none-due (P.Frm t) w b n = tt
+none-due (P.Rows t m i) w b n = tt
+none-due (P.Ended t i) w b n = tt
 
 -- at such a phase a line that is taken leaves the order
 data Keeps (p : Phase) (o : Order) (c : Bytes) (a : List ℕ) : Step → Type 0 where

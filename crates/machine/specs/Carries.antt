@@ -1,7 +1,13 @@
 -- What a section's reading carries from line to line: the records that it has counted, and which column stands where.
+use mathlib.Core.Path.{_≡_}
+use mathlib.Core.Bool.{Bool}
 use mathlib.Core.List.{List, []}
 use Prim.Native.Nat.{ℕ}
-use Rattle.page.specs.Order.{Order}
+use Rattle.page.specs.Bytes.{Bytes}
+use Rattle.page.specs.Fields.{fields}
+use Rattle.page.specs.Tables.{width}
+use Rattle.page.specs.Order.{Order, order-of, arranged}
+use Rattle.page.specs.Section.{order-after}
 use Rattle.page.specs.declared.Phase.{Phase}
 use Rattle.page.specs.declared.Phase.the-variants as P
 use Rattle.tables.specs.Orders.{held, Stands}
@@ -28,3 +34,16 @@ Carries (P.Atr t) a = Unit
 Carries (P.Frm t) a = Stands t a
 Carries (P.Rows t m n) a = Stands t a
 Carries (P.Ended t n) a = Stands t a
+
+-- where the `atr` line is due: b says whether w, which stands after the line's first `;`, names an arrangement of the columns
+unfoldable pub Found : Phase → Bytes → Bool → Type 0
+Found P.Tbl w b = Unit
+Found (P.Atr t) w b = b ≡ arranged (width t) (order-of t (fields w))
+Found (P.Frm t) w b = Unit
+Found (P.Rows t m n) w b = Unit
+Found (P.Ended t n) w b = Unit
+
+-- after a line of content c that led from p to q, the array a holds what the order is then
+pub record Carried (p q : Phase) (o : Order) (c : Bytes) (a : List ℕ) : Type 0 where
+  pub is : order-after p o c ≡ order-at q a
+  pub carries : Carries q a

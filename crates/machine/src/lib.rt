@@ -1,5 +1,5 @@
 // The machine over a section's lines.
 mod machine;
 
-pub use machine::read_order;
+pub use machine::Moved;
 pub use machine::step;

@@ -6,11 +6,12 @@ ghost use lib.Dec.{eqb};
 ghost use Rattle.page.specs.Lines.{content, rest, Rec};
 ghost use Rattle.page.specs.Fields.{fields, numberOf};
 ghost use Rattle.page.specs.Marks.{remarkOf};
-ghost use Rattle.page.specs.Section.{tbl-step, atr-step, frm-step, rec-step, count-step, end-step, mark-step, com-step, line-step, content-step, step};
+ghost use Rattle.page.specs.Section.{choose, tbl-step, frm-step, rec-step, count-step, end-step, mark-step, com-step, line-step, content-step, step};
+ghost use Rattle.page.specs.declared.Phase.{Phase};
 ghost use Rattle.page.specs.declared.Phase.the-variants as P;
+ghost use Rattle.page.specs.declared.Step.the-variants as S;
 ghost use Rattle.tables.specs.Orders.{held, Orderly, Stands};
-ghost use Rattle.names.specs.Told.{Told};
-ghost use Rattle.machine.specs.Carries.{records-in, order-at, Carries};
+ghost use Rattle.machine.specs.Carries.{records-in, order-at, Carries, Found, Carried};
 use judging::judge_record;
 use page::Number;
 use page::Phase;
@@ -34,11 +35,10 @@ pub fn step_tbl(w: &[u8]) -> Step
 }
 
 // "`atr` 8"
-pub fn step_atr(w: &[u8], t: usize) -> Step
-    ensures { λ r. ⌜ r ≡ atr-step t (fields (now (w .entry))) ⌝ }
+pub fn step_atr(t: usize, found: bool) -> Step
+    ensures { λ r. ⌜ r ≡ choose found (S.Go (P.Frm t)) (S.Stop 8) ⌝ }
 {
-    let a = names::arrange(w, t);
-    if a.found {
+    if found {
         return Step::Go(Phase::Frm(t));
     }
     Step::Stop(8)
@@ -143,8 +143,8 @@ fn step_rows(w: &[u8], t: usize, o: &[u8; WIDEST], m: u64, n: usize, k: u32) -> 
 }
 
 // A line of a known command k, other than `com`, with w after its first `;`: "known command out of its order" is 6.
-pub fn step_line(w: &[u8], p: Phase, o: &[u8; WIDEST], k: u32) -> Step
-    requires { ⌜ Carries p (now o) × (records-in p + 1 < 18446744073709551616) ⌝ }
+pub fn step_line(w: &[u8], p: Phase, o: &[u8; WIDEST], found: bool, k: u32) -> Step
+    requires { ⌜ Carries p (now o) × (records-in p + 1 < 18446744073709551616) × Found p (now w) found ⌝ }
     ensures { λ r. ⌜ r ≡ line-step p (order-at p (now (o .entry))) k (now (w .entry)) ⌝ }
 {
     match p {
@@ -156,7 +156,7 @@ pub fn step_line(w: &[u8], p: Phase, o: &[u8; WIDEST], k: u32) -> Step
         }
         Phase::Atr(t) => {
             if k == commands::ATR {
-                return step_atr(w, t);
+                return step_atr(t, found);
             }
             Step::Stop(6)
         }
@@ -179,8 +179,8 @@ fn is_wide(latin: bool, k: u32) -> bool
 }
 
 // "in that line the first of 4, 5, 6, then" its command's own: c is the line's content.
-pub fn step_content(c: &[u8], p: Phase, o: &[u8; WIDEST], latin: bool) -> Step
-    requires { ⌜ Carries p (now o) × (records-in p + 1 < 18446744073709551616) ⌝ }
+pub fn step_content(c: &[u8], p: Phase, o: &[u8; WIDEST], found: bool, latin: bool) -> Step
+    requires { ⌜ Carries p (now o) × (records-in p + 1 < 18446744073709551616) × Found p (rest (now c)) found ⌝ }
     ensures { λ r. ⌜ r ≡ content-step latin p (order-at p (now (o .entry))) (now (c .entry)) ⌝ }
 {
     let k = commands::command_of(c);
@@ -197,20 +197,33 @@ pub fn step_content(c: &[u8], p: Phase, o: &[u8; WIDEST], latin: bool) -> Step
     if k == commands::COM {
         return step_com(w, p, o);
     }
-    step_line(w, p, o, k)
+    step_line(w, p, o, found, k)
 }
 
-pub fn step(l: &[u8], p: Phase, o: &[u8; WIDEST], latin: bool) -> Step
-    requires { ⌜ Carries p (now o) × (records-in p + 1 < 18446744073709551616) ⌝ }
-    ensures { λ r. ⌜ r ≡ step latin p (order-at p (now (o .entry))) (now (l .entry)) ⌝ }
-{
-    step_content(lines::content_of(l), p, o, latin)
+// What a line leads to, and which column stands where after it.
+pub struct Moved {
+    pub step: Step,
+    pub order: [u8; WIDEST],
 }
 
-// "The reading of `atr` must now say which column stands where": what a line that was due to be the `atr` line of table t states.
-pub fn read_order(l: &[u8], t: usize) -> [u8; WIDEST]
-    ensures { λ r. ⌜ Told t (fields (rest (content (now (l .entry))))) r ⌝ }
+// "The reading of `atr` must now say which column stands where": where that line is due, a line's names are read, and once.
+pub fn step(l: &[u8], p: Phase, o: [u8; WIDEST], latin: bool) -> Moved
+    requires { ⌜ Carries p o × (records-in p + 1 < 18446744073709551616) ⌝ }
+    ensures { λ r.
+        ⌜ (r .step ≡ step latin p (order-at p o) (now (l .entry)))
+        × ((q : Phase) → r .step ≡ S.Go q → Carried p q (order-at p o) (content (now (l .entry))) (r .order)) ⌝ }
 {
-    let a = names::arrange(lines::rest_of(lines::content_of(l)), t);
-    a.order
+    let c = lines::content_of(l);
+    if let Phase::Atr(t) = p {
+        let a = names::arrange(lines::rest_of(c), t);
+        let order = a.order;
+        return Moved {
+            step: step_content(c, p, &o, a.found, latin),
+            order: order,
+        };
+    }
+    Moved {
+        step: step_content(c, p, &o, false, latin),
+        order: o,
+    }
 }

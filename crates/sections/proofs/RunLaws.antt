@@ -22,8 +22,7 @@ use Rattle.page.specs.declared.Step.the-variants as S
 use Rattle.page.specs.declared.Outcome.{Outcome}
 use Rattle.page.proofs.ScanLaws.{part-length}
 use Rattle.page.proofs.LineLaws.{line-size, cut-at, lines-end, joined-lines}
-use Rattle.machine.specs.Carries.{records-in, order-at}
-use Rattle.machine.proofs.CarryLaws.{Carried}
+use Rattle.machine.specs.Carries.{records-in, order-at, Carried}
 use Rattle.cut.specs.Walk.{section-size, section-from}
 
 -- the line at a place, that ends at e

@@ -8,7 +8,6 @@ ghost use Rattle.page.specs.File.{rowOf};
 ghost use Rattle.cut.specs.Walk.{section-from};
 use cut::section_end;
 use lines::Cursor;
-use machine::read_order;
 use machine::step;
 use page::Outcome;
 use page::Phase;
@@ -71,16 +70,14 @@ pub fn read_lines(s: &[u8], latin: bool) -> Outcome
         let at = c.at;
         let l = c.line(s);
         let e = l.span.to;
-        let st = step(&s[at..e], p, &o, latin);
+        let m = step(&s[at..e], p, o, latin);
+        let st = m.step;
+        o = m.order;
         n += 1;
         c = l.next;
         match st {
             Step::Go(q) => {
-                let last = p;
                 p = q;
-                if let Phase::Atr(t) = last {
-                    o = read_order(&s[at..e], t);
-                }
             }
             Step::Stop(v) => {
                 return refuse(table_in(p), v, n);

@@ -1,9 +1,10 @@
 -- `machine::machine::step_line` meets its contract. Assumes nothing.
 use Prim.Native.Nat.{_-_}
+use mathlib.Core.Path.{sym}
 use borrow.Author.Tests.{eq-eqb, ne-eqb}
 use borrow.Author.Needs.{needs}
-use Rattle.page.specs.Section.{line-step, choose}
-use Rattle.machine.specs.Carries.{records-in, order-at, Carries}
+use Rattle.page.specs.Section.{line-step, atr-step, choose}
+use Rattle.machine.specs.Carries.{records-in, order-at, Carries, Found}
 use Rattle.machine.proofs.machine.step_line.Statement.{statement}
 use Rattle.machine.proofs.machine.step_line.Tie as tie
 
@@ -25,9 +26,10 @@ step-atr-requires : tie.Need-step-atr-requires
 step-atr-requires c κs = search needs
 
 returns-2 : tie.Need-returns-2
-unfolding line-step choose
+unfolding line-step atr-step choose Found
 returns-2 c =
-    rw (c .before .before .before .p .given .1, eq-eqb (c .before .before .before .before .before .before .args .k) 9 (c .before .if2 .taken)) (c .step-atr .ensures)
+    let f = rw (c .before .before .before .p .given .1) at (c .before .before .before .before .before .before .pre .2) in
+    rw (c .before .before .before .p .given .1, eq-eqb (c .before .before .before .before .before .before .args .k) 9 (c .before .if2 .taken), sym f) (c .step-atr .ensures)
 
 enum-known-p-2 : tie.Need-enum-known-p-2
 enum-known-p-2 c = search needs
@@ -46,7 +48,10 @@ enum-known-p-3 c = search needs
 
 step-rows-requires : tie.Need-step-rows-requires
 unfolding records-in Carries
-step-rows-requires c κs = rw (c .before .p3 .given .1) at (c .before .before .before .before .pre)
+step-rows-requires c κs =
+    let x = rw (c .before .p3 .given .1) at (c .before .before .before .before .pre .0) in
+    let y = rw (c .before .p3 .given .1) at (c .before .before .before .before .pre .1) in
+    (x, y)
 
 enum-told-2 : tie.Need-enum-told-2
 enum-told-2 c = search needs

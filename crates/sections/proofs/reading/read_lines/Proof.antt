@@ -8,7 +8,6 @@ use Rattle.page.specs.Section.{run, outcome}
 use Rattle.page.specs.Lines.{lines}
 use Rattle.lines.proofs.CursorLaws.{handed}
 use Rattle.machine.specs.Carries.{records-in, order-at, Carries}
-use Rattle.machine.proofs.CarryLaws.{carry-on, carry-atr}
 use Rattle.sections.proofs.RunLaws.{turn-go, turn-stop, run-end, step-small}
 use Rattle.sections.proofs.reading.read_lines.Statement.{statement}
 use Rattle.sections.proofs.reading.read_lines.Tie as tie
@@ -57,69 +56,24 @@ add-n c = search needs
 enum-known-st : tie.Need-enum-known-st Inv-loop μ-loop
 enum-known-st c = search needs
 
-enum-known-last : tie.Need-enum-known-last Inv-loop μ-loop
-enum-known-last c = search needs
-
-sub-read-order : tie.Need-sub-read-order Inv-loop μ-loop
-sub-read-order c =
-    let t = handed (c .before .before .before .before .before .before .before .before .before .before .before .before .before .before .before .before .args .s .now) (c .before .before .before .before .before .before .before .before .before .before .before .before .before .loop .c .at) (c .before .before .before .before .before .before .before .before .before .before .line .result) (c .before .before .before .before .before .before .before .before .before .before .before .if1 .taken) (c .before .before .before .before .before .before .before .before .before .before .line .ensures) in
-    omega arith
-
-part-read-order-start : tie.Need-part-read-order-start Inv-loop μ-loop
-part-read-order-start c =
-    let t = handed (c .before .before .before .before .before .before .before .before .before .before .before .before .before .before .before .before .args .s .now) (c .before .before .before .before .before .before .before .before .before .before .before .before .before .loop .c .at) (c .before .before .before .before .before .before .before .before .before .before .line .result) (c .before .before .before .before .before .before .before .before .before .before .before .if1 .taken) (c .before .before .before .before .before .before .before .before .before .before .line .ensures) in
-    search needs
-
-part-read-order-end : tie.Need-part-read-order-end Inv-loop μ-loop
-part-read-order-end c =
-    let t = handed (c .before .before .before .before .before .before .before .before .before .before .before .before .before .before .before .before .args .s .now) (c .before .before .before .before .before .before .before .before .before .before .before .before .before .loop .c .at) (c .before .before .before .before .before .before .before .before .before .before .line .result) (c .before .before .before .before .before .before .before .before .before .before .before .if1 .taken) (c .before .before .before .before .before .before .before .before .before .before .line .ensures) in
-    search needs
-
-read-order-requires : tie.Need-read-order-requires Inv-loop μ-loop
-read-order-requires c κs = search needs
-
 loop-less : tie.Need-loop-less Inv-loop μ-loop
 loop-less c =
-    let t = handed (c .before .before .before .before .before .before .before .before .before .before .before .before .before .before .before .before .before .before .args .s .now) (c .before .before .before .before .before .before .before .before .before .before .before .before .before .before .before .loop .c .at) (c .before .before .before .before .before .before .before .before .before .before .before .before .line .result) (c .before .before .before .before .before .before .before .before .before .before .before .before .before .if1 .taken) (c .before .before .before .before .before .before .before .before .before .before .before .before .line .ensures) in
+    let t = handed (c .before .before .before .before .before .before .before .before .before .before .before .before .before .args .s .now) (c .before .before .before .before .before .before .before .before .before .before .loop .c .at) (c .before .before .before .before .before .before .before .line .result) (c .before .before .before .before .before .before .before .before .if1 .taken) (c .before .before .before .before .before .before .before .line .ensures) in
     omega arith
 
 loop-again : tie.Need-loop-again Inv-loop μ-loop
 loop-again c =
-    let s = c .before .before .before .before .before .before .before .before .before .before .before .before .before .before .before .before .before .before .args .s .now in
-    let l = c .before .before .before .before .before .before .before .before .before .before .before .before .before .before .before .loop in
-    let x = c .before .before .before .before .before .before .before .before .before .step in
-    let g = c .before .before .before .before .before .before .st .given in
-    let t = handed s (l .c .at) (c .before .before .before .before .before .before .before .before .before .before .before .before .line .result) (c .before .before .before .before .before .before .before .before .before .before .before .before .before .if1 .taken) (c .before .before .before .before .before .before .before .before .before .before .before .before .line .ensures) in
-    let y = sym (x .ensures) ∙ g .1 in
-    let k = carry-atr _ _ _ _ _ _ _ (c .before .before .before .last .given .1) (c .read-order .ensures) y in (
+    let s = c .before .before .before .before .before .before .before .before .before .before .before .before .before .args .s .now in
+    let l = c .before .before .before .before .before .before .before .before .before .before .loop in
+    let x = c .before .before .before .before .before .step .ensures in
+    let g = c .before .st .given in
+    let t = handed (c .before .before .before .before .before .before .before .before .before .before .before .before .before .args .s .now) (c .before .before .before .before .before .before .before .before .before .before .loop .c .at) (c .before .before .before .before .before .before .before .line .result) (c .before .before .before .before .before .before .before .before .if1 .taken) (c .before .before .before .before .before .before .before .line .ensures) in
+    let k = x .1 _ (g .1) in (
       omega arith,
       omega arith,
-      omega (arith, step-small _ _ _ _ _ y),
+      omega (arith, step-small _ _ _ _ _ (sym (x .0) ∙ g .1)),
       k .carries,
-      rw (t .next)
-          (sym (turn-go s (l .c .at) (c .before .before .before .before .before .before .before .before .before .before .before .before .line .result .span .to) (c .before .before .before .before .before .before .before .before .before .before .before .before .before .if1 .taken) (t .size) _ _ _ _ _ (x .ensures) _ (g .1) _ k) ∙ l .inv .4),
-    )
-
-loop-less-2 : tie.Need-loop-less-2 Inv-loop μ-loop
-loop-less-2 c =
-    let t = handed (c .before .before .before .before .before .before .before .before .before .before .before .before .before .before .args .s .now) (c .before .before .before .before .before .before .before .before .before .before .before .loop .c .at) (c .before .before .before .before .before .before .before .before .line .result) (c .before .before .before .before .before .before .before .before .before .if1 .taken) (c .before .before .before .before .before .before .before .before .line .ensures) in
-    omega arith
-
-loop-again-2 : tie.Need-loop-again-2 Inv-loop μ-loop
-loop-again-2 c =
-    let s = c .before .before .before .before .before .before .before .before .before .before .before .before .before .before .args .s .now in
-    let l = c .before .before .before .before .before .before .before .before .before .before .before .loop in
-    let x = c .before .before .before .before .before .step in
-    let g = c .before .before .st .given in
-    let t = handed s (l .c .at) (c .before .before .before .before .before .before .before .before .line .result) (c .before .before .before .before .before .before .before .before .before .if1 .taken) (c .before .before .before .before .before .before .before .before .line .ensures) in
-    let y = sym (x .ensures) ∙ g .1 in
-    let k = carry-on _ _ _ _ _ (c .match2 .keys2) (l .inv .3) y in (
-      omega arith,
-      omega arith,
-      omega (arith, step-small _ _ _ _ _ y),
-      k .carries,
-      rw (t .next)
-          (sym (turn-go s (l .c .at) (c .before .before .before .before .before .before .before .before .line .result .span .to) (c .before .before .before .before .before .before .before .before .before .if1 .taken) (t .size) _ _ _ _ _ (x .ensures) _ (g .1) _ k) ∙ l .inv .4),
+      rw (t .next) (sym (turn-go s (l .c .at) (c .before .before .before .before .before .before .before .line .result .span .to) (c .before .before .before .before .before .before .before .before .if1 .taken) (t .size) _ _ _ _ _ (x .0) _ (g .1) _ k) ∙ l .inv .4),
     )
 
 enum-known-st-2 : tie.Need-enum-known-st-2 Inv-loop μ-loop
@@ -135,9 +89,9 @@ returns : tie.Need-returns Inv-loop μ-loop
 returns c =
     let s = c .before .before .before .before .before .before .before .before .before .before .before .before .before .before .before .args .s .now in
     let l = c .before .before .before .before .before .before .before .before .before .before .before .before .loop in
-    let t = handed s (l .c .at) (c .before .before .before .before .before .before .before .before .before .line .result) (c .before .before .before .before .before .before .before .before .before .before .if1 .taken) (c .before .before .before .before .before .before .before .before .before .line .ensures) in
+    let t = handed (c .before .before .before .before .before .before .before .before .before .before .before .before .before .before .before .args .s .now) (c .before .before .before .before .before .before .before .before .before .before .before .before .loop .c .at) (c .before .before .before .before .before .before .before .before .before .line .result) (c .before .before .before .before .before .before .before .before .before .before .if1 .taken) (c .before .before .before .before .before .before .before .before .before .line .ensures) in
     rw (c .refuse .ensures, c .before .table-in .ensures)
-    (sym (turn-stop s (l .c .at) (c .before .before .before .before .before .before .before .before .before .line .result .span .to) (c .before .before .before .before .before .before .before .before .before .before .if1 .taken) (t .size) _ _ _ _ _ (c .before .before .before .before .before .before .step .ensures) _ (c .before .before .before .st2 .given .1)) ∙ l .inv .4)
+    (sym (turn-stop s (l .c .at) (c .before .before .before .before .before .before .before .before .before .line .result .span .to) (c .before .before .before .before .before .before .before .before .before .before .if1 .taken) (t .size) _ _ _ _ _ (c .before .before .before .before .before .before .before .step .ensures .0) _ (c .before .before .before .st2 .given .1)) ∙ l .inv .4)
 
 finish-requires : tie.Need-finish-requires Inv-loop μ-loop
 finish-requires c κs = search needs
@@ -162,15 +116,8 @@ read-lines-spec =
     step-requires
     add-n
     enum-known-st
-    enum-known-last
-    sub-read-order
-    part-read-order-start
-    part-read-order-end
-    read-order-requires
     loop-less
     loop-again
-    loop-less-2
-    loop-again-2
     enum-known-st-2
     table-in-requires
     refuse-requires
