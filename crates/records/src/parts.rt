@@ -64,7 +64,14 @@ fn put_part(out: &mut [u8], at: usize, w: &[u8], a: usize, e: usize) -> usize
     put_bytes(out, s, &w[a..e])
 }
 
-pub fn put_parts(out: &mut [u8], at: usize, w: &[u8], t: usize, o: &[u8; WIDEST], parts: Parts) -> usize
+pub fn put_parts(
+    out: &mut [u8],
+    at: usize,
+    w: &[u8],
+    t: usize,
+    o: &[u8; WIDEST],
+    parts: Parts,
+) -> usize
     requires { ⌜ (at + length (separated (by-column (held t (now o)) (fields (now w)))) + 64 < 2 ^ 62)
         × Stands t (now o)
         × (length (fields (now w)) ≡ width t)
