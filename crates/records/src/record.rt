@@ -196,15 +196,36 @@ fn put_fields(
     q
 }
 
-// The parts of a record, in any order, that stand as they are written, with no mark.
-fn find_kept(w: &[u8], t: usize, o: &[u8; WIDEST], m: u64, plan: Plan) -> Parts
-    requires { ⌜ Stands t (now o) × (length (fields (now w)) ≡ width t) ⌝ }
-    ensures { λ r. ⌜ (r .all ≡ true
-        → (m ≡ 0)
-        × (plan .field ≡ 0)
-        × Parted t (held t (now (o .entry))) (now (w .entry)) (r .starts) (r .ends)) ⌝ }
+// Does a whole record stand as it is written, with no mark? Only in document 01's own order may it be copied.
+fn is_kept(w: &[u8], listed: bool, m: u64, plan: Plan) -> bool
+    ensures { λ r. ⌜ (r ≡ true → (listed ≡ true) × (m ≡ 0) × (plan .field ≡ 0) × Whole (now (w .entry))) ⌝ }
 {
+    if !listed {
+        return false;
+    }
     if is_plain(m, plan) {
+        return all_written(w);
+    }
+    false
+}
+
+// May the fields of a record be copied one by one? In document 01's own order `is_kept` has asked already whether they stand so.
+fn is_moved(listed: bool, m: u64, plan: Plan) -> bool
+    ensures { λ r. ⌜ (r ≡ true → (m ≡ 0) × (plan .field ≡ 0)) ⌝ }
+{
+    if listed {
+        return false;
+    }
+    is_plain(m, plan)
+}
+
+// The parts of a record in another order that stand as they are written, with no mark.
+fn find_kept(w: &[u8], t: usize, o: &[u8; WIDEST], listed: bool, m: u64, plan: Plan) -> Parts
+    requires { ⌜ Stands t (now o) × (length (fields (now w)) ≡ width t) ⌝ }
+    ensures { λ r.
+        ⌜ (r .all ≡ true → (m ≡ 0) × (plan .field ≡ 0) × Parted t (held t (now (o .entry))) (now (w .entry)) (r .starts) (r .ends)) ⌝ }
+{
+    if is_moved(listed, m, plan) {
         return find_parts(w, t, o);
     }
     Parts {
@@ -221,6 +242,7 @@ fn put_values(
     w: &[u8],
     t: usize,
     o: &[u8; WIDEST],
+    listed: bool,
     m: u64,
     plan: Plan,
     text: &[u8],
@@ -237,24 +259,11 @@ fn put_values(
         (fields-form (plan .strip) (plan .field) (now (text .entry)) m 1 (columns t) (by-column (held t (now (o .entry))) (fields (now (w .entry)))))
         (now (out .exit)) r ⌝ }
 {
-    let parts = find_kept(w, t, o, m, plan);
+    let parts = find_kept(w, t, o, listed, m, plan);
     if parts.all {
         return put_parts(out, at, w, t, o, parts);
     }
     put_fields(out, at, w, t, o, m, plan, text)
-}
-
-// Does a whole record stand as it is written, with no mark? Only in document 01's own order may it be copied.
-fn is_kept(w: &[u8], listed: bool, m: u64, plan: Plan) -> bool
-    ensures { λ r. ⌜ (r ≡ true → (listed ≡ true) × (m ≡ 0) × (plan .field ≡ 0) × Whole (now (w .entry))) ⌝ }
-{
-    if !listed {
-        return false;
-    }
-    if is_plain(m, plan) {
-        return all_written(w);
-    }
-    false
 }
 
 // A record that passed its rules, its fields in the order o, with the field of the mark that waits for it (0: none). `listed`: the order
@@ -290,6 +299,6 @@ pub fn put_record(
     }
     let a = put_marks(out, at, t, i, plan);
     let b = put_bytes(out, a, b"rec");
-    let c = put_values(out, b, w, t, o, i, plan, text);
+    let c = put_values(out, b, w, t, o, listed, i, plan, text);
     put_line_end(out, c, ends)
 }

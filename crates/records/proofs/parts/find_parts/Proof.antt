@@ -56,7 +56,7 @@ mul-starts c =
     search needs
 
 array-write-starts : tie.Need-array-write-starts Inv-loop μ-loop
-array-write-starts c = c .before .before .before .before .before .before .before .pre .0 .orderly .small (c .before .before .before .before .loop .k)
+array-write-starts c = omega (arith, c .before .before .before .before .before .before .before .pre .0 .orderly .small (c .before .before .before .before .loop .k), width-le (c .before .before .before .before .before .before .before .args .t))
 
 mul-ends : tie.Need-mul-ends Inv-loop μ-loop
 mul-ends c =
@@ -64,7 +64,7 @@ mul-ends c =
     search needs
 
 array-write-ends : tie.Need-array-write-ends Inv-loop μ-loop
-array-write-ends c = c .before .before .before .before .before .before .before .pre .0 .orderly .small (c .before .before .before .before .loop .k)
+array-write-ends c = omega (arith, c .before .before .before .before .before .before .before .pre .0 .orderly .small (c .before .before .before .before .loop .k), width-le (c .before .before .before .before .before .before .before .args .t))
 
 add-at : tie.Need-add-at Inv-loop μ-loop
 add-at c =
