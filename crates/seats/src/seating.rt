@@ -1,15 +1,9 @@
 // Where each table stands.
 ghost use mathlib.Core.Path.{_≡_};
-ghost use mathlib.Core.Bool.{true};
 ghost use Prim.Native.Nat.{_<_};
-ghost use Rattle.page.specs.Lines.{lines};
-ghost use Rattle.page.specs.Fields.{fields};
-ghost use Rattle.page.specs.Tables.{TABLES, WIDEST};
-ghost use Rattle.page.specs.Order.{upto};
-ghost use Rattle.page.specs.Records.{atr-in};
+ghost use Rattle.page.specs.Tables.{TABLES};
 ghost use Rattle.page.specs.Answers.{sound};
 ghost use Rattle.page.specs.File.{rowsOf, first-unsound};
-ghost use Rattle.names.specs.Told.{Told};
 ghost use Rattle.seats.specs.Seating.{seat-at, Ready, Ordered, Seating};
 use tables::TABLES;
 use tables::WIDEST;
@@ -21,22 +15,19 @@ pub struct Seat {
     pub to: usize,
 }
 
-// The sections in file order; the section of each table, from 1, or 0; the first section whose table stands before it, or 0; and of each
-// section whether its columns are known to stand as document 01 lists them: its `atr` line is then read no more.
+// Which column stands where in a section.
+pub struct Columns {
+    pub order: [u8; WIDEST],
+}
+
+// The sections in file order; the section of each table, from 1, or 0; the first section whose table stands before it, or 0; and the order of
+// each section's columns, so that its `atr` line is read no more.
 pub struct Seats {
     pub again: usize,
     pub count: usize,
     pub seats: [Seat; TABLES],
     pub place: [usize; TABLES],
-    pub listed: [bool; TABLES],
-}
-
-// Do the columns of section w, of table t, stand as document 01 lists them?
-fn is_own(w: &[u8], t: usize) -> bool
-    ensures { λ r. ⌜ (r ≡ true → Told t (fields (atr-in (lines (now (w .entry))))) (upto 0 WIDEST)) ⌝ }
-{
-    let o = names::find_order(w, t);
-    tables::is_listed(&o, t)
+    pub columns: [Columns; TABLES],
 }
 
 // One walk over the sections, so that the file is never searched for a table again.
@@ -50,7 +41,7 @@ pub fn seat_tables(s: &[u8]) -> Seats
         to: 0,
     }; TABLES];
     let mut place = [0; TABLES];
-    let mut listed = [false; TABLES];
+    let mut columns = [Columns { order: [0; WIDEST] }; TABLES];
     let mut n: usize = 0;
     let mut at = cut::find_section(s, 0);
     while at < s.len() {
@@ -64,16 +55,16 @@ pub fn seat_tables(s: &[u8]) -> Seats
                 count: n,
                 seats: seats,
                 place: place,
-                listed: listed,
+                columns: columns,
             };
         }
-        let own = is_own(&s[from..to], t);
+        let order = names::find_order(&s[from..to], t);
         seats[n] = Seat {
             table: t,
             from: from,
             to: to,
         };
-        listed[n] = own;
+        columns[n] = Columns { order: order };
         n += 1;
         place[t] = n;
     }
@@ -82,7 +73,7 @@ pub fn seat_tables(s: &[u8]) -> Seats
         count: n,
         seats: seats,
         place: place,
-        listed: listed,
+        columns: columns,
     }
 }
 
@@ -94,17 +85,12 @@ pub fn find_seat(seats: Seats, i: usize) -> Seat
     all[i]
 }
 
-// Which column stands where in section i.
+// Which column stands where in section i of s.
 pub fn find_order(s: &[u8], seats: Seats, i: usize) -> [u8; WIDEST]
     requires { ⌜ Ready (now s) seats × (i < seats .count) ⌝ }
     ensures { λ r. ⌜ Ordered (now (s .entry)) (seat-at seats i) r ⌝ }
 {
-    let known = seats.listed;
-    if known[i] {
-        return tables::list_columns();
-    }
-    let a = find_seat(seats, i);
-    let from = a.from;
-    let to = a.to;
-    names::find_order(&s[from..to], a.table)
+    let all = seats.columns;
+    let here = all[i];
+    here.order
 }

@@ -1,5 +1,4 @@
 -- `machine::machine::step_atr` meets its contract. Assumes nothing.
-use borrow.Author.Needs.{needs}
 use Rattle.page.specs.Section.{choose}
 use Rattle.machine.proofs.machine.step_atr.Statement.{statement}
 use Rattle.machine.proofs.machine.step_atr.Tie as tie

@@ -1,5 +1,4 @@
 use borrow.Author.Needs.{needs}
-use native.Mathlib.Omega.{arith}
 use Rattle.output.proofs.PutLaws.{puts}
 use Rattle.records.proofs.parts.put_part.Statement.{statement}
 use Rattle.records.proofs.parts.put_part.Tie as tie

@@ -1,9 +1,7 @@
 use borrow.Author.Needs.{needs}
 use Prim.Native.Nat.{_+_, _-_, _<_, _≤_}
-use mathlib.Core.List.{_∷_}
 use native.Mathlib.Omega.{arith}
-use lib.ListN.{length, getD, take, drop}
-use lib.Seq.{length-take-le}
+use lib.ListN.{drop}
 use Rattle.page.specs.Fields.{fields}
 use Rattle.page.specs.Tables.{width}
 use Rattle.page.specs.Order.{by-column}
