@@ -14,7 +14,7 @@ use Rattle.page.specs.Cut.{sections, header-lines}
 use Rattle.page.specs.Header.{headOf}
 use Rattle.page.specs.Head.{latinOf}
 use Rattle.page.specs.Section.{outcome, refused}
-use Rattle.page.specs.Records.{number, table-of}
+use Rattle.page.specs.Records.{table-of}
 use Rattle.page.specs.Answers.{refusal, sound, earlier, refuse-if}
 use Rattle.page.specs.File.{limit, too-long, found, any, row-of, rowOf, header-refusal, file-refusal}
 use Rattle.page.specs.Reading.{outside, section-at, row-at, find-refusal, sectionOf, list-refusal, listOf, verdict-of, value-refusal, value-at, valueOf}

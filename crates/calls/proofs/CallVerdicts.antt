@@ -12,14 +12,14 @@ use Rattle.page.specs.Bytes.{Bytes}
 use Rattle.page.specs.Tables.{width}
 use Rattle.page.specs.Cut.{sections, header-lines}
 use Rattle.page.specs.Head.{header-values, latinOf}
-use Rattle.page.specs.Records.{number, table-of}
+use Rattle.page.specs.Records.{table-of}
 use Rattle.page.specs.Answers.{refusal, earlier, refuse-if}
 use Rattle.page.specs.File.{limit, found, any, header-refusal, section-refusal, file-refusal}
 use Rattle.page.specs.Reading.{outside, section-at, row-at, headerOf, find-refusal, sectionOf, list-refusal, listOf, verdict-of, value-refusal, value-at, valueOf}
 use Rattle.page.specs.Handing.{textOut, table-refusal, tableOf}
 use Rattle.page.specs.Writing.{put-refusal, putOf, write-form, writeOf, strip-form, stripOf}
 use Rattle.page.specs.Trailer.{trailerOf}
-use Rattle.page.specs.Refusals.{Refused, section-numbers, header-numbers, later-numbers, gives, OneOf, SoundOr}
+use Rattle.page.specs.Refusals.{section-numbers, header-numbers, later-numbers, gives, OneOf, SoundOr}
 use Rattle.page.specs.declared.Refusal.{Refusal}
 use Rattle.page.specs.declared.Checked.the-variants as C
 use Rattle.page.specs.declared.Headed.the-variants as H

@@ -11,10 +11,10 @@ use lib.ListN.{length, getD, take, drop, length-append, take-append-drop}
 use lib.Seq.{take-append-seam, drop-append-le, drop-append-add}
 use borrow.Author.Tests.{eqb-true, eq-eqb, le-leb, ltb-true, ltb-false}
 use Rattle.page.specs.Bytes.{Bytes, pick, until, moved, part}
-use Rattle.page.specs.Lines.{lines, joined, content-size, content, command, rest, semicolon, Tbl, Atr, Frm, Rec}
+use Rattle.page.specs.Lines.{joined, content-size, content, command, rest, semicolon, Tbl, Atr, Frm, Rec}
 use Rattle.page.specs.Fields.{fields, textOf, numberOf}
 use Rattle.page.specs.Tables.{Named, no-column, column-at, width}
-use Rattle.page.specs.Order.{Order, listed-order, arranged, by-column, column-in}
+use Rattle.page.specs.Order.{Order, arranged, by-column, column-in}
 use Rattle.page.specs.Cut.{Section, sections}
 use Rattle.page.specs.Head.{latinOf}
 use Rattle.page.specs.Section.{record-text, text-field, number-field, fieldOf, outcome}
@@ -48,12 +48,12 @@ use Rattle.page.proofs.ContentLaws.{rest-none}
 use Rattle.page.proofs.CutLaws.{section-stands}
 use Rattle.page.proofs.ScanLaws.{part-length, part-moved}
 use Rattle.page.proofs.FieldLaws.{field-span-in, field-span-part}
-use Rattle.page.proofs.OrderLaws.{arranged-long, place-in, by-column-at, listed-arranged}
+use Rattle.page.proofs.OrderLaws.{arranged-long, place-in, by-column-at}
 use Rattle.page.proofs.TextLaws.{text-long, text-between, record-text-is, worded-some}
 use Rattle.laws.specs.Begins.{begins}
 use Rattle.grammar.specs.Marks.{marks-at}
 use Rattle.calls.specs.Handed.{StandsFor, a-number, a-text}
-use Rattle.grammar.proofs.Readings.{handed-denoted}
+use Rattle.grammar.proofs.Readings.{handed-denoted, denoted-order, sound-arranged}
 use Rattle.grammar.proofs.Counts.{count-handed}
 use Rattle.laws.proofs.Sections.{sections-begin}
 use Rattle.grammar.proofs.Marks.{pass-marks, quiet-marks, mark-marks, record-marks, pass-at, quiet-at, mark-at, rec-at, owner-handed}
@@ -166,16 +166,13 @@ module _ (latin : Bool) (t : ℕ) (o : Order) where
   past-read r at rs f (found {l} {ls} h x) = f l ls at h x
   past-read r at rs f (skip {l} {ls} h x) = rw (quiet-marks r [] l ls h, quiet-at r 0 at l ls h) (past-read r (at + length l) rs f x)
 
-denoted-read : (latin : Bool) {ls : List Bytes} (rs : List Record) → Denotes latin ls (table-of ls) rs → (r at : ℕ) → r < length rs →
-    ReadsAs latin (table-of ls) (order-in ls) r [] 0 at ls rs
-unfolding order-in
-denoted-read latin {ls} rs d r at h =
-    let t = table-of ls in
-    let o = listed-order t in
+denoted-read : (latin : Bool) (t : ℕ) {ls : List Bytes} (rs : List Record) (d : Denotes latin ls t rs) (r at : ℕ) → r < length rs → ReadsAs latin t (d .0) r [] 0 at ls rs
+denoted-read latin t rs d r at h =
+    let o = d .0 in
     past-read latin t o r at rs (λ l xs a p x. rw (pass-marks r [] Tbl l xs (p .says .named) refl refl, pass-at r 0 a Tbl l xs (p .says .named) refl refl)
     (past-read latin t o r (a + length l) rs (λ l ys b q y. rw (pass-marks r [] Atr l ys (q .says .named) refl refl, pass-at r 0 b Atr l ys (q .says .named) refl refl)
     (past-read latin t o r (b + length l) rs (λ l zs c w z. rw (pass-marks r [] Frm l zs (w .says .named) refl refl, pass-at r 0 c Frm l zs (w .says .named) refl refl)
-    (records-read latin t o z r 0 (c + length l) h)) y)) x)) d
+    (records-read latin t o z r 0 (c + length l) h)) y)) x)) (d .1)
 
 -- one of its fields
 values-at : {ms : List ℕ} {i : ℕ} {cs : List Named} {fs : List Bytes} {vs : Record} → Values ms i cs fs vs → (k : ℕ) → k < length cs →
@@ -249,13 +246,13 @@ module _ (s : Bytes) (i r f : ℕ) (g : Given s i r f) where
   reads : Reads the-table the-order (marks-at (r - 1) [] (here .lines)) the-fields (getD (recordsOf (latinOf s) (here .lines)) (r - 1) [])
   unfolding record-of
   reads =
-      denoted-read (latinOf s) (recordsOf (latinOf s) (here .lines)) (handed-denoted (latinOf s) (here .lines) starts verdict-zero) (r - 1) (here .place)
-      (omega (arith, count, g .record-there))
+      let d = handed-denoted (latinOf s) (here .lines) starts verdict-zero in
+      rw (denoted-order (here .lines) the-table (recordsOf (latinOf s) (here .lines)) starts d)
+      (denoted-read (latinOf s) the-table (recordsOf (latinOf s) (here .lines)) d (r - 1) (here .place) (omega (arith, count, g .record-there)))
 
   -- each column stands once in the section's lines
   arranged-here : arranged (width the-table) the-order ≡ true
-  unfolding order-in
-  arranged-here = listed-arranged the-table
+  arranged-here = sound-arranged (latinOf s) (here .lines) starts verdict-zero
 
   -- column f is one of the table's, and stands in the record's line
   column-there : f - 1 < width the-table

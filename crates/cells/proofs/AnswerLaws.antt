@@ -2,7 +2,7 @@
 use mathlib.Core.Path.{_≡_, refl, ap, sym, _∙_}
 use mathlib.Core.Bool.{Bool, true, false}
 use mathlib.Core.List.{List, [], _∷_}
-use Prim.Native.Nat.{ℕ, suc, _+_, _*_, _≤_}
+use Prim.Native.Nat.{ℕ, suc, _+_, _-_, _*_, _≤_}
 use native.Mathlib.Nat.{mul-le-mul}
 use native.Mathlib.Omega.{arith}
 use borrow.Author.Tests.{ne-eqb}
@@ -10,9 +10,9 @@ use lib.Dec.{eqb, ltb}
 use lib.ListN.{length, take, drop, length-append}
 use Rattle.page.specs.Bytes.{Bytes, pick, until}
 use Rattle.page.specs.Lines.{lines, joined, content-size, content, command, Rec}
-use Rattle.page.specs.Tables.{WIDEST, width}
-use Rattle.page.specs.Order.{upto}
-use Rattle.page.specs.Records.{table-of, order-in}
+use Rattle.page.specs.Fields.{fields}
+use Rattle.page.specs.Tables.{width}
+use Rattle.page.specs.Records.{table-of, atr-in}
 use Rattle.page.specs.Rules.{times}
 use Rattle.page.specs.Answers.{refusal, sound, earlier, refuse-if, written}
 use Rattle.page.specs.File.{limit, row-of, rowOf}
@@ -23,13 +23,13 @@ use Rattle.page.specs.declared.Row.{Row}
 use Rattle.page.specs.declared.Refusal.{Refusal}
 use Rattle.page.specs.declared.Written.the-variants as W
 use Rattle.tables.specs.Orders.{held}
-use Rattle.tables.proofs.OrderLaws.{listed-held}
+use Rattle.names.specs.Told.{Told}
 use Rattle.grammar.proofs.Own.{row-count}
 use Rattle.calls.proofs.HandedCells.{cells-count}
 use Rattle.cut.specs.Walk.{section-from}
 use Rattle.sections.specs.Located.{Begins}
 use Rattle.values.specs.Values.{row-from}
-use Rattle.values.proofs.ValueLaws.{prefix-lines}
+use Rattle.values.proofs.ValueLaws.{prefix-lines, order-from}
 use Rattle.output.specs.Put.{Put}
 use Rattle.output.proofs.WriteLaws.{put-front}
 
@@ -111,6 +111,7 @@ module _ (s : Bytes) (i at : ℕ) (b : Begins s i at) (x : Row) (q : x ≡ row-f
       pub cells-counted : (n : ℕ) → n ≡ width t * 3 → length (cellsOf (section-at s i)) ≡ x .records * n
       cells-counted n h = cells-count s i verdict-at ∙ rw (row-here, b .is, h, g)
 
-      pub cells-all : (a : List ℕ) → a ≡ upto 0 WIDEST → cells-in t (held t a) 0 at (lines (drop at (take e s))) ≡ cellsOf (section-at s i)
-      unfolding cellsOf section-from order-in
-      cells-all a o = rw (b .is, end-within .2, g, o, listed-held)
+      pub cells-all : (a : List ℕ) → Told t (fields (atr-in (lines (take (e - at) (drop at s))))) a
+          → cells-in t (held t a) 0 at (lines (drop at (take e s))) ≡ cellsOf (section-at s i)
+      unfolding cellsOf section-from
+      cells-all a o = rw (order-from s at (b .inside) (b .settled) x q v t e g k a o, b .is, end-within .2, g)

@@ -67,7 +67,7 @@ fn hand_table(file: &[u8], section: usize, at: usize, cells: &mut [u64]) -> Writ
         return Written::Refused(sections::refuse_with(21));
     }
     let e = at + row.length;
-    let o = tables::list_columns();
+    let o = names::find_order(&file[at..e], t);
     Written::Length(put_records(cells, &file[..e], at, t, &o))
 }
 

@@ -149,7 +149,7 @@ module _ (ends : LineEnd) (strip : Bool) (f m t k : ℕ) where
 
 -- the fields by column, where the column at each place is one of the order's
 
-fields-cons : (o : Order) (ws : List Bytes) (k : ℕ) → k < length o → drop k (by-column o ws) ≡ getD ws (place k o) [] ∷ drop (k + 1) (by-column o ws)
+pub fields-cons : (o : Order) (ws : List Bytes) (k : ℕ) → k < length o → drop k (by-column o ws) ≡ getD ws (place k o) [] ∷ drop (k + 1) (by-column o ws)
 fields-cons o ws k h =
     let n : k < length (by-column o ws) = omega (arith, by-column-length o ws) in
     rw (add-one, drop-cons (by-column o ws) k [] n, by-column-at o ws k h)

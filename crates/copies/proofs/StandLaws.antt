@@ -23,6 +23,7 @@ use Rattle.page.specs.declared.Column.{Column}
 use Rattle.page.proofs.TestLaws.{and-left, and-right}
 use Rattle.page.proofs.ScanLaws.{until-hit, until-more, keep-stop}
 use Rattle.page.proofs.FieldLaws.{field-more, field-le, from, from-more, from-end, from-all}
+use Rattle.digits.specs.Runs.{field-from}
 use Rattle.output.proofs.FormLaws.{decimal-few}
 use Rattle.copies.specs.Changed.{changed-values}
 use Rattle.copies.specs.Parts.{marked-by, mark-by, marks-form, datum-by, fields-form, stands, all-stand, Spaced, Ends, Whole}
@@ -133,12 +134,15 @@ marks-none ends strip i [] = refl
 marks-none ends true i (c ∷ cs) = rw (ne-eqb 0 (suc i) (λ (e : 0 ≡ suc i). omega arith)) (marks-none ends true (suc i) cs)
 marks-none ends false i (c ∷ cs) = rw (ne-eqb 0 (suc i) (λ (e : 0 ≡ suc i). omega arith)) (marks-none ends false (suc i) cs)
 
+pub plain-none : (f m : ℕ) (b : Bool) → b ≡ (eqb m 0 && eqb f 0) → b ≡ true → (m ≡ 0) × (f ≡ 0)
+plain-none f m b e y =
+    let z : (eqb m 0 && eqb f 0) ≡ true = sym e ∙ y in
+    (eqb-true m 0 (and-left (eqb m 0) (eqb f 0) z), eqb-true f 0 (and-right (eqb m 0) (eqb f 0) z))
+
 pub marks-plain : (ends : LineEnd) (strip : Bool) (f m : ℕ) (cs : List Named) (b : Bool) → b ≡ (eqb m 0 && eqb f 0) → b ≡ true → [] ≡ marks-form ends strip f m 1 cs
 marks-plain ends strip f m cs b e y =
-    let z : (eqb m 0 && eqb f 0) ≡ true = sym e ∙ y in
-    let p : m ≡ 0 = eqb-true m 0 (and-left (eqb m 0) (eqb f 0) z) in
-    let q : f ≡ 0 = eqb-true f 0 (and-right (eqb m 0) (eqb f 0) z) in
-    rw (p, q) (sym (marks-none ends strip 0 cs))
+    let z = plain-none f m b e y in
+    rw (z .0, z .1) (sym (marks-none ends strip 0 cs))
 
 -- one space, and a field
 
@@ -225,6 +229,19 @@ module _ (w : Bytes) (p r : ℕ) (h : p + 2 ≤ length w) (a : getD w p 0 ≡ 32
             (λ (e : getD (drop 1 (take (r - p) (drop p w))) 0 0 ≡ 48). z (sym first ∙ e)));
       }
 
+-- the field that begins at p, with the space before it
+module _ (w : Bytes) (p e : ℕ) (s : Ends w p e) where
+  ends-field : trim (take (e - p) (drop p w)) ≡ field-from w p
+  ends-field =
+      let n : e - p ≡ field-size false (drop p w) = omega (arith, s .size) in
+      ap (λ (k : ℕ). trim (take k (drop p w))) n
+
+  pub ends-spaced : take (e - p) (drop p w) ≡ 32 ∷ field-from w p
+  ends-spaced = s .spaced .is ∙ ap (λ (x : Bytes). 32 ∷ x) ends-field
+
+  pub ends-stand : stands (field-from w p) ≡ true
+  ends-stand = ap stands (sym ends-field) ∙ s .spaced .field
+
 -- all that is left after a place, where a `;` stands before it
 pub record Left (w : Bytes) (p : ℕ) : Type 0 where
   pub is : separated (from w p) ≡ drop p (59 ∷ w)
@@ -295,6 +312,11 @@ module _ (w : Bytes) (p e : ℕ) (h : p ≤ length w) (q : e ≡ p + field-size 
 
 -- the fields of a record that stands so
 
+pub stand-all : (ws : List Bytes) → ((i : ℕ) → i < length ws → stands (getD ws i []) ≡ true) → all-stand ws ≡ true
+unfolding all-stand
+stand-all [] h = refl
+stand-all (w ∷ ws) h = rw (h 0 (omega arith)) (stand-all ws (λ i l. h (suc i) (omega arith)))
+
 first-none : (a b : ℕ) → first-of a b ≡ 0 → (a ≡ 0) × (b ≡ 0)
 first-none a b e = by (eqb a 0) refl
   where
@@ -312,7 +334,7 @@ module _ (strip : Bool) (x : Bytes) where
       none true e = sym e
       none false e = refl
 
-  fields-kept : (i : ℕ) (cs : List Named) (ws : List Bytes) → length ws ≡ length cs → first-wrong cs ws ≡ 0 → all-stand ws ≡ true
+  pub fields-kept : (i : ℕ) (cs : List Named) (ws : List Bytes) → length ws ≡ length cs → first-wrong cs ws ≡ 0 → all-stand ws ≡ true
       → separated ws ≡ fields-form strip 0 x 0 (suc i) cs ws
   unfolding separated fields-form first-wrong all-stand
   fields-kept i [] [] n e s = refl

@@ -7,3 +7,4 @@ pub use plan::does_stay;
 pub use plan::plan_record;
 pub use plan::plan_section;
 pub use standing::all_written;
+pub use standing::written_end;

@@ -88,7 +88,7 @@ fn number_end(w: &[u8], p: usize) -> usize
 }
 
 // Where a field that stands as it is written ends; else 0.
-fn written_end(w: &[u8], p: usize) -> usize
+pub fn written_end(w: &[u8], p: usize) -> usize
     requires { ⌜ p ≤ length (now w) ⌝ }
     ensures { λ r. ⌜ (0 < r → Ends (now (w .entry)) p r) ⌝ }
 {

@@ -12,7 +12,7 @@ use Rattle.page.specs.Lines.{allowed}
 use Rattle.page.specs.Tables.{Named, no-column, columns, column-at, width}
 use Rattle.page.specs.Cut.{sections}
 use Rattle.page.specs.Head.{head-values, latinOf}
-use Rattle.page.specs.Records.{Datum, number, words, Record, table-of}
+use Rattle.page.specs.Records.{Datum, words, Record, table-of}
 use Rattle.page.specs.Model.{Content, Model, contentOf, modelOf, change, fill-record, fill-content, fill-model, changed, kept, datum-at}
 use Rattle.page.specs.Answers.{sound, refuse-if}
 use Rattle.page.specs.File.{limit, row-of, rowOf, file-refusal}

@@ -9,7 +9,7 @@ use lib.ListN.{length, length-append}
 use Rattle.page.specs.Bytes.{Bytes}
 use Rattle.page.specs.Lines.{Tbl, Atr, Frm, End}
 use Rattle.page.specs.Tables.{width}
-use Rattle.page.specs.Order.{Order, listed-order, arranged}
+use Rattle.page.specs.Order.{Order, arranged}
 use Rattle.page.specs.Cut.{Section, sections}
 use Rattle.page.specs.Head.{latinOf}
 use Rattle.page.specs.Marks.{may-mark}
@@ -19,14 +19,13 @@ use Rattle.page.specs.Model.{Content}
 use Rattle.page.specs.Grammar.{MarkLine, RecLine, Then, found, skip, Silence, over, still, Records, pause, a-mark, a-record, the-end, Denotes}
 use Rattle.page.specs.Refusals.{marks-of}
 use Rattle.page.specs.Rules.{Every, none-left, one-more, Tables, no-table, a-table}
-use Rattle.page.proofs.OrderLaws.{listed-arranged}
 use Rattle.laws.specs.Begins.{begins}
 use Rattle.demands.specs.Places.{EntryStands, FiledStands}
 use Rattle.laws.proofs.Lists.{every-head, every-tail, every-map, every-append}
 use Rattle.laws.proofs.Sections.{sections-begin}
 use Rattle.grammar.proofs.Arranged.{reads-are}
 use Rattle.grammar.proofs.Accepts.{only-mark, denotes-accepted}
-use Rattle.grammar.proofs.Readings.{quiet-line, plain-line, table-denoted}
+use Rattle.grammar.proofs.Readings.{quiet-line, plain-line, table-denoted, denoted-arranged, denoted-order}
 
 module _ {latin : Bool} where
   -- one line further
@@ -70,17 +69,13 @@ module _ {latin : Bool} where
   skipped-stand t o n f (skip {l} {ls} h x) = rw (quiet-line t o 0 n l ls h) (further t o n l ls (skipped-stand t o (suc n) f x))
 
   -- the entries of a section stand in its `rec` lines
-  pub entries-stand : (ls : List Bytes) (t : ℕ) (rs : List Record) → Denotes latin ls t rs → Every (EntryStands latin t (listed-order t) 0 ls) (entries t (listed-order t) 0 0 ls)
-  entries-stand ls t rs =
-      let o = listed-order t in
+  pub entries-stand : (ls : List Bytes) (t : ℕ) (rs : List Record) (d : Denotes latin ls t rs) → Every (EntryStands latin t (d .0) 0 ls) (entries t (d .0) 0 0 ls)
+  entries-stand ls t rs d =
+      let o = d .0 in
       skipped-stand t o 0 (λ l a xs h x. rw (plain-line t o 0 a Tbl l xs (h .says .named) refl refl) (further t o a l xs
       (skipped-stand t o (suc a) (λ l b ys h x. rw (plain-line t o 0 b Atr l ys (h .says .named) refl refl) (further t o b l ys
-      (skipped-stand t o (suc b) (λ l d zs h x. rw (plain-line t o 0 d Frm l zs (h .says .named) refl refl) (further t o d l zs
-      (records-stand t o (listed-arranged t) 0 (suc d) (length rs) refl (inl refl) x))) x))) x)))
-
-order-denoted : {latin : Bool} (ls : List Bytes) (t : ℕ) (rs : List Record) → begins ls ≡ true → Denotes latin ls t rs → order-in ls ≡ listed-order t
-unfolding order-in
-order-denoted ls t rs b d = ap listed-order (table-denoted ls t rs b d)
+      (skipped-stand t o (suc b) (λ l c zs h x. rw (plain-line t o 0 c Frm l zs (h .says .named) refl refl) (further t o c l zs
+      (records-stand t o (denoted-arranged t rs d) 0 (suc c) (length rs) refl (inl refl) x))) x))) x))) (d .1)
 
 -- a section's records, filed
 section-stands : (s : Bytes) (i : ℕ) (x : Section) (c : Content) (xs ys : List Section) → begins (x .lines) ≡ true → Denotes (latinOf s) (x .lines) (c .table) (c .records) →
@@ -90,10 +85,10 @@ section-stands s i x c xs ys b d e n =
     rw (denotes-accepted (latinOf s) (x .lines) (c .table) (c .records) d, table-denoted (x .lines) (c .table) (c .records) b d, order-is)
     (all-filed (entries-stand (x .lines) (c .table) (c .records) d))
   where
-    order-is : order-in (x .lines) ≡ listed-order (c .table)
-    order-is = order-denoted (x .lines) (c .table) (c .records) b d
+    order-is : order-in (x .lines) ≡ d .0
+    order-is = denoted-order (x .lines) (c .table) (c .records) b d
 
-    all-filed : {es : List Entry} → Every (EntryStands (latinOf s) (c .table) (listed-order (c .table)) 0 (x .lines)) es →
+    all-filed : {es : List Entry} → Every (EntryStands (latinOf s) (c .table) (d .0) 0 (x .lines)) es →
         Every (FiledStands s) (map (λ (e : Entry). record { section = i; table = c .table; line = e .line; values = e .values }) es)
     all-filed none-left = none-left
     all-filed (one-more {x = g} h k) =

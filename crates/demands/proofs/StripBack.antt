@@ -7,7 +7,7 @@ use native.Mathlib.Omega.{arith}
 use lib.ListN.{length}
 use Rattle.page.specs.Bytes.{Bytes, all}
 use Rattle.page.specs.Tables.{Named, columns}
-use Rattle.page.specs.Records.{number, Record}
+use Rattle.page.specs.Records.{Record}
 use Rattle.page.specs.Model.{Content, Model, modelOf, strip-datum, strip-content, strip-model, changed, kept}
 use Rattle.page.specs.Answers.{sound}
 use Rattle.page.specs.File.{limit, file-refusal}

@@ -13,12 +13,12 @@ use lib.ListN.{length}
 use Rattle.page.specs.Bytes.{Bytes, bytes, pick}
 use Rattle.page.specs.Lines.{content, blank, command, rest, clean, Tbl, Atr, Frm, Rec, End, Com}
 use Rattle.page.specs.Fields.{fields, numberOf}
-use Rattle.page.specs.Tables.{Named, Rule, rule-number, table-at, columns, rules, width}
-use Rattle.page.specs.Order.{Order, listed-order, arranged, standing, by-column}
+use Rattle.page.specs.Tables.{Named, Rule, rule-number, table-at, rules, width}
+use Rattle.page.specs.Order.{Order, order-of, arranged, standing, by-column}
 use Rattle.page.specs.Marks.{remarkOf}
 use Rattle.page.specs.Section
 use Rattle.page.specs.Records.{Datum, number, words, Record}
-use Rattle.page.specs.Grammar.{fields-of, Says, empty, remark, Holds, a-number, a-text, Breaks, Reads, RecLine}
+use Rattle.page.specs.Grammar.{fields-of, Says, AtrLine, Quiet, empty, remark, Holds, a-number, a-text, Breaks, Reads, RecLine}
 use Rattle.page.specs.Refusals.{Law, law, FirstBroken, either-laws, marks-of, InOrder, kind-law, fields-laws, rules-laws, rec-laws, end-laws, command-laws, GoodMark, laws, Leads, quiet, tbl, atr, frm, mark, record-line, end}
 use Rattle.page.specs.declared.Number.{Number}
 use Rattle.page.specs.declared.Number.the-variants as N
@@ -33,12 +33,13 @@ use Rattle.page.specs.declared.Field.the-variants as F
 use Rattle.page.specs.declared.Step.{Step}
 use Rattle.page.specs.declared.Step.the-variants as S
 use Rattle.page.proofs.TableLaws.{name-tells, rule-some}
-use Rattle.page.proofs.OrderLaws.{arranged-long, standing-length, listed-arranged}
+use Rattle.page.proofs.OrderLaws.{arranged-long, standing-length}
+use Rattle.page.proofs.ArrangeLaws.{order-named}
 use Rattle.page.proofs.TextLaws.{worded-none, worded-some}
 use Rattle.laws.proofs.Decides.{Decides, holds, fails, fact, when, both, equal, at-most}
-use Rattle.laws.proofs.Tests.{is-d, names-d, formats-d, rises-d, unknown-d, one-d, named-d}
+use Rattle.laws.proofs.Tests.{is-d, names-d, formats-d, rises-d, unknown-d, blank-missing, one-d, named-d}
 use Rattle.grammar.proofs.Values.{field-right}
-use Rattle.grammar.proofs.Arranged.{reads-once, reads-rule, right-reads, reads-empty}
+use Rattle.grammar.proofs.Arranged.{Ordered, reads-once, reads-rule, right-reads, reads-empty}
 
 -- the step stops with v exactly if v is the first broken law's number, and goes on only to what G says
 pub record Agrees (G : Phase → Type 0) (s : Step) (ls : List Law) : Type 0 where
@@ -199,7 +200,29 @@ rules-agree q fs B (r ∷ rs) y others d g =
     unbroken n k x (inl e) = rw e n
     unbroken n k x (inr m) = k x m
 
+-- only an `atr` line states an order
+order-kept : (p : Phase) (o : Order) (c : Bytes) → ¬ (command c ≡ Atr) → Section.order-after p o c ≡ o
+unfolding Section.order-after
+order-kept P.Tbl o c n = refl
+order-kept (P.Atr t) o c n = rw (ne-eqb (command c) Atr n)
+order-kept (P.Frm t) o c n = refl
+order-kept (P.Rows t m k) o c n = refl
+order-kept (P.Ended t k) o c n = refl
+
+pub quiet-order : {latin : Bool} {l : Bytes} (p : Phase) (o : Order) → Quiet latin l → Section.order-after p o (content l) ≡ o
+quiet-order {l = l} p o (empty ok b) = order-kept p o (content l) (λ e. let z = blank-missing (content l) b in omega arith)
+quiet-order {l = l} p o (remark s r) = order-kept p o (content l) (λ e. let z = s .named in omega arith)
+
+-- and it states the one of the names on it
+pub atr-order : {latin : Bool} {l : Bytes} (t : ℕ) (o q : Order) → AtrLine latin t q l → Section.order-after (P.Atr t) o (content l) ≡ q
+unfolding Section.order-after
+atr-order t o q h = rw (h .says .named) (ap (order-of t) (h .names) ∙ order-named t q (h .arrangement .only))
+
 module _ (latin : Bool) (l : Bytes) where
+  -- where the line leads, with the order that it leaves
+  abbrev Onward : Phase → Order → Phase → Type 0
+  Onward p o q = Leads latin l p o q (Section.order-after p o (content l))
+
   -- a record of any order of the columns; led: where it leads
   module _ (t : ℕ) (o : Order) (m n : ℕ) where
     abbrev Having : (Record → Type 0) → Type 0
@@ -243,13 +266,13 @@ module _ (latin : Bool) (l : Bytes) where
         let x = right-reads t o a (marks-of m) (fields-of l) e w in
         last-agree a s led (x .0) (x .1))))
 
-  count-agrees : (t n : ℕ) (f : Bytes) (c : Number) → Says latin End l → fields-of l ≡ f ∷ [] → numberOf f ≡ c →
-      Agrees (Leads latin l (P.Rows t 0 n)) (Section.count-step t n c)
+  count-agrees : (t : ℕ) (o : Order) (n : ℕ) (f : Bytes) (c : Number) → Says latin End l → fields-of l ≡ f ∷ [] → numberOf f ≡ c →
+      Agrees (Onward (P.Rows t 0 n) o) (Section.count-step t n c)
       (law 12 ((g : Bytes) × (f ∷ [] ≡ g ∷ []) × (numberOf g ≡ N.Nothing)) ∷ law 16 (¬ ((g : Bytes) × (f ∷ [] ≡ g ∷ []) × (numberOf g ≡ N.Plus n))) ∷ [])
-  unfolding Section.count-step
-  count-agrees t n f N.Nothing s a e = hit (f, refl, e)
-  count-agrees t n f (N.Minus c) s a e = miss (λ x. let a = x .1 in let b = x .2 in absurd (false≢true (cc))) (hit (λ x. let a = x .1 in let b = x .2 in absurd (false≢true (cc))))
-  count-agrees t n f (N.Plus c) s a e =
+  unfolding Section.count-step Section.order-after
+  count-agrees t o n f N.Nothing s a e = hit (f, refl, e)
+  count-agrees t o n f (N.Minus c) s a e = miss (λ x. let a = x .1 in let b = x .2 in absurd (false≢true (cc))) (hit (λ x. let a = x .1 in let b = x .2 in absurd (false≢true (cc))))
+  count-agrees t o n f (N.Plus c) s a e =
       miss (λ x. let a = x .1 in let b = x .2 in absurd (false≢true (cc)))
       (must (by (eqb c n) (equal c n)) (λ x. goes (end (record { says = s; count = x .0; alone = a ∙ x .1; reads = x .2 }))))
     where
@@ -257,55 +280,63 @@ module _ (latin : Bool) (l : Bytes) where
       by true (holds h) = holds (f, refl, e ∙ ap N.Plus h)
       by false (fails k) = fails (λ x. let a = x .1 in let b = x .2 in k (cc))
 
-  end-agrees : (t m n : ℕ) (fs : List Bytes) → Says latin End l → fields-of l ≡ fs → Agrees (Leads latin l (P.Rows t m n)) (Section.end-step t m n fs) (end-laws (marks-of m) n fs)
+  end-agrees : (t : ℕ) (o : Order) (m n : ℕ) (fs : List Bytes) → Says latin End l → fields-of l ≡ fs →
+      Agrees (Onward (P.Rows t m n) o) (Section.end-step t m n fs) (end-laws (marks-of m) n fs)
   unfolding Section.end-step
-  end-agrees t m n fs s a = must (none-d m) (λ e. must (one-d fs) (λ o. rw (o .1, unmarked m e) (count-agrees t n (o .0) (numberOf (o .0)) s (a ∙ o .1) refl)))
+  end-agrees t o m n fs s a = must (none-d m) (λ e. must (one-d fs) (λ x. rw (x .1, unmarked m e) (count-agrees t o n (x .0) (numberOf (x .0)) s (a ∙ x .1) refl)))
     where
       unmarked : (m : ℕ) → marks-of m ≡ [] → m ≡ 0
       unmarked zero e = refl
       unmarked (suc m) e = absurd (false≢true (cc))
 
-  tbl-agrees : (k : ℕ) (fs : List Bytes) → Says latin Tbl l → fields-of l ≡ fs → Agrees (Leads latin l P.Tbl) (Section.tbl-step fs) (command-laws P.Tbl k fs)
-  unfolding Section.tbl-step
-  tbl-agrees k fs s a = must (one-d fs) (λ o. rw (o .1) (must (named-d (o .0)) (λ x.
+  tbl-agrees : (o : Order) (k : ℕ) (fs : List Bytes) → Says latin Tbl l → fields-of l ≡ fs → Agrees (Onward P.Tbl o) (Section.tbl-step fs) (command-laws P.Tbl o k fs)
+  unfolding Section.tbl-step Section.order-after
+  tbl-agrees o k fs s a = must (one-d fs) (λ y. rw (y .1) (must (named-d (y .0)) (λ x.
       let h = x .1 in
       let q = x .2 in
-      let e : o .0 ≡ bytes (table-at (x .0) .name) = cc in
-      rw (e, name-tells (x .0) h) (goes (tbl (record { says = s; known = h; name = a ∙ o .1 ∙ q }))))))
+      let e : y .0 ≡ bytes (table-at (x .0) .name) = cc in
+      rw (e, name-tells (x .0) h) (goes (tbl (record { says = s; known = h; name = a ∙ y .1 ∙ q }))))))
 
-  mark-agrees : (p : Phase) (r : Remark) → Says latin Com l → remarkOf (rest (content l)) ≡ r → Agrees (Leads latin l p) (Section.com-step p r) (law 15 (¬ GoodMark p r) ∷ [])
-  unfolding Section.com-step Section.mark-step
-  mark-agrees p R.Comment s e = miss (λ n. n tt) (goes (quiet (remark s e)))
-  mark-agrees p R.Unreadable s e = hit (λ x. x)
-  mark-agrees P.Tbl (R.Mark i) s e = hit (λ x. x)
-  mark-agrees (P.Atr t) (R.Mark i) s e = hit (λ x. x)
-  mark-agrees (P.Frm t) (R.Mark i) s e = hit (λ x. x)
-  mark-agrees (P.Rows t m n) (R.Mark i) s e = must (rises-d t (listed-order t) i m) (λ k. goes (mark (record { says = s; reads = e; may = k .0; rises = k .1 })))
-  mark-agrees (P.Ended t n) (R.Mark i) s e = hit (λ x. x)
+  atr-agrees : (t : ℕ) (o : Order) (k : ℕ) → Says latin Atr l → Agrees (Onward (P.Atr t) o) (Section.atr-step t (fields-of l)) (command-laws (P.Atr t) o k (fields-of l))
+  unfolding Section.atr-step
+  atr-agrees t o k s = must (names-d t (fields-of l)) (λ x.
+      let h : AtrLine latin t (x .0) l = record { says = s; arrangement = x .1; names = x .2 } in
+      goes (rw (atr-order t o (x .0) h) (atr h)))
+
+  mark-agrees : (p : Phase) (o : Order) (r : Remark) → Says latin Com l → remarkOf (rest (content l)) ≡ r →
+      Agrees (Onward p o) (Section.com-step p o r) (law 15 (¬ GoodMark p o r) ∷ [])
+  unfolding Section.com-step Section.mark-step Section.order-after
+  mark-agrees p o R.Comment s e = miss (λ n. n tt) (goes (rw (quiet-order p o (remark s e)) (quiet (remark s e))))
+  mark-agrees p o R.Unreadable s e = hit (λ x. x)
+  mark-agrees P.Tbl o (R.Mark i) s e = hit (λ x. x)
+  mark-agrees (P.Atr t) o (R.Mark i) s e = hit (λ x. x)
+  mark-agrees (P.Frm t) o (R.Mark i) s e = hit (λ x. x)
+  mark-agrees (P.Rows t m n) o (R.Mark i) s e = must (rises-d t o i m) (λ k. goes (mark (record { says = s; reads = e; may = k .0; rises = k .1 })))
+  mark-agrees (P.Ended t n) o (R.Mark i) s e = hit (λ x. x)
 
   module _ (ok : clean latin (content l) ≡ true) where
     says : (k : ℕ) → command (content l) ≡ k → Says latin k l
     says k e = record { clean = ok; named = e }
 
-    line-agrees : (p : Phase) →
-        Agrees (Leads latin l p) (Section.line-step p (command (content l)) (rest (content l))) (law 6 (¬ InOrder p (command (content l))) ∷ command-laws p (command (content l)) (fields-of l))
-    unfolding Section.line-step Section.atr-step Section.frm-step
-    line-agrees P.Tbl = must (equal (command (content l)) Tbl) (λ e. tbl-agrees (command (content l)) (fields-of l) (says Tbl e) refl)
-    line-agrees (P.Atr t) =
-        must (equal (command (content l)) Atr) (λ e. must (names-d (columns t) (fields-of l)) (λ h. goes (atr (record { says = says Atr e; names = h }))))
-    line-agrees (P.Frm t) =
-        must (equal (command (content l)) Frm) (λ e. must (formats-d (standing t (listed-order t)) (fields-of l)) (λ h. goes (frm (record { says = says Frm e; formats = h }))))
-    line-agrees (P.Rows t m n) =
+    line-agrees : (p : Phase) (o : Order) → Ordered p o →
+        Agrees (Onward p o) (Section.line-step p o (command (content l)) (rest (content l)))
+        (law 6 (¬ InOrder p (command (content l))) ∷ command-laws p o (command (content l)) (fields-of l))
+    unfolding Section.line-step Section.frm-step Section.order-after
+    line-agrees P.Tbl o a = must (equal (command (content l)) Tbl) (λ e. tbl-agrees o (command (content l)) (fields-of l) (says Tbl e) refl)
+    line-agrees (P.Atr t) o a = must (equal (command (content l)) Atr) (λ e. atr-agrees t o (command (content l)) (says Atr e))
+    line-agrees (P.Frm t) o a =
+        must (equal (command (content l)) Frm) (λ e. must (formats-d (standing t o) (fields-of l)) (λ h. goes (frm (record { says = says Frm e; formats = h }))))
+    line-agrees (P.Rows t m n) o a =
         two (eqb (command (content l)) Rec) (eqb (command (content l)) End) (equal (command (content l)) Rec) (equal (command (content l)) End)
-        (λ e. record-agrees t (listed-order t) m n (listed-arranged t) (says Rec e) (λ vs. record-line)) (λ e. end-agrees t m n (fields-of l) (says End e) refl)
-    line-agrees (P.Ended t n) = hit (λ x. x)
+        (λ e. record-agrees t o m n a (says Rec e) (λ vs. record-line)) (λ e. end-agrees t o m n (fields-of l) (says End e) refl)
+    line-agrees (P.Ended t n) o a = hit (λ x. x)
 
   -- every line, in every phase
-  pub step-agrees : (p : Phase) → Agrees (Leads latin l p) (Section.step latin p l) (laws latin p l)
+  pub step-agrees : (p : Phase) (o : Order) → Ordered p o → Agrees (Onward p o) (Section.step latin p o l) (laws latin p o l)
   unfolding Section.step Section.content-step laws
-  step-agrees p =
+  step-agrees p o a =
       must (is-d (clean latin (content l))) (λ ok.
-      branch (blank (content l)) (λ b. goes (quiet (empty ok b))) (λ b.
+      branch (blank (content l)) (λ b. goes (rw (quiet-order p o (empty ok b)) (quiet (empty ok b)))) (λ b.
       must-not (unknown-d (content l)) (λ m.
-      branch (eqb (command (content l)) Com) (λ e. mark-agrees p (remarkOf (rest (content l))) (says ok Com (fact (equal (command (content l)) Com) e)) refl) (λ e.
-      line-agrees ok p))))
+      branch (eqb (command (content l)) Com) (λ e. mark-agrees p o (remarkOf (rest (content l))) (says ok Com (fact (equal (command (content l)) Com) e)) refl) (λ e.
+      line-agrees ok p o a))))

@@ -10,7 +10,7 @@ use lib.ListN.{length}
 use borrow.Author.Tests.{ne-eqb}
 use Rattle.page.specs.Bytes.{Bytes, pick}
 use Rattle.page.specs.Lines.{content, command, Tbl, Atr, Frm, Rec, End, Com, Missing}
-use Rattle.page.specs.Order.{Order, listed-order}
+use Rattle.page.specs.Order.{Order}
 use Rattle.page.specs.Section.{outcome, refused}
 use Rattle.page.specs.Records.{Record, Entry, waits, record-in, entries, table-of, order-in, entriesOf, recordsOf}
 use Rattle.page.specs.Grammar.{Quiet, empty, remark, Then, found, skip, Silence, over, still, Records, pause, a-mark, a-record, the-end, Denotes}
@@ -40,7 +40,7 @@ entries-length t o m n (l ∷ ls) = by (eqb (command (content l)) Rec) (entries-
 -- a section denotes as many records as it has `rec` lines
 pub records-counted : (latin : Bool) (ls : List Bytes) (t : ℕ) (rs : List Record) → Denotes latin ls t rs → length rs ≡ times Rec ls
 records-counted latin ls t rs d =
-    ap (λ (x : List Record). length x) (sym (entries-denoted ls t rs d)) ∙ map-length (entries t (listed-order t) 0 0 ls) ∙ entries-length t (listed-order t) 0 0 ls
+    ap (λ (x : List Record). length x) (sym (entries-denoted ls t rs d)) ∙ map-length (entries t (d .0) 0 0 ls) ∙ entries-length t (d .0) 0 0 ls
 
 -- "a sound table's record count" is the number of its `rec` lines
 pub sound-count : (latin : Bool) (ls : List Bytes) → outcome latin ls .verdict ≡ 0 → outcome latin ls .records ≡ times Rec ls
@@ -84,9 +84,9 @@ then-end f (skip {l} {ls} h x) = quiet-no-end l ls h ∙ then-end f x
 
 -- what denotes a table has one `end` line
 pub one-end : (latin : Bool) (ls : List Bytes) (t : ℕ) (rs : List Record) → Denotes latin ls t rs → times End ls ≡ 1
-one-end latin ls t rs =
+one-end latin ls t rs d =
     then-end (λ l ms h x. met End l ms Tbl (h .says .named) ∙ (let z = then-end (λ l ms h x. met End l ms Atr (h .says .named) ∙
-    (let z = then-end (λ l ms h x. met End l ms Frm (h .says .named) ∙ (let z = records-end x in omega arith)) x in omega arith)) x in omega arith))
+    (let z = then-end (λ l ms h x. met End l ms Frm (h .says .named) ∙ (let z = records-end x in omega arith)) x in omega arith)) x in omega arith)) (d .1)
 
 -- "The last table is believed complete though `end` is missing": a section without `end` denotes nothing and is refused
 pub no-end-denotes-nothing : (latin : Bool) (ls : List Bytes) (t : ℕ) (rs : List Record) → times End ls ≡ 0 → ¬ Denotes latin ls t rs

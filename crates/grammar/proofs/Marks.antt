@@ -11,7 +11,7 @@ use Rattle.page.specs.Bytes.{Bytes, pick}
 use Rattle.page.specs.Lines.{content, command, rest, Tbl, Atr, Frm, Rec, Com, Missing}
 use Rattle.page.specs.Cut.{Section}
 use Rattle.page.specs.Tables.{Named, width}
-use Rattle.page.specs.Order.{Order, listed-order, arranged, place, column-in}
+use Rattle.page.specs.Order.{Order, arranged, place, column-in}
 use Rattle.page.specs.Marks.{remarkOf, may-mark, owner-of}
 use Rattle.page.specs.Section.{outcome}
 use Rattle.page.specs.Records.{number, words, Record, waits, recordsOf, table-of, order-in}
@@ -23,7 +23,6 @@ use Rattle.page.specs.Refusals.{marks-of}
 use Rattle.page.specs.declared.Owner.{Owner}
 use Rattle.page.specs.declared.Owner.the-variants as O
 use Rattle.page.specs.declared.Remark.the-variants as R
-use Rattle.page.proofs.OrderLaws.{listed-arranged}
 use Rattle.page.proofs.TableLaws.{may-mark-within}
 use Rattle.laws.specs.Begins.{begins}
 use Rattle.grammar.specs.Marks.{note, marks-at, here-or}
@@ -31,7 +30,7 @@ use Rattle.laws.proofs.Tests.{blank-missing}
 use Rattle.grammar.proofs.Values.{owner-one}
 use Rattle.grammar.proofs.Arranged.{marks-by-column, owner-place}
 use Rattle.grammar.proofs.Accepts.{only-mark}
-use Rattle.grammar.proofs.Readings.{handed-denoted}
+use Rattle.grammar.proofs.Readings.{handed-denoted, denoted-arranged, denoted-order}
 
 -- lines that are no record: one of another command, one that says nothing, a mark
 
@@ -84,18 +83,19 @@ module _ (latin : Bool) (t : ℕ) (o : Order) where
   past-whose r rs f (found {l} {ls} h x) = f l ls h x
   past-whose r rs f (skip {l} {ls} h x) = rw (quiet-marks r [] l ls h) (past-whose r rs f x)
 
-denoted-whose : (latin : Bool) (t : ℕ) {ls : List Bytes} (rs : List Record) → Denotes latin ls t rs → (r : ℕ) → r < length rs → WhoseAt latin t (listed-order t) (marks-at r [] ls) rs r
+denoted-whose : (latin : Bool) (t : ℕ) {ls : List Bytes} (rs : List Record) (d : Denotes latin ls t rs) (r : ℕ) → r < length rs → WhoseAt latin t (d .0) (marks-at r [] ls) rs r
 denoted-whose latin t rs d r h =
-    let o = listed-order t in
+    let o = d .0 in
     past-whose latin t o r rs (λ l xs p x. rw (pass-marks r [] Tbl l xs (p .says .named) refl refl)
     (past-whose latin t o r rs (λ l ys q y. rw (pass-marks r [] Atr l ys (q .says .named) refl refl)
-    (past-whose latin t o r rs (λ l zs w z. rw (pass-marks r [] Frm l zs (w .says .named) refl refl) (records-whose latin t o z r h)) y)) x)) d
+    (past-whose latin t o r rs (λ l zs w z. rw (pass-marks r [] Frm l zs (w .says .named) refl refl) (records-whose latin t o z r h)) y)) x)) (d .1)
 
 -- in a section of verdict 0: the text in column j + 1 of the record after r others is the one's whom the marks before that record say
 pub handed-whose : (latin : Bool) (ls : List Bytes) → begins ls ≡ true → outcome latin ls .verdict ≡ 0 → (r j : ℕ) → r < length (recordsOf latin ls) → (o : Owner) (u : Bytes) →
     getD (getD (recordsOf latin ls) r []) j (number 0) ≡ words o u → o ≡ owner-by (map (column-in (order-in ls)) (marks-at r [] ls)) (1 + j)
-unfolding order-in
-handed-whose latin ls b e r j h = denoted-whose latin (table-of ls) (recordsOf latin ls) (handed-denoted latin ls b e) r h j
+handed-whose latin ls b e r j h =
+    let d = handed-denoted latin ls b e in
+    rw (denoted-order ls (table-of ls) (recordsOf latin ls) b d) (denoted-whose latin (table-of ls) (recordsOf latin ls) d r h j)
 
 -- the operator's: no mark of the field stands before its record
 pub operator-unmarked : (ms : List ℕ) (i : ℕ) → O.Operator ≡ owner-by ms i → marked i ms ≡ false
@@ -171,22 +171,24 @@ module _ (latin : Bool) (t : ℕ) (o : Order) (a : arranged (width t) o ≡ true
       within (inl e) = omega arith
       within (inr e) = may-mark-within t o m e .1
 
-denoted-wait : (latin : Bool) (t : ℕ) {ls : List Bytes} (rs : List Record) → Denotes latin ls t rs → (r at : ℕ) → r < length rs →
-    OneMark latin t (listed-order t) (listed-arranged t) (marks-at r [] ls) (record-at r 0 at ls .mark)
+denoted-wait : (latin : Bool) (t : ℕ) {ls : List Bytes} (rs : List Record) (d : Denotes latin ls t rs) (r at : ℕ) → r < length rs →
+    OneMark latin t (d .0) (denoted-arranged t rs d) (marks-at r [] ls) (record-at r 0 at ls .mark)
 denoted-wait latin t rs d r at h =
-    let o = listed-order t in
-    let a = listed-arranged t in
+    let o = d .0 in
+    let a = denoted-arranged t rs d in
     past-wait latin t o a r at (λ l xs b p x. rw (pass-marks r [] Tbl l xs (p .says .named) refl refl, pass-at r 0 b Tbl l xs (p .says .named) refl refl)
     (past-wait latin t o a r (b + length l) (λ l ys c q y. rw (pass-marks r [] Atr l ys (q .says .named) refl refl, pass-at r 0 c Atr l ys (q .says .named) refl refl)
     (past-wait latin t o a r (c + length l) (λ l zs e w z. rw (pass-marks r [] Frm l zs (w .says .named) refl refl, pass-at r 0 e Frm l zs (w .says .named) refl refl)
-    (records-wait latin t o a 0 (refl, inl refl) z r (e + length l) h)) y)) x)) d
+    (records-wait latin t o a 0 (refl, inl refl) z r (e + length l) h)) y)) x)) (d .1)
 
 -- record r and column f, from 1
 pub owner-handed : (latin : Bool) (x : Section) → begins (x .lines) ≡ true → outcome latin (x .lines) .verdict ≡ 0 → (r f : ℕ) → 0 < r → r ≤ length (recordsOf latin (x .lines)) → 0 < f →
     owner-of (record-of x r .mark) (suc (place (f - 1) (order-in (x .lines)))) ≡ owner-by (map (column-in (order-in (x .lines))) (marks-at (r - 1) [] (x .lines))) f
-unfolding record-of order-in
+unfolding record-of
 owner-handed latin x b e r f p h q =
     let t = table-of (x .lines) in
-    let w = denoted-wait latin t (recordsOf latin (x .lines)) (handed-denoted latin (x .lines) b e) (r - 1) (x .place) (omega arith) in
+    let d = handed-denoted latin (x .lines) b e in
+    let w = denoted-wait latin t (recordsOf latin (x .lines)) d (r - 1) (x .place) (omega arith) in
     let z : suc (f - 1) ≡ f = omega arith in
-    rw z at (one-owner latin t (listed-order t) (listed-arranged t) (marks-at (r - 1) [] (x .lines)) (record-at (r - 1) 0 (x .place) (x .lines) .mark) (f - 1) w)
+    rw (denoted-order (x .lines) t (recordsOf latin (x .lines)) b d)
+    (rw z at (one-owner latin t (d .0) (denoted-arranged t (recordsOf latin (x .lines)) d) (marks-at (r - 1) [] (x .lines)) (record-at (r - 1) 0 (x .place) (x .lines) .mark) (f - 1) w))

@@ -8,7 +8,7 @@ use lib.Dec.{eqb}
 use Rattle.page.specs.Bytes.{Bytes}
 use Rattle.page.specs.Lines.{content, blank, command, Rec, Com}
 use Rattle.page.specs.Tables.{Named, Rule, points-differ, rules}
-use Rattle.page.specs.Order.{listed-order, standing}
+use Rattle.page.specs.Order.{Order, standing}
 use Rattle.page.specs.Grammar.{fields-of}
 use Rattle.page.specs.Refusals.{Law, law, FirstBroken, either-laws, kind-law, fields-laws, rules-laws, command-laws, laws, section-numbers, OneOf}
 use Rattle.page.specs.File.{any}
@@ -45,27 +45,27 @@ unfolding any
 rules-listed B [] ls k = k
 rules-listed B (points-differ p ∷ rs) ls k = more refl (rules-listed B rs ls k)
 
-command-listed : (p : Phase) (k : ℕ) (fs : List Bytes) → Listed (command-laws p k fs)
+command-listed : (p : Phase) (o : Order) (k : ℕ) (fs : List Bytes) → Listed (command-laws p o k fs)
 unfolding any
-command-listed P.Tbl k fs = more refl (more refl none)
-command-listed (P.Atr t) k fs = more refl none
-command-listed (P.Frm t) k fs = more refl none
-command-listed (P.Rows t m n) k fs =
-    either-listed (eqb k Rec) (more refl (fields-listed (standing t (listed-order t)) fs _ (rules-listed _ (rules t) _ (more refl none))))
+command-listed P.Tbl o k fs = more refl (more refl none)
+command-listed (P.Atr t) o k fs = more refl none
+command-listed (P.Frm t) o k fs = more refl none
+command-listed (P.Rows t m n) o k fs =
+    either-listed (eqb k Rec) (more refl (fields-listed (standing t o) fs _ (rules-listed _ (rules t) _ (more refl none))))
     (more refl (more refl (more refl (more refl none))))
-command-listed (P.Ended t n) k fs = none
+command-listed (P.Ended t n) o k fs = none
 
-laws-all : (latin : Bool) (p : Phase) (l : Bytes) → Listed (laws latin p l)
+laws-all : (latin : Bool) (p : Phase) (o : Order) (l : Bytes) → Listed (laws latin p o l)
 unfolding laws any
-laws-all latin p l =
+laws-all latin p o l =
     more refl (either-listed (blank (content l)) none (more refl
-    (either-listed (eqb (command (content l)) Com) (more refl none) (more refl (command-listed p (command (content l)) (fields-of l))))))
+    (either-listed (eqb (command (content l)) Com) (more refl none) (more refl (command-listed p o (command (content l)) (fields-of l))))))
 
 -- whatever law a line breaks first, its number is a section's
-pub laws-ranged : (latin : Bool) (p : Phase) (l : Bytes) (v : ℕ) → FirstBroken (laws latin p l) v → OneOf section-numbers v
-laws-ranged latin p l v b = laws-all latin p l .sure v b
+pub laws-ranged : (latin : Bool) (p : Phase) (o : Order) (l : Bytes) (v : ℕ) → FirstBroken (laws latin p o l) v → OneOf section-numbers v
+laws-ranged latin p o l v b = laws-all latin p o l .sure v b
 
 -- so it is not 0
-pub laws-some : (latin : Bool) (p : Phase) (l : Bytes) (v : ℕ) → FirstBroken (laws latin p l) v → ¬ (v ≡ 0)
+pub laws-some : (latin : Bool) (p : Phase) (o : Order) (l : Bytes) (v : ℕ) → FirstBroken (laws latin p o l) v → ¬ (v ≡ 0)
 unfolding any
-laws-some latin p l v b = other-number section-numbers v 0 (laws-ranged latin p l v b) refl
+laws-some latin p o l v b = other-number section-numbers v 0 (laws-ranged latin p o l v b) refl

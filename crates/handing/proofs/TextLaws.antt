@@ -35,7 +35,7 @@ use Rattle.page.specs.declared.Handed.the-variants as Ha
 use Rattle.page.proofs.LimitLaws.{header-short}
 use Rattle.page.proofs.ScanLaws.{part-length, part-moved}
 use Rattle.page.proofs.FieldLaws.{field-span-in, field-span-part}
-use Rattle.page.proofs.OrderLaws.{listed-arranged}
+use Rattle.grammar.proofs.Readings.{sound-arranged}
 use Rattle.page.proofs.CutLaws.{Stands, section-stands, section-within, section-bytes}
 use Rattle.laws.specs.Begins.{begins}
 use Rattle.laws.proofs.Sections.{sections-begin}
@@ -165,6 +165,7 @@ pub record There (s : Bytes) (i r f : ℕ) : Type 0 where
   pub lain : Lain s (record-of (section-at s i) r)
   pub passed : rec-verdict (table-of (section-at s i .lines)) (order-in (section-at s i .lines)) (record-of (section-at s i) r .mark) (fields (record-of (section-at s i) r .rest)) ≡ 0
   pub field : f - 1 < width (table-of (section-at s i .lines))
+  pub ordered : arranged (width (table-of (section-at s i .lines))) (order-in (section-at s i .lines)) ≡ true
 
 section-lain : (s : Bytes) (x : Section) (r : ℕ) → Stands s x → Lain s (record-of x r)
 unfolding record-of
@@ -186,6 +187,7 @@ there-of s i r f e =
       lain = section-lain s (section-at s i) r (y .stands);
       passed = section-passed (latinOf s) (section-at s i .lines) (r - 1) (section-at s i .place) (y .begun) (y .verdict) (omega arith);
       field = omega arith;
+      ordered = sound-arranged (latinOf s) (section-at s i .lines) (y .begun) (y .verdict);
     }
 
 -- a value that is there: it lies in the file, and its own bytes are what is written of it
@@ -207,17 +209,13 @@ module _ (s : Bytes) (i r f : ℕ) (found : value-refusal s i r f .number ≡ 0)
   abbrev handed-as : Field → Value
   handed-as g = valued (text-owner s i r f) (later-field (st .at) (later-field (field-span (st .rest) p .from) g))
 
-  arranged-here : arranged (width t) (order-in (section-at s i .lines)) ≡ true
-  unfolding order-in
-  arranged-here = listed-arranged t
-
   has-field : There s i r f → p < length (fields (st .rest))
   unfolding place-of
-  has-field h = passed-there t (order-in (section-at s i .lines)) (st .mark) (fields (st .rest)) arranged-here (h .passed) (f - 1) (h .field)
+  has-field h = passed-there t (order-in (section-at s i .lines)) (st .mark) (fields (st .rest)) (h .ordered) (h .passed) (f - 1) (h .field)
 
   field-right : There s i r f → field-number (fieldOf c (getD (fields (st .rest)) p [])) ≡ 0
   unfolding place-of
-  field-right h = passed-right t (order-in (section-at s i .lines)) (st .mark) (fields (st .rest)) arranged-here (h .passed) (f - 1) (h .field)
+  field-right h = passed-right t (order-in (section-at s i .lines)) (st .mark) (fields (st .rest)) (h .ordered) (h .passed) (f - 1) (h .field)
 
   refusal-is : text-refusal s i r f ≡ refuse-if (not (c .text)) 11
   unfolding text-refusal earlier

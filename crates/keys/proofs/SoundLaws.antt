@@ -22,11 +22,10 @@ use Rattle.page.specs.declared.Owner.{Owner}
 use Rattle.page.specs.declared.Column.{Column}
 use Rattle.page.proofs.TestLaws.{and-left, and-right}
 use Rattle.page.proofs.TableLaws.{each, each-at}
-use Rattle.page.proofs.OrderLaws.{listed-arranged}
 use Rattle.page.proofs.TextLaws.{record-text-is}
 use Rattle.laws.specs.Begins.{begins}
 use Rattle.grammar.proofs.Accepts.{denotes-accepted}
-use Rattle.grammar.proofs.Readings.{handed-denoted, denoted-known}
+use Rattle.grammar.proofs.Readings.{handed-denoted, denoted-known, sound-arranged}
 use Rattle.keys.proofs.PackLaws.{byte}
 use Rattle.keys.proofs.SameLaws.{Fits, fits-number, fits-text, Fitting, no-value, a-value}
 
@@ -156,7 +155,7 @@ module _ {latin : Bool} (t : ℕ) where
   then-last f (skip h x) = then-last f x
 
   denotes-fit : {ls : List Bytes} (rs : List Record) → Denotes latin ls t rs → Every (Fitting (columns t)) rs
-  denotes-fit rs d = then-last (λ a x. then-last (λ b y. then-last (λ c z. records-fit z) y) x) d
+  denotes-fit rs d = then-last (λ a x. then-last (λ b y. then-last (λ c z. records-fit z) y) x) (d .1)
 
 -- of a section's lines that begin with a `tbl` line and have verdict 0
 pub record Sound (latin : Bool) (ls : List Bytes) : Type 0 where
@@ -167,7 +166,6 @@ pub record Sound (latin : Bool) (ls : List Bytes) : Type 0 where
   pub fit : Every (Fitting (columns (table-of ls))) (recordsOf latin ls)
 
 pub sound-section : (latin : Bool) (ls : List Bytes) → begins ls ≡ true → outcome latin ls .verdict ≡ 0 → Sound latin ls
-unfolding order-in
 sound-section latin ls b e =
     let d = handed-denoted latin ls b e in
     let t = table-of ls in
@@ -176,6 +174,6 @@ sound-section latin ls b e =
       verdict = e;
       known = denoted-known t rs d;
       number = ap (λ (o : Outcome). o .table) (denotes-accepted latin ls t rs d);
-      ordered = listed-arranged t;
+      ordered = sound-arranged latin ls b e;
       fit = denotes-fit t rs d;
     }

@@ -10,12 +10,13 @@ use lib.ListN.{length, take}
 use borrow.Author.Tests.{eqb-true, leb-true, le-ltb, ne-eqb}
 use Rattle.page.specs.Bytes.{Bytes, bytes, pick, same, until, no-space, trim}
 use Rattle.page.specs.Lines.{blank, command, semicolon, find, known, Mod, Unknown, Missing}
-use Rattle.page.specs.Tables.{Named, table-at, table-named, TABLES}
-use Rattle.page.specs.Order.{Order}
-use Rattle.page.specs.Section.{names-same, format-ok, formats-ok}
-use Rattle.page.specs.Grammar.{Formats, no-format, a-format, Rises, lone, above}
+use Rattle.page.specs.Tables.{Named, table-at, width, name-at, table-named, TABLES}
+use Rattle.page.specs.Order.{Order, order-of, arranged}
+use Rattle.page.specs.Section.{format-ok, formats-ok}
+use Rattle.page.specs.Grammar.{Arrangement, Formats, no-format, a-format, Rises, lone, above}
 use Rattle.page.specs.Refusals.{marks-of, One}
 use Rattle.page.specs.Marks.{may-mark}
+use Rattle.page.proofs.ArrangeLaws.{arranged-exactly}
 use Rattle.page.proofs.NameLaws.{find-within}
 use Rattle.page.proofs.TableLaws.{name-tells, named-is}
 use Rattle.laws.proofs.Decides.{Decides, holds, fails, when, both, equal, at-most, below}
@@ -34,12 +35,8 @@ is-d true = holds refl
 is-d false = fails false≢true
 
 -- the names of `atr`
-pub names-d : (cs : List Named) (fs : List Bytes) → Decides (fs ≡ map (λ (c : Named). bytes (c .name)) cs) (names-same cs fs)
-unfolding names-same
-names-d [] [] = holds refl
-names-d [] (f ∷ fs) = fails (λ e. absurd (false≢true (cc)))
-names-d (c ∷ cs) [] = fails (λ e. absurd (false≢true (cc)))
-names-d (c ∷ cs) (f ∷ fs) = when (λ p. cc) (λ e. ((cc), (cc))) (both (same-d f (bytes (c .name))) (names-d cs fs))
+pub names-d : (t : ℕ) (fs : List Bytes) → Decides ((q : Order) × Arrangement t q × (fs ≡ map (λ (c : ℕ). bytes (name-at t c)) q)) (arranged (width t) (order-of t fs))
+names-d t fs = let x = arranged-exactly t fs in when (x .0) (x .1) (is-d (arranged (width t) (order-of t fs)))
 
 -- the formats of `frm`
 pub formats-d : (cs : List Named) (fs : List Bytes) → Decides (Formats cs fs) (formats-ok cs fs)

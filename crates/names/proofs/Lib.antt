@@ -1,2 +1,4 @@
 pub mod FormatLaws
+pub mod EnteredLaws
+pub mod ToldLaws
 pub mod TitleLaws

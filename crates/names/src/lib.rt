@@ -1,16 +1,20 @@
 // A table by its name, and the lines that state a table's columns.
 ghost use mathlib.Core.Path.{_≡_};
 ghost use Rattle.page.specs.Bytes.{bytes, same};
-ghost use Rattle.page.specs.Tables.{columns, name-at, table-named};
+ghost use Rattle.page.specs.Tables.{name-at, table-named};
 ghost use Rattle.page.specs.Order.{standing};
 ghost use Rattle.page.specs.Fields.{fields};
-ghost use Rattle.page.specs.Section.{names-same, formats-ok};
+ghost use Rattle.page.specs.Section.{formats-ok};
 ghost use Rattle.tables.specs.Orders.{held, Orderly};
 ghost use Rattle.tables.specs.Words.{word};
 
 mod formats;
+mod orders;
 mod titles;
 
+pub use orders::Arranged;
+pub use orders::arrange;
+pub use orders::find_order;
 use tables::NAMES;
 use tables::TABLES;
 use tables::WIDEST;
@@ -49,27 +53,6 @@ pub fn find_table(w: &[u8]) -> usize
         t += 1;
     }
     t
-}
-
-// "`atr` with exactly the columns below in this order": w is what stands after the line's first `;`.
-pub fn names_match(w: &[u8], t: usize) -> bool
-    ensures { λ r. ⌜ r ≡ names-same (columns t) (fields (now (w .entry))) ⌝ }
-{
-    let n = find_width(t);
-    let mut k = 0;
-    let mut at = 0;
-    while k < n {
-        if w.len() < at {
-            return false;
-        }
-        let e = commands::field_end(w, at);
-        if !is_name(lines::trimmed(&w[at..e]), t, k) {
-            return false;
-        }
-        at = e + 1;
-        k += 1;
-    }
-    w.len() < at
 }
 
 // "`frm` with one format a column", as the columns stand.

@@ -1,4 +1,4 @@
--- The fields of a line against columns, one by one from the left: the names of `atr`, the formats of `frm`. Assumes nothing.
+-- The fields of a line against columns, one by one from the left: the formats of `frm`. Assumes nothing.
 use mathlib.Core.Path.{_≡_, refl, sym, _∙_}
 use mathlib.Core.Bool.{Bool, true, false, _&&_}
 use mathlib.Core.List.{List, [], _∷_}
@@ -8,10 +8,10 @@ use lib.Dec.{ltb}
 use lib.ListN.{length, getD, drop, drop-of-length-le}
 use lib.Seq.{drop-cons}
 use borrow.Author.Tests.{ltb-true, ltb-false}
-use Rattle.page.specs.Bytes.{Bytes, bytes, same}
+use Rattle.page.specs.Bytes.{Bytes}
 use Rattle.page.specs.Fields.{field-size}
 use Rattle.page.specs.Tables.{Named, no-column}
-use Rattle.page.specs.Section.{names-same, format-ok, formats-ok}
+use Rattle.page.specs.Section.{format-ok, formats-ok}
 use Rattle.page.proofs.FieldLaws.{from, from-more, from-end}
 
 -- as many fields as columns, and each passes its column's test
@@ -21,18 +21,8 @@ matches p [] (f ∷ fs) = false
 matches p (c ∷ cs) [] = false
 matches p (c ∷ cs) (f ∷ fs) = p c f && matches p cs fs
 
-abbrev pub has-name : Named → Bytes → Bool
-has-name c f = same f (bytes (c .name))
-
 abbrev pub has-format : Named → Bytes → Bool
 has-format c f = format-ok (c .column .text) f
-
-pub names-matches : (cs : List Named) (fs : List Bytes) → names-same cs fs ≡ matches has-name cs fs
-unfolding names-same matches
-names-matches [] [] = refl
-names-matches [] (f ∷ fs) = refl
-names-matches (c ∷ cs) [] = refl
-names-matches (c ∷ cs) (f ∷ fs) = rw (names-matches cs fs)
 
 pub formats-matches : (cs : List Named) (fs : List Bytes) → formats-ok cs fs ≡ matches has-format cs fs
 unfolding formats-ok matches

@@ -32,7 +32,7 @@ upto-at i zero p d h = absurd (omega arith)
 upto-at i (suc n) zero d h = sym (add-zero i)
 upto-at i (suc n) (suc p) d h = upto-at (suc i) n p d (omega arith) ∙ omega arith
 
-all-upto : (p : ℕ → Bool) (i n : ℕ) → all p (upto i n) ≡ true → (k : ℕ) → k < n → p (i + k) ≡ true
+pub all-upto : (p : ℕ → Bool) (i n : ℕ) → all p (upto i n) ≡ true → (k : ℕ) → k < n → p (i + k) ≡ true
 unfolding all upto
 all-upto p i zero e k h = absurd (omega arith)
 all-upto p i (suc n) e zero h = rw (add-zero i) (and-left (p i) (all p (upto (suc i) n)) e)

@@ -10,14 +10,18 @@ use Rattle.page.specs.Fields.{textOf}
 use Rattle.page.specs.Header.{headOf}
 use Rattle.page.specs.Section.{outcome}
 use Rattle.page.specs.File.{file-refusal}
+use Rattle.page.specs.Reading.{valueOf}
+use Rattle.page.specs.Writing.{write-form}
 use Rattle.page.specs.declared.Outcome.{Outcome}
 use Rattle.page.specs.declared.Finding.{Finding}
 use Rattle.page.specs.declared.Refusal.{Refusal}
+use Rattle.page.specs.declared.Got.{Got}
 
--- a line's content, a field, a header, a section under ASCII (false) or ISO8859-1 (true), a file
+-- a line's content, a field, a header, a section under ASCII (false) or ISO8859-1 (true), a file, its written form, a value of it
 pub data Case : Type 0 where
-  content-case field-case header-case file-case : Bytes → Case
+  content-case field-case header-case file-case form-case : Bytes → Case
   section-case : Bool → Bytes → Case
+  value-case : Bytes → (i r f : ℕ) → Case
 
 pub data Answer : Type 0 where
   a-command : ℕ → Answer
@@ -25,6 +29,8 @@ pub data Answer : Type 0 where
   a-finding : Finding → Answer
   a-section : Outcome → Answer
   a-file : Refusal → Answer
+  a-form : Bytes → Answer
+  a-value : Got → Answer
 
 unfoldable pub answer : Case → Answer
 answer (content-case c) = a-command (command c)
@@ -32,6 +38,8 @@ answer (field-case f) = a-text (textOf f)
 answer (header-case s) = a-finding (headOf (lines s))
 answer (section-case latin s) = a-section (outcome latin (lines s))
 answer (file-case s) = a-file (file-refusal s)
+answer (form-case s) = a-form (write-form s)
+answer (value-case s i r f) = a-value (valueOf s i r f)
 
 -- table, records, verdict, line
 abbrev pub says : ℕ → ℕ → ℕ → ℕ → Answer

@@ -9,8 +9,8 @@ use lib.ListN.{length, getD}
 use Rattle.page.specs.Bytes.{Bytes, bytes, pick}
 use Rattle.page.specs.Lines.{content, blank, command, rest, clean, Tbl, Atr, Frm, Rec, End, Com}
 use Rattle.page.specs.Fields.{fields, numberOf}
-use Rattle.page.specs.Tables.{Named, Rule, points-differ, TABLES, table-at, columns, rules}
-use Rattle.page.specs.Order.{Order, listed-order, standing, by-column, column-in}
+use Rattle.page.specs.Tables.{Named, Rule, points-differ, TABLES, table-at, width, columns, name-at, rules}
+use Rattle.page.specs.Order.{Order, standing, by-column, column-in}
 use Rattle.page.specs.Marks.{remarkOf, may-mark}
 use Rattle.page.specs.Section.{format-ok, record-text}
 use Rattle.page.specs.Records.{Datum, number, words, Record}
@@ -39,10 +39,17 @@ pub record TblLine (latin : Bool) (t : ℕ) (l : Bytes) : Type 0 where
   pub known : t < TABLES
   pub name : fields-of l ≡ bytes (table-at t .name) ∷ []
 
--- "`atr` with exactly the columns below in this order"
-pub record AtrLine (latin : Bool) (t : ℕ) (l : Bytes) : Type 0 where
+-- "any arrangement of a table's columns, each once": each column stands at one place, and nothing else stands there
+pub record Arrangement (t : ℕ) (o : Order) : Type 0 where
+  pub only : (p : ℕ) → p < length o → getD o p 0 < width t
+  pub there : (c : ℕ) → c < width t → (p : ℕ) × (p < length o) × (getD o p 0 ≡ c)
+  pub once : (p q : ℕ) → p < length o → q < length o → getD o p 0 ≡ getD o q 0 → p ≡ q
+
+-- "The reading of `atr` must now say which column stands where"
+pub record AtrLine (latin : Bool) (t : ℕ) (o : Order) (l : Bytes) : Type 0 where
   pub says : Says latin Atr l
-  pub names : fields-of l ≡ map (λ (c : Named). bytes (c .name)) (columns t)
+  pub arrangement : Arrangement t o
+  pub names : fields-of l ≡ map (λ (c : ℕ). bytes (name-at t c)) o
 
 -- "`frm` with one format a column"
 pub data Formats : List Named → List Bytes → Type 0 where
@@ -128,5 +135,5 @@ pub data Records (latin : Bool) (t : ℕ) (o : Order) (n : ℕ) : List ℕ → L
 -- these lines denote table t with the records rs: "The count equals the number of `rec` lines."
 abbrev pub Denotes : Bool → List Bytes → ℕ → List Record → Type 0
 Denotes latin ls t rs =
-    Then latin (TblLine latin t) (Then latin (AtrLine latin t)
-    (Then latin (FrmLine latin t (listed-order t)) (λ body. Records latin t (listed-order t) (length rs) [] body rs))) ls
+    (o : Order) × Then latin (TblLine latin t) (Then latin (AtrLine latin t o)
+    (Then latin (FrmLine latin t o) (λ body. Records latin t o (length rs) [] body rs))) ls

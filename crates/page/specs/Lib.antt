@@ -28,3 +28,4 @@ pub mod Grammar
 pub mod Rules
 pub mod Refusals
 pub mod Settled
+pub mod Arranged

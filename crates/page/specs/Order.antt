@@ -5,6 +5,7 @@ use Prim.Native.Nat.{ℕ, zero, suc, _+_}
 use lib.Dec.{eqb}
 use lib.ListN.{length, getD}
 use Rattle.page.specs.Bytes.{Bytes, pick, all}
+use Rattle.page.specs.Lines.{find}
 use Rattle.page.specs.Tables.{Named, no-column, columns, width}
 
 -- the column, from 0, at each place, from the left
@@ -15,16 +16,20 @@ unfoldable pub upto : ℕ → ℕ → Order
 upto i zero = []
 upto i (suc n) = i ∷ upto (suc i) n
 
--- "`atr` with exactly the columns below in this order"
+-- document 01's own: "The written file uses 452's order"
 unfoldable pub listed-order : ℕ → Order
 listed-order t = upto 0 (width t)
+
+-- "The reading of `atr` must now say which column stands where": the columns that its fields name, one past the last for a field that names none
+unfoldable pub order-of : ℕ → List Bytes → Order
+order-of t fs = map (find 0 (map (λ (c : Named). c .name) (columns t))) fs
 
 -- how often a column stands there
 unfoldable pub often : ℕ → Order → ℕ
 often c [] = 0
 often c (x ∷ o) = pick (eqb x c) 1 0 + often c o
 
--- n columns, each once
+-- "any arrangement of a table's columns, each once": n columns
 unfoldable pub arranged : ℕ → Order → Bool
 arranged n o = eqb (length o) n && all (λ c. eqb (often c o) 1) (upto 0 n)
 

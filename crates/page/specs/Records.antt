@@ -6,10 +6,10 @@ use Prim.Native.Nat.{ℕ, suc}
 use lib.Dec.{eqb}
 use lib.ListN.{getD}
 use Rattle.page.specs.Bytes.{Bytes, pick}
-use Rattle.page.specs.Lines.{content, command, rest, Rec, Com}
+use Rattle.page.specs.Lines.{content, command, rest, Atr, Rec, Com}
 use Rattle.page.specs.Fields.{fields, numberOf}
 use Rattle.page.specs.Tables.{Named, columns, table-named}
-use Rattle.page.specs.Order.{Order, listed-order, by-column, column-in}
+use Rattle.page.specs.Order.{Order, order-of, by-column, column-in}
 use Rattle.page.specs.Marks.{remarkOf, owner-of}
 use Rattle.page.specs.Section.{record-text, amount, outcome}
 use Rattle.page.specs.declared.Owner.{Owner}
@@ -67,9 +67,13 @@ unfoldable pub table-of : List Bytes → ℕ
 table-of [] = table-named []
 table-of (l ∷ ls) = table-named (getD (fields (rest (content l))) 0 [])
 
--- which column stands where in a sound section's lines
+-- which column stands where in a sound section's lines, by what follows the first `;` of its `atr` line
+unfoldable pub atr-in : List Bytes → Bytes
+atr-in [] = []
+atr-in (l ∷ ls) = pick (eqb (command (content l)) Atr) (rest (content l)) (atr-in ls)
+
 unfoldable pub order-in : List Bytes → Order
-order-in ls = listed-order (table-of ls)
+order-in ls = order-of (table-of ls) (fields (atr-in ls))
 
 -- "A refused section hands out no records."
 unfoldable pub entriesOf : Bool → List Bytes → List Entry

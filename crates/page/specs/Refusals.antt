@@ -10,12 +10,12 @@ use lib.ListN.{length}
 use Rattle.page.specs.Bytes.{Bytes, bytes}
 use Rattle.page.specs.Lines.{content, blank, command, rest, clean, Tbl, Atr, Frm, Rec, End, Com, Unknown, Missing}
 use Rattle.page.specs.Fields.{numberOf}
-use Rattle.page.specs.Tables.{Named, Rule, rule-number, TABLES, table-at, columns, rules}
-use Rattle.page.specs.Order.{Order, listed-order, standing}
+use Rattle.page.specs.Tables.{Named, Rule, rule-number, TABLES, table-at, name-at, rules}
+use Rattle.page.specs.Order.{Order, standing}
 use Rattle.page.specs.Marks.{remarkOf, may-mark}
 use Rattle.page.specs.Section.{record-text, table-in}
 use Rattle.page.specs.Records.{Datum, words, Record}
-use Rattle.page.specs.Grammar.{fields-of, Quiet, TblLine, AtrLine, FrmLine, MarkLine, RecLine, EndLine, Formats, Holds, Reads, Breaks, Rises}
+use Rattle.page.specs.Grammar.{fields-of, Arrangement, Quiet, TblLine, AtrLine, FrmLine, MarkLine, RecLine, EndLine, Formats, Holds, Reads, Breaks, Rises}
 use Rattle.page.specs.File.{any}
 use Rattle.page.specs.declared.Number.the-variants as N
 use Rattle.page.specs.declared.Owner.the-variants as O
@@ -87,46 +87,46 @@ end-laws ms n fs =
     law 16 (¬ ((f : Bytes) × (fs ≡ f ∷ []) × (numberOf f ≡ N.Plus n))) ∷ []
 
 -- "`tbl` 10, 7; `atr` 8; `frm` 9"
-abbrev pub command-laws : Phase → ℕ → List Bytes → List Law
-command-laws P.Tbl k fs = law 10 (¬ One fs) ∷ law 7 (¬ ((t : ℕ) × (t < TABLES) × (fs ≡ bytes (table-at t .name) ∷ []))) ∷ []
-command-laws (P.Atr t) k fs = law 8 (¬ (fs ≡ map (λ (c : Named). bytes (c .name)) (columns t))) ∷ []
-command-laws (P.Frm t) k fs = law 9 (¬ Formats (standing t (listed-order t)) fs) ∷ []
-command-laws (P.Rows t m n) k fs = either-laws (eqb k Rec) (rec-laws t (listed-order t) (marks-of m) fs) (end-laws (marks-of m) n fs)
-command-laws (P.Ended t n) k fs = []
+abbrev pub command-laws : Phase → Order → ℕ → List Bytes → List Law
+command-laws P.Tbl o k fs = law 10 (¬ One fs) ∷ law 7 (¬ ((t : ℕ) × (t < TABLES) × (fs ≡ bytes (table-at t .name) ∷ []))) ∷ []
+command-laws (P.Atr t) o k fs = law 8 (¬ ((q : Order) × Arrangement t q × (fs ≡ map (λ (c : ℕ). bytes (name-at t c)) q))) ∷ []
+command-laws (P.Frm t) o k fs = law 9 (¬ Formats (standing t o) fs) ∷ []
+command-laws (P.Rows t m n) o k fs = either-laws (eqb k Rec) (rec-laws t o (marks-of m) fs) (end-laws (marks-of m) n fs)
+command-laws (P.Ended t n) o k fs = []
 
 -- "A mark that is unreadable, not allowed, not rising, before `frm` or after `end` is 15 at its own line."
-abbrev pub GoodMark : Phase → Remark → Type 0
-GoodMark p R.Comment = Unit
-GoodMark p R.Unreadable = ⊥
-GoodMark P.Tbl (R.Mark i) = ⊥
-GoodMark (P.Atr t) (R.Mark i) = ⊥
-GoodMark (P.Frm t) (R.Mark i) = ⊥
-GoodMark (P.Rows t m n) (R.Mark i) = (may-mark t (listed-order t) i ≡ true) × Rises i (marks-of m)
-GoodMark (P.Ended t n) (R.Mark i) = ⊥
+abbrev pub GoodMark : Phase → Order → Remark → Type 0
+GoodMark p o R.Comment = Unit
+GoodMark p o R.Unreadable = ⊥
+GoodMark P.Tbl o (R.Mark i) = ⊥
+GoodMark (P.Atr t) o (R.Mark i) = ⊥
+GoodMark (P.Frm t) o (R.Mark i) = ⊥
+GoodMark (P.Rows t m n) o (R.Mark i) = (may-mark t o i ≡ true) × Rises i (marks-of m)
+GoodMark (P.Ended t n) o (R.Mark i) = ⊥
 
 -- "in that line the first of 4, 5, 6, then" its command's own; a blank line has only 4
-unfoldable pub laws : Bool → Phase → Bytes → List Law
-laws latin p l =
+unfoldable pub laws : Bool → Phase → Order → Bytes → List Law
+laws latin p o l =
     law 4 (¬ (clean latin (content l) ≡ true)) ∷
     either-laws (blank (content l)) []
     (law 5 ((command (content l) ≡ Missing) ⊎ (command (content l) ≡ Unknown)) ∷
-    either-laws (eqb (command (content l)) Com) (law 15 (¬ GoodMark p (remarkOf (rest (content l)))) ∷ [])
-    (law 6 (¬ InOrder p (command (content l))) ∷ command-laws p (command (content l)) (fields-of l)))
+    either-laws (eqb (command (content l)) Com) (law 15 (¬ GoodMark p o (remarkOf (rest (content l)))) ∷ [])
+    (law 6 (¬ InOrder p (command (content l))) ∷ command-laws p o (command (content l)) (fields-of l)))
 
--- what a line leads to, where what stood before it left p
-pub data Leads (latin : Bool) (l : Bytes) : Phase → Phase → Type 0 where
-  quiet : {p : Phase} → Quiet latin l → Leads latin l p p
-  tbl : {t : ℕ} → TblLine latin t l → Leads latin l P.Tbl (P.Atr t)
-  atr : {t : ℕ} → AtrLine latin t l → Leads latin l (P.Atr t) (P.Frm t)
-  frm : {t : ℕ} → FrmLine latin t (listed-order t) l → Leads latin l (P.Frm t) (P.Rows t 0 0)
-  mark : {t m n i : ℕ} → MarkLine latin t (listed-order t) (marks-of m) i l → Leads latin l (P.Rows t m n) (P.Rows t i n)
-  record-line : {t m n : ℕ} {vs : Record} → RecLine latin t (listed-order t) (marks-of m) vs l → Leads latin l (P.Rows t m n) (P.Rows t 0 (suc n))
-  end : {t n : ℕ} → EndLine latin n l → Leads latin l (P.Rows t 0 n) (P.Ended t n)
+-- what a line leads to, where what stood before it left p and the order o
+pub data Leads (latin : Bool) (l : Bytes) : Phase → Order → Phase → Order → Type 0 where
+  quiet : {p : Phase} {o : Order} → Quiet latin l → Leads latin l p o p o
+  tbl : {t : ℕ} {o : Order} → TblLine latin t l → Leads latin l P.Tbl o (P.Atr t) o
+  atr : {t : ℕ} {o q : Order} → AtrLine latin t q l → Leads latin l (P.Atr t) o (P.Frm t) q
+  frm : {t : ℕ} {o : Order} → FrmLine latin t o l → Leads latin l (P.Frm t) o (P.Rows t 0 0) o
+  mark : {t m n i : ℕ} {o : Order} → MarkLine latin t o (marks-of m) i l → Leads latin l (P.Rows t m n) o (P.Rows t i n) o
+  record-line : {t m n : ℕ} {o : Order} {vs : Record} → RecLine latin t o (marks-of m) vs l → Leads latin l (P.Rows t m n) o (P.Rows t 0 (suc n)) o
+  end : {t n : ℕ} {o : Order} → EndLine latin n l → Leads latin l (P.Rows t 0 n) o (P.Ended t n) o
 
 -- the lines ls lead from p to q, one after the other
-pub data Reaches (latin : Bool) : Phase → List Bytes → Phase → Type 0 where
-  stay : {p : Phase} → Reaches latin p [] p
-  move : {p q r : Phase} {l : Bytes} {ls : List Bytes} → Leads latin l p q → Reaches latin q ls r → Reaches latin p (l ∷ ls) r
+pub data Reaches (latin : Bool) : Phase → Order → List Bytes → Phase → Order → Type 0 where
+  stay : {p : Phase} {o : Order} → Reaches latin p o [] p o
+  move : {p q r : Phase} {o x y : Order} {l : Bytes} {ls : List Bytes} → Leads latin l p o q x → Reaches latin q x ls r y → Reaches latin p o (l ∷ ls) r y
 
 unfoldable pub is-ended : Phase → Bool
 is-ended P.Tbl = false
@@ -138,9 +138,9 @@ is-ended (P.Ended t n) = true
 -- a section is refused with table number k, verdict v and line n: at its first line that breaks a law, by the first law that it breaks;
 -- or no line does, but no `end` came
 pub data Refused (latin : Bool) (ls : List Bytes) (k v n : ℕ) : Type 0 where
-  at-line : (before after : List Bytes) (l : Bytes) (q : Phase) → ls ≡ before ++ (l ∷ after) → Reaches latin P.Tbl before q →
-      FirstBroken (laws latin q l) v → k ≡ table-in q → n ≡ suc (length before) → Refused latin ls k v n
-  unfinished : (q : Phase) → Reaches latin P.Tbl ls q → is-ended q ≡ false → k ≡ table-in q → v ≡ 6 → n ≡ length ls → Refused latin ls k v n
+  at-line : (before after : List Bytes) (l : Bytes) (q : Phase) (o : Order) → ls ≡ before ++ (l ∷ after) → Reaches latin P.Tbl [] before q o →
+      FirstBroken (laws latin q o l) v → k ≡ table-in q → n ≡ suc (length before) → Refused latin ls k v n
+  unfinished : (q : Phase) (o : Order) → Reaches latin P.Tbl [] ls q o → is-ended q ≡ false → k ≡ table-in q → v ≡ 6 → n ≡ length ls → Refused latin ls k v n
 
 -- Which of the numbers given back are a section's, and which the file's: listed here, once. What theorems say of a number they say by these
 -- lists, and what sets two numbers apart is computed from them.

@@ -8,8 +8,8 @@ use lib.ListN.{length, getD, take, drop}
 use Rattle.page.specs.Bytes.{Bytes, bytes, pick, same, until}
 use Rattle.page.specs.Lines.{content, blank, command, rest, clean, Tbl, Atr, Frm, Rec, End, Com, Unknown}
 use Rattle.page.specs.Fields.{fields, textOf, numberOf, digit, digits, value}
-use Rattle.page.specs.Tables.{Named, Rule, points-differ, rule-number, TABLES, number-at, width, columns, rules, table-named}
-use Rattle.page.specs.Order.{Order, listed-order, standing, by-column}
+use Rattle.page.specs.Tables.{Named, Rule, points-differ, rule-number, TABLES, number-at, width, rules, table-named}
+use Rattle.page.specs.Order.{Order, order-of, arranged, standing, by-column}
 use Rattle.page.specs.Marks.{remarkOf, may-mark}
 use Rattle.page.specs.declared.Number.{Number}
 use Rattle.page.specs.declared.Number.the-variants as N
@@ -40,15 +40,9 @@ tbl-step fs =
     choose (eqb (length fs) 1)
     (choose (ltb (table-named (getD fs 0 [])) TABLES) (S.Go (P.Atr (table-named (getD fs 0 [])))) (S.Stop 7)) (S.Stop 10)
 
--- "`atr` with exactly the columns below in this order": 8
-unfoldable pub names-same : List Named → List Bytes → Bool
-names-same [] [] = true
-names-same [] (f ∷ fs) = false
-names-same (c ∷ cs) [] = false
-names-same (c ∷ cs) (f ∷ fs) = same f (bytes (c .name)) && names-same cs fs
-
+-- "8 is now given exactly if the names are no such arrangement"
 unfoldable pub atr-step : ℕ → List Bytes → Step
-atr-step t fs = choose (names-same (columns t) fs) (S.Go (P.Frm t)) (S.Stop 8)
+atr-step t fs = choose (arranged (width t) (order-of t fs)) (S.Go (P.Frm t)) (S.Stop 8)
 
 -- "A format is `num[n.0]` or `char[n]` as the column's kind asks, n from 1 to 255 without leading zeros": 9
 abbrev pub no-digit : ℕ → Bool
@@ -168,38 +162,46 @@ end-step t m n fs =
     choose (eqb m 0) (choose (eqb (length fs) 1) (count-step t n (numberOf (getD fs 0 []))) (S.Stop 10)) (S.Stop 15)
 
 -- "A mark that is unreadable, not allowed, not rising, before `frm` or after `end` is 15 at its own line."
-unfoldable pub mark-step : Phase → ℕ → Step
-mark-step P.Tbl i = S.Stop 15
-mark-step (P.Atr t) i = S.Stop 15
-mark-step (P.Frm t) i = S.Stop 15
-mark-step (P.Rows t m n) i = choose (may-mark t (listed-order t) i && ltb m i) (S.Go (P.Rows t i n)) (S.Stop 15)
-mark-step (P.Ended t n) i = S.Stop 15
+unfoldable pub mark-step : Phase → Order → ℕ → Step
+mark-step P.Tbl o i = S.Stop 15
+mark-step (P.Atr t) o i = S.Stop 15
+mark-step (P.Frm t) o i = S.Stop 15
+mark-step (P.Rows t m n) o i = choose (may-mark t o i && ltb m i) (S.Go (P.Rows t i n)) (S.Stop 15)
+mark-step (P.Ended t n) o i = S.Stop 15
 
-unfoldable pub com-step : Phase → Remark → Step
-com-step p R.Comment = S.Go p
-com-step p R.Unreadable = S.Stop 15
-com-step p (R.Mark i) = mark-step p i
+unfoldable pub com-step : Phase → Order → Remark → Step
+com-step p o R.Comment = S.Go p
+com-step p o R.Unreadable = S.Stop 15
+com-step p o (R.Mark i) = mark-step p o i
 
 -- a line of a known command k, other than `com`, with w after its first `;`: "known command out of its order" is 6
-unfoldable pub line-step : Phase → ℕ → Bytes → Step
-line-step P.Tbl k w = choose (eqb k Tbl) (tbl-step (fields w)) (S.Stop 6)
-line-step (P.Atr t) k w = choose (eqb k Atr) (atr-step t (fields w)) (S.Stop 6)
-line-step (P.Frm t) k w = choose (eqb k Frm) (frm-step t (listed-order t) (fields w)) (S.Stop 6)
-line-step (P.Rows t m n) k w =
-    choose (eqb k Rec) (rec-step t (listed-order t) m n (fields w)) (choose (eqb k End) (end-step t m n (fields w)) (S.Stop 6))
-line-step (P.Ended t n) k w = S.Stop 6
+unfoldable pub line-step : Phase → Order → ℕ → Bytes → Step
+line-step P.Tbl o k w = choose (eqb k Tbl) (tbl-step (fields w)) (S.Stop 6)
+line-step (P.Atr t) o k w = choose (eqb k Atr) (atr-step t (fields w)) (S.Stop 6)
+line-step (P.Frm t) o k w = choose (eqb k Frm) (frm-step t o (fields w)) (S.Stop 6)
+line-step (P.Rows t m n) o k w =
+    choose (eqb k Rec) (rec-step t o m n (fields w)) (choose (eqb k End) (end-step t m n (fields w)) (S.Stop 6))
+line-step (P.Ended t n) o k w = S.Stop 6
 
 -- "in that line the first of 4, 5, 6, then" its command's own; c is the line's content
-unfoldable pub content-step : Bool → Phase → Bytes → Step
-content-step latin p c =
+unfoldable pub content-step : Bool → Phase → Order → Bytes → Step
+content-step latin p o c =
     choose (clean latin c)
     (choose (blank c) (S.Go p)
     (choose (leb Unknown (command c)) (S.Stop 5)
-    (choose (eqb (command c) Com) (com-step p (remarkOf (rest c))) (line-step p (command c) (rest c)))))
+    (choose (eqb (command c) Com) (com-step p o (remarkOf (rest c))) (line-step p o (command c) (rest c)))))
     (S.Stop 4)
 
-unfoldable pub step : Bool → Phase → Bytes → Step
-step latin p l = content-step latin p (content l)
+unfoldable pub step : Bool → Phase → Order → Bytes → Step
+step latin p o l = content-step latin p o (content l)
+
+-- the order after a line with the content c: the `atr` line states it
+unfoldable pub order-after : Phase → Order → Bytes → Order
+order-after P.Tbl o c = o
+order-after (P.Atr t) o c = pick (eqb (command c) Atr) (order-of t (fields (rest c))) o
+order-after (P.Frm t) o c = o
+order-after (P.Rows t m n) o c = o
+order-after (P.Ended t n) o c = o
 
 -- "Table number is 0 if the `tbl` line fails"
 unfoldable pub table-in : Phase → ℕ
@@ -226,10 +228,10 @@ unfoldable pub continue : Step → ℕ → ℕ → (Phase → Outcome) → Outco
 continue (S.Go p) t n further = further p
 continue (S.Stop v) t n further = refused t v n
 
-unfoldable pub run : Bool → Phase → ℕ → List Bytes → Outcome
-run latin p n [] = finish p n
-run latin p n (l ∷ ls) = continue (step latin p l) (table-in p) (suc n) (λ q. run latin q (suc n) ls)
+unfoldable pub run : Bool → Phase → Order → ℕ → List Bytes → Outcome
+run latin p o n [] = finish p n
+run latin p o n (l ∷ ls) = continue (step latin p o l) (table-in p) (suc n) (λ q. run latin q (order-after p o (content l)) (suc n) ls)
 
 -- a section's answer, of its lines
 unfoldable pub outcome : Bool → List Bytes → Outcome
-outcome latin ls = run latin P.Tbl 0 ls
+outcome latin ls = run latin P.Tbl [] 0 ls

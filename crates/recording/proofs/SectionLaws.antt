@@ -11,10 +11,10 @@ use lib.ListN.{length, take, drop, getD, length-append}
 use Rattle.page.specs.Bytes.{Bytes, bytes}
 use Rattle.page.specs.Lines.{lines, content, command, rest, Rec}
 use Rattle.page.specs.Fields.{fields}
-use Rattle.page.specs.Tables.{WIDEST, table-at, table-named, columns}
-use Rattle.page.specs.Order.{Order, upto, by-column, column-in}
+use Rattle.page.specs.Tables.{width, table-at, table-named, columns}
+use Rattle.page.specs.Order.{Order, arranged, by-column, column-in}
 use Rattle.page.specs.Section.{rec-verdict}
-use Rattle.page.specs.Records.{Record, valuesOf, waits, record-in, table-of, order-in}
+use Rattle.page.specs.Records.{Record, valuesOf, waits, record-in, table-of, atr-in, order-in}
 use Rattle.page.specs.Cut.{Section}
 use Rattle.page.specs.Model.{Content}
 use Rattle.page.specs.Form.{decimal, records-form, table-head, content-form, tables-form}
@@ -23,13 +23,14 @@ use Rattle.page.specs.declared.LineEnd.{LineEnd}
 use Rattle.page.specs.declared.Stays.{Stays}
 use Rattle.page.proofs.LineLaws.{line-size, cut-at, lines-end}
 use Rattle.page.proofs.TestLaws.{and-left, and-right}
-use Rattle.tables.specs.Orders.{held, Stands}
-use Rattle.tables.proofs.OrderLaws.{listed-held, listed-stands}
+use Rattle.tables.specs.Orders.{held}
+use Rattle.names.specs.Told.{Told}
+use Rattle.names.proofs.ToldLaws.{told-order}
 use Rattle.cut.specs.Walk.{section-size, section-from}
 use Rattle.output.specs.Raw.{line-with}
 use Rattle.frames.proofs.LineLaws.{line-with-is}
 use Rattle.output.proofs.PutLaws.{Todo}
-use Rattle.recording.specs.Said.{rows-of, passes, said, said-in, passes-in, PassingIn}
+use Rattle.recording.specs.Said.{rows-of, passes, passing, said, said-in, passes-in, PassingIn}
 use Rattle.copies.specs.Changed.{stays-in, kept-records, kept-content, kept-tables, changed-records, changed-content, changed-tables}
 use Rattle.copies.specs.Planned.{record-plan, section-plan, record-by, records-by, content-by, tables-by}
 use Rattle.copies.specs.declared.plan.Plan.{Plan}
@@ -159,15 +160,14 @@ table-first s e h q =
 
 -- the order that its records are read by
 
-pub order-stands : (t : ℕ) (a : List ℕ) → a ≡ upto 0 WIDEST → Stands t a
-order-stands t a q = rw q (listed-stands t)
+pub order-told : (ls : List Bytes) (t : ℕ) (a : List ℕ) → t ≡ table-of ls → Told t (fields (atr-in ls)) a → passing ls ≡ true → held t a ≡ order-in ls
+unfolding passing
+order-told ls t a e k p =
+    told-order ls t a e k (and-left (arranged (width (table-of ls)) (order-in ls)) (passes (table-of ls) (order-in ls) 0 ls) p)
 
-pub order-listed : (ls : List Bytes) (t : ℕ) (a : List ℕ) → t ≡ table-of ls → a ≡ upto 0 WIDEST → held t a ≡ order-in ls
-unfolding order-in
-order-listed ls t a e q = rw (q, sym e) (listed-held t)
-
-pub passes-so : (ls : List Bytes) (t : ℕ) (o : Order) → t ≡ table-of ls → o ≡ order-in ls → passes (table-of ls) (order-in ls) 0 ls ≡ true → passes t o 0 ls ≡ true
-passes-so ls t o e q p = rw (e, q) p
+pub passes-so : (ls : List Bytes) (t : ℕ) (o : Order) → t ≡ table-of ls → o ≡ order-in ls → passing ls ≡ true → passes t o 0 ls ≡ true
+unfolding passing
+passes-so ls t o e q p = rw (e, q) (and-right (arranged (width (table-of ls)) (order-in ls)) (passes (table-of ls) (order-in ls) 0 ls) p)
 
 module _ (p : Plan) (x : Bytes) (ls : List Bytes) where
   pub content-is : (t : ℕ) (o : Order) (n : ℕ) → t ≡ table-of ls → o ≡ order-in ls → n ≡ length (kept-records (p .stays) (rows-of t o 0 ls))
@@ -222,6 +222,6 @@ passing-here (one-more p ps) = p
 pub passing-rest : {x : Section} {xs : List Section} → PassingIn (x ∷ xs) → PassingIn xs
 passing-rest (one-more p ps) = ps
 
-pub passes-section : (x : Section) (ls : List Bytes) → x .lines ≡ ls → passes-in x ≡ true → passes (table-of ls) (order-in ls) 0 ls ≡ true
+pub passes-section : (x : Section) (ls : List Bytes) → x .lines ≡ ls → passes-in x ≡ true → passing ls ≡ true
 unfolding passes-in
 passes-section x ls e p = rw e at p

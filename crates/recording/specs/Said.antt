@@ -8,7 +8,8 @@ use Rattle.page.specs.Bytes.{Bytes, pick}
 use Rattle.page.specs.Lines.{content, command, rest, Rec}
 use Rattle.page.specs.Fields.{fields}
 use Rattle.page.specs.Cut.{Section, sections}
-use Rattle.page.specs.Order.{Order}
+use Rattle.page.specs.Tables.{width}
+use Rattle.page.specs.Order.{Order, arranged}
 use Rattle.page.specs.Section.{rec-verdict}
 use Rattle.page.specs.Records.{Record, waits, record-in, table-of, order-in}
 use Rattle.page.specs.Model.{Content}
@@ -33,10 +34,14 @@ said ls = record { table = table-of ls; records = rows-of (table-of ls) (order-i
 unfoldable pub said-in : Section → Content
 said-in x = said (x .lines)
 
-unfoldable pub passes-in : Section → Bool
-passes-in x = passes (table-of (x .lines)) (order-in (x .lines)) 0 (x .lines)
+-- each column of a section's table stands once, and each of its records passes
+unfoldable pub passing : List Bytes → Bool
+passing ls = arranged (width (table-of ls)) (order-in ls) && passes (table-of ls) (order-in ls) 0 ls
 
--- the records of every section pass
+unfoldable pub passes-in : Section → Bool
+passes-in x = passing (x .lines)
+
+-- every section passes
 abbrev pub PassingIn : List Section → Type 0
 PassingIn xs = Every (λ (x : Section). passes-in x ≡ true) xs
 

@@ -8,13 +8,13 @@ ghost use Rattle.page.specs.Lines.{lines};
 ghost use Rattle.page.specs.Fields.{fields};
 ghost use Rattle.page.specs.Order.{listed-order};
 ghost use Rattle.page.specs.Section.{rec-verdict};
-ghost use Rattle.page.specs.Records.{table-of, order-in};
+ghost use Rattle.page.specs.Records.{table-of};
 ghost use Rattle.output.specs.Put.{Put};
 ghost use Rattle.tables.specs.Orders.{held, Stands};
 ghost use Rattle.copies.specs.Changed.{kept-records};
 ghost use Rattle.copies.specs.Planned.{records-by, content-by};
 ghost use Rattle.records.specs.Row.{row};
-ghost use Rattle.recording.specs.Said.{rows-of, passes, said};
+ghost use Rattle.recording.specs.Said.{rows-of, passes, passing, said};
 use copies::Plan;
 use copies::does_stay;
 use copies::plan_record;
@@ -24,7 +24,6 @@ use lines::Cursor;
 use records::put_record;
 use tables::WIDEST;
 use tables::is_listed;
-use tables::list_columns;
 
 // How far the writing has come, and how many records or sections were written.
 pub struct Progress {
@@ -126,14 +125,14 @@ pub fn put_section(out: &mut [u8], at: usize, s: &[u8], plan: Plan, text: &[u8])
     requires { ⌜ (at + length (content-by plan (now text) (said (lines (now s)))) + 2560 < 2 ^ 62)
         × (length (now text) ≤ 40)
         × (0 < length (now s))
-        × (passes (table-of (lines (now s))) (order-in (lines (now s))) 0 (lines (now s)) ≡ true) ⌝ }
+        × (passing (lines (now s)) ≡ true) ⌝ }
     ensures { λ r.
         ⌜ Put (now (out .entry)) at (content-by plan (now (text .entry)) (said (lines (now (s .entry))))) (now (out .exit)) r ⌝ }
 {
     let ends = plan.ends;
     let t = read_table(s);
     let a = put_table_head(out, at, ends, t);
-    let o = list_columns();
+    let o = names::find_order(s, t);
     let p = put_records(out, a, s, t, &o, plan, text);
     put_count_line(out, p.at, ends, b"end", p.count as u64)
 }

@@ -1,1 +1,2 @@
 mod RecordLaws
+mod PartLaws

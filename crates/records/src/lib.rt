@@ -1,4 +1,5 @@
 // One record of the written file.
+mod parts;
 mod record;
 
 pub use record::put_record;

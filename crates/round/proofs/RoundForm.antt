@@ -8,7 +8,6 @@ use native.Mathlib.Omega.{arith}
 use lib.ListN.{length, length-append, length-map}
 use borrow.Author.Tests.{eq-eqb, le-ltb}
 use Rattle.page.specs.Bytes.{Bytes, bytes}
-use Rattle.page.specs.Lines.{clean}
 use Rattle.page.specs.Tables as Tables
 use Rattle.page.specs.Cut.{Section, sections}
 use Rattle.page.specs.Head.{latinOf}

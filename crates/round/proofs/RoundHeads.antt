@@ -10,7 +10,8 @@ use borrow.Author.Tests.{ltb-true}
 use Rattle.page.specs.Bytes.{Bytes, bytes, all}
 use Rattle.page.specs.Lines.{content, command, rest, Tbl, Atr, Frm}
 use Rattle.page.specs.Fields.{fields}
-use Rattle.page.specs.Tables.{Named, Table, table-at, table-named, columns, TABLES}
+use Rattle.page.specs.Tables.{Named, Table, table-at, table-named, TABLES}
+use Rattle.page.specs.Order.{Order, listed-order, order-of}
 use Rattle.page.specs.Section.{content-step, step}
 use Rattle.page.specs.Form.{line-end, separated, line, format-text}
 use Rattle.page.specs.Open.{open-all}
@@ -65,9 +66,10 @@ abbrev frm-bytes : Table → Bytes
 frm-bytes t = bytes "frm" ++ separated (formats t)
 
 record Computed (latin : Bool) (i : ℕ) (t : Table) : Type 0 where
-  tbl : content-step latin P.Tbl (tbl-bytes t) ≡ S.Go (P.Atr i)
-  atr : content-step latin (P.Atr i) (atr-bytes t) ≡ S.Go (P.Frm i)
-  frm : content-step latin (P.Frm i) (frm-bytes t) ≡ S.Go (P.Rows i 0 0)
+  tbl : (o : Order) → content-step latin P.Tbl o (tbl-bytes t) ≡ S.Go (P.Atr i)
+  atr : (o : Order) → content-step latin (P.Atr i) o (atr-bytes t) ≡ S.Go (P.Frm i)
+  order : order-of i (fields (rest (atr-bytes t))) ≡ listed-order i
+  frm : content-step latin (P.Frm i) (listed-order i) (frm-bytes t) ≡ S.Go (P.Rows i 0 0)
   tbl-named : command (tbl-bytes t) ≡ Tbl
   atr-named : command (atr-bytes t) ≡ Atr
   frm-named : command (frm-bytes t) ≡ Frm
@@ -81,9 +83,10 @@ computed : (latin : Bool) (i : ℕ) → i < TABLES → Computed latin i (table-a
 unfolding listed open-all
 computed latin i h =
     record {
-      tbl = each-latin (λ l t. content-step l P.Tbl (tbl-bytes (table-at t))) (λ l t. S.Go (P.Atr t)) refl refl latin i h;
-      atr = each-latin (λ l t. content-step l (P.Atr t) (atr-bytes (table-at t))) (λ l t. S.Go (P.Frm t)) refl refl latin i h;
-      frm = each-latin (λ l t. content-step l (P.Frm t) (frm-bytes (table-at t))) (λ l t. S.Go (P.Rows t 0 0)) refl refl latin i h;
+      tbl = λ o. each-latin (λ l t. content-step l P.Tbl o (tbl-bytes (table-at t))) (λ l t. S.Go (P.Atr t)) refl refl latin i h;
+      atr = λ o. each-latin (λ l t. content-step l (P.Atr t) o (atr-bytes (table-at t))) (λ l t. S.Go (P.Frm t)) refl refl latin i h;
+      order = each-table (λ t. order-of t (fields (rest (atr-bytes (table-at t))))) listed-order refl i h;
+      frm = each-latin (λ l t. content-step l (P.Frm t) (listed-order t) (frm-bytes (table-at t))) (λ l t. S.Go (P.Rows t 0 0)) refl refl latin i h;
       tbl-named = each-table (λ t. command (tbl-bytes (table-at t))) (λ t. Tbl) refl i h;
       atr-named = each-table (λ t. command (atr-bytes (table-at t))) (λ t. Atr) refl i h;
       frm-named = each-table (λ t. command (frm-bytes (table-at t))) (λ t. Frm) refl i h;
@@ -96,9 +99,10 @@ computed latin i h =
 
 -- the lines, however they end
 pub record Heads (ends : LineEnd) (latin : Bool) (i : ℕ) (t : Table) : Type 0 where
-  pub tbl : step latin P.Tbl (tbl-line ends t) ≡ S.Go (P.Atr i)
-  pub atr : step latin (P.Atr i) (atr-line ends t) ≡ S.Go (P.Frm i)
-  pub frm : step latin (P.Frm i) (frm-line ends t) ≡ S.Go (P.Rows i 0 0)
+  pub tbl : (o : Order) → step latin P.Tbl o (tbl-line ends t) ≡ S.Go (P.Atr i)
+  pub atr : (o : Order) → step latin (P.Atr i) o (atr-line ends t) ≡ S.Go (P.Frm i)
+  pub order : order-of i (fields (rest (content (atr-line ends t)))) ≡ listed-order i
+  pub frm : step latin (P.Frm i) (listed-order i) (frm-line ends t) ≡ S.Go (P.Rows i 0 0)
   pub tbl-named : command (content (tbl-line ends t)) ≡ Tbl
   pub atr-named : command (content (atr-line ends t)) ≡ Atr
   pub frm-named : command (content (frm-line ends t)) ≡ Frm
@@ -115,8 +119,9 @@ heads-of ends latin i t c =
     let y : content (atr-line ends t) ≡ atr-bytes t = content-line ends "atr" (names t) (c .atr-printed) in
     let z : content (frm-line ends t) ≡ frm-bytes t = content-line ends "frm" (formats t) (c .frm-printed) in
     record {
-      tbl = rw x (c .tbl);
-      atr = rw y (c .atr);
+      tbl = λ o. rw x (c .tbl o);
+      atr = λ o. rw y (c .atr o);
+      order = rw y (c .order);
       frm = rw z (c .frm);
       tbl-named = rw x (c .tbl-named);
       atr-named = rw y (c .atr-named);

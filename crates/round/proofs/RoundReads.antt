@@ -11,7 +11,7 @@ use Rattle.page.specs.Bytes.{Bytes, pick, all, until, trimOf, trim}
 use Rattle.page.specs.Lines.{content, semicolon, rest, allowed, clean, Rec}
 use Rattle.page.specs.Fields.{parts-here, inside-after, into, split, fields}
 use Rattle.page.specs.Tables.{Named, no-column, columns}
-use Rattle.page.specs.Order.{Order, upto, listed-order, standing, place, by-column, column-in}
+use Rattle.page.specs.Order.{Order, upto, standing, place, by-column, column-in}
 use Rattle.page.specs.Marks.{may-mark}
 use Rattle.page.specs.Records.{words, Record}
 use Rattle.page.specs.Grammar as Grammar
@@ -174,4 +174,4 @@ module _ (latin : Bool) (t : ℕ) where
   past f (skip h x) = past f x
 
   pub denoted-sound : {ls : List Bytes} (rs : List Record) → Denotes latin ls t rs → Every (SoundRecord latin t) rs
-  denoted-sound rs d = past (λ xs. past (λ ys. past (λ zs. records-sound latin t (listed-order t) none-left))) d
+  denoted-sound rs d = past (λ xs. past (λ ys. past (λ zs. records-sound latin t (d .0) none-left))) (d .1)

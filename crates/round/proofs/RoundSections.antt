@@ -1,19 +1,18 @@
 -- A written section is read back: sound, with its records, their values and owners. Assumes nothing.
-use mathlib.Core.Path.{_≡_, refl, ap, sym, _∙_}
+use mathlib.Core.Path.{_≡_, refl, sym, _∙_}
 use mathlib.Core.Bool.{Bool, true, false}
 use mathlib.Core.List.{List, [], _∷_, _++_, map, append-nil, append-assoc}
-use mathlib.Core.Option.{some}
 use Prim.Native.Nat.{ℕ, suc, _+_, _-_, _<_, _≤_, _^_}
 use native.Mathlib.Omega.{arith}
 use lib.ListN.{length, getD}
 use borrow.Author.Tests.{le-leb}
 use Rattle.page.specs.Bytes.{Bytes}
-use Rattle.page.specs.Lines.{joined}
+use Rattle.page.specs.Lines.{joined, content, rest}
 use Rattle.page.specs.Tables.{no-column, number-at, table-at, columns, TABLES}
 use Rattle.page.specs.Order.{listed-order}
 use Rattle.page.specs.Marks.{may-mark}
-use Rattle.page.specs.Section.{wordsOf, record-text, empty-marked, finish, continue, run, outcome}
-use Rattle.page.specs.Records.{Datum, number, words, Record, Entry, waits, record-in, entries, table-of, order-in, entriesOf, recordsOf}
+use Rattle.page.specs.Section.{wordsOf, record-text, empty-marked, order-after, finish, continue, run, outcome}
+use Rattle.page.specs.Records.{Datum, number, words, Record, Entry, waits, record-in, entries, table-of, atr-in, order-in, entriesOf, recordsOf}
 use Rattle.page.specs.Model.{Content}
 use Rattle.page.specs.Form.{line, decimal, quoted, datum-text, mark-line, mark-of, marks, record-form, records-form, table-head, content-form}
 use Rattle.page.specs.Rules.{Every, none-left, one-more}
@@ -84,14 +83,14 @@ module _ (ends : LineEnd) (latin : Bool) (t : ℕ) (known : t < TABLES) where
   -- what the lines of a record lead to, and the line where it stands
   record Read (vs : Record) (k n : ℕ) (ls : List Bytes) : Type 0 where
     at : ℕ
-    runs : run latin (P.Rows t 0 k) n (record-lines ends vs ++ ls) ≡ run latin (P.Rows t 0 (k + 1)) at ls
+    runs : run latin (P.Rows t 0 k) (listed-order t) n (record-lines ends vs ++ ls) ≡ run latin (P.Rows t 0 (k + 1)) (listed-order t) at ls
     reads : entries t (listed-order t) 0 n (record-lines ends vs ++ ls) ≡ record { line = at; values = vs } ∷ entries t (listed-order t) 0 at ls
 
   module _ (v : Datum) (vs : Record) (r : SoundRecord latin t (v ∷ vs)) (k n : ℕ) (ls : List Bytes) where
     -- the `rec` line, where a mark of field m waits
     rec-runs : (m : ℕ) → empty-marked m (map datum-text (v ∷ vs)) ≡ false →
-        run latin (P.Rows t m k) n (line ends "rec" (map datum-text (v ∷ vs)) ∷ ls) ≡ run latin (P.Rows t 0 (k + 1)) (suc n) ls
-    unfolding run continue
+        run latin (P.Rows t m k) (listed-order t) n (line ends "rec" (map datum-text (v ∷ vs)) ∷ ls) ≡ run latin (P.Rows t 0 (k + 1)) (listed-order t) (suc n) ls
+    unfolding run continue order-after
     rec-runs m e = rw (rec-step-back ends latin t v vs r m k e)
 
     rec-reads : (m : ℕ) → Owned m 1 (v ∷ vs) →
@@ -102,8 +101,8 @@ module _ (ends : LineEnd) (latin : Bool) (t : ℕ) (known : t < TABLES) where
 
     -- a mark before it
     mark-runs : (i : ℕ) → 1 ≤ i → i < 10 ^ 18 → may-mark t (listed-order t) i ≡ true → (more : List Bytes) →
-        run latin (P.Rows t 0 k) n (mark-line ends i ∷ more) ≡ run latin (P.Rows t i k) (suc n) more
-    unfolding run continue
+        run latin (P.Rows t 0 k) (listed-order t) n (mark-line ends i ∷ more) ≡ run latin (P.Rows t i k) (listed-order t) (suc n) more
+    unfolding run continue order-after
     mark-runs i l h m more = rw (mark-step-back ends latin t i k l h m)
 
     mark-entries : (i : ℕ) → 1 ≤ i → i < 10 ^ 18 → (more : List Bytes) → entries t (listed-order t) 0 n (mark-line ends i ∷ more) ≡ entries t (listed-order t) i (suc n) more
@@ -139,11 +138,11 @@ module _ (ends : LineEnd) (latin : Bool) (t : ℕ) (known : t < TABLES) where
           full = full-of j b u (map datum-text (v ∷ vs)) q
 
   pub rows-back : {rs : List Record} → Every (SoundRecord latin t) rs → (k n c : ℕ) → k + length rs ≡ c → c < 10 ^ 18 →
-      run latin (P.Rows t 0 k) n (body-lines ends c rs) ≡ record { table = number-at t; records = c; verdict = 0; line = 0 }
+      run latin (P.Rows t 0 k) (listed-order t) n (body-lines ends c rs) ≡ record { table = number-at t; records = c; verdict = 0; line = 0 }
   unfolding body-lines run continue finish
   rows-back none-left k n c e h =
       let z : k ≡ c = omega arith in
-      rw (z, end-step-back ends latin t c h)
+      rw (z, end-step-back ends latin t (listed-order t) c h)
   rows-back (one-more {x} {xs} r rs) k n c e h =
       let q = record-back x r k n (body-lines ends c xs) in
       q .runs ∙ rows-back rs (k + 1) (q .at) c (omega arith) h
@@ -162,17 +161,23 @@ module _ (ends : LineEnd) (latin : Bool) (c : Content) (s : SoundContent latin c
 
   -- a written section is sound, with its table and as many records as it has
   pub outcome-back : outcome latin (content-lines ends c) ≡ record { table = number-at (c .table); records = length (c .records); verdict = 0; line = 0 }
-  unfolding outcome content-lines after-tbl run continue
-  outcome-back = rw (the-heads .tbl, the-heads .atr, the-heads .frm) (rows-back ends latin (c .table) (s .known) (s .records) 0 3 (length (c .records)) (omega arith) few)
+  unfolding outcome content-lines after-tbl run continue order-after
+  outcome-back =
+      rw (the-heads .tbl [], the-heads .atr [], the-heads .atr-named, the-heads .order, the-heads .frm)
+      (rows-back ends latin (c .table) (s .known) (s .records) 0 3 (length (c .records)) (omega arith) few)
 
   pub table-back : table-of (content-lines ends c) ≡ c .table
   unfolding table-of content-lines
   table-back = the-heads .table
 
   -- in document 01's order
+  atr-back : atr-in (content-lines ends c) ≡ rest (content (atr-line ends (table-at (c .table))))
+  unfolding atr-in content-lines after-tbl
+  atr-back = rw (the-heads .tbl-named, the-heads .atr-named)
+
   order-back : order-in (content-lines ends c) ≡ listed-order (c .table)
   unfolding order-in
-  order-back = ap listed-order table-back
+  order-back = rw (table-back, atr-back) (the-heads .order)
 
   all-entries : map (λ (e : Entry). e .values) (entries (c .table) (listed-order (c .table)) 0 0 (content-lines ends c)) ≡ c .records
   unfolding entries content-lines after-tbl waits

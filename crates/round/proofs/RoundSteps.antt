@@ -10,7 +10,7 @@ use Rattle.page.specs.Bytes.{Bytes, bytes, all}
 use Rattle.page.specs.Lines.{content, rest, allowed, Rec, End, Com}
 use Rattle.page.specs.Fields.{digit}
 use Rattle.page.specs.Tables.{Named, no-column, width, rules}
-use Rattle.page.specs.Order.{listed-order, by-column}
+use Rattle.page.specs.Order.{Order, listed-order, by-column}
 use Rattle.page.specs.Marks.{remarkOf, may-mark, owner-of}
 use Rattle.page.specs.Section.{choose, first-broken, empty-marked, rec-verdict, rec-step, count-step, end-step, mark-step, com-step, line-step, content-step, step}
 use Rattle.page.specs.Records.{Datum, number, words, Record}
@@ -27,7 +27,7 @@ use Rattle.round.proofs.WrittenTexts.{quoted-all}
 use Rattle.round.proofs.WrittenFields.{no-field, a-field, quoted-field, decimal-field}
 use Rattle.round.proofs.WrittenLines.{commands, Seen, seen, separated-more, separated-none, quote-allowed}
 use Rattle.round.proofs.WrittenDates.{mark-again}
-use Rattle.round.proofs.RoundRecords.{tame, small, fillable-in, one-fillable, digit-allowed, Owned, no-owner, of-number, of-words, wrong-back, width-back, fields-stand, separated-allowed, number-back}
+use Rattle.round.proofs.RoundRecords.{tame, fillable-in, one-fillable, digit-allowed, Owned, no-owner, of-number, of-words, wrong-back, width-back, fields-stand, separated-allowed, number-back}
 use Rattle.page.proofs.TestLaws.{and-left, and-right, neither}
 use Rattle.page.proofs.OrderLaws.{listed-standing, listed-column}
 use Rattle.grammar.proofs.Values.{rule-decided, rules-kept}
@@ -134,7 +134,7 @@ module _ (ends : LineEnd) (latin : Bool) (t : ℕ) where
   unfolding separated
   mark-reads i l h = rw (mark-seen i .behind, append-nil (quoted (bytes "SUGGESTED " ++ decimal i))) (mark-again i l h)
 
-  pub mark-step-back : (i n : ℕ) → 1 ≤ i → i < 10 ^ 18 → may-mark t (listed-order t) i ≡ true → step latin (P.Rows t 0 n) (mark-line ends i) ≡ S.Go (P.Rows t i n)
+  pub mark-step-back : (i n : ℕ) → 1 ≤ i → i < 10 ^ 18 → may-mark t (listed-order t) i ≡ true → step latin (P.Rows t 0 n) (listed-order t) (mark-line ends i) ≡ S.Go (P.Rows t i n)
   unfolding step content-step com-step mark-step choose
   mark-step-back i n l h m =
       let s = mark-seen i in
@@ -147,9 +147,9 @@ module _ (ends : LineEnd) (latin : Bool) (t : ℕ) where
   pub end-seen : (n : ℕ) → Seen latin (line ends "end" (decimal n ∷ [])) End (decimal n) []
   end-seen n = seen ends (commands .11) (decimal n) [] latin (a-field (decimal-field n) no-field) (rw and-false (decimal-allowed n))
 
-  pub end-step-back : (n : ℕ) → n < 10 ^ 18 → step latin (P.Rows t 0 n) (line ends "end" (decimal n ∷ [])) ≡ S.Go (P.Ended t n)
+  pub end-step-back : (o : Order) (n : ℕ) → n < 10 ^ 18 → step latin (P.Rows t 0 n) o (line ends "end" (decimal n ∷ [])) ≡ S.Go (P.Ended t n)
   unfolding step content-step line-step end-step count-step choose
-  end-step-back n h =
+  end-step-back o n h =
       let s = end-seen n in
       rw (s .clean, s .shown, s .named, s .split, number-decimal n h, eq-eqb n n refl)
 
@@ -186,7 +186,7 @@ module _ (ends : LineEnd) (latin : Bool) (t : ℕ) (v : Datum) (vs : Record) (r 
         e,
       )
 
-  pub rec-step-back : (m n : ℕ) → empty-marked m (map datum-text (v ∷ vs)) ≡ false → step latin (P.Rows t m n) rec-line ≡ S.Go (P.Rows t 0 (n + 1))
+  pub rec-step-back : (m n : ℕ) → empty-marked m (map datum-text (v ∷ vs)) ≡ false → step latin (P.Rows t m n) (listed-order t) rec-line ≡ S.Go (P.Rows t 0 (n + 1))
   unfolding step content-step line-step rec-step choose
   rec-step-back m n e =
       let s = rec-seen in

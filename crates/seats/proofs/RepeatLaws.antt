@@ -10,11 +10,11 @@ use lib.ListN.{length, getD, take, drop}
 use Rattle.page.specs.Bytes.{Bytes, pick}
 use Rattle.page.specs.Lines.{lines, content, rest}
 use Rattle.page.specs.Fields.{fields}
-use Rattle.page.specs.Tables.{WIDEST, columns, width}
-use Rattle.page.specs.Order.{Order, upto, arranged, column-in}
+use Rattle.page.specs.Tables.{columns, width}
+use Rattle.page.specs.Order.{Order, arranged, column-in}
 use Rattle.page.specs.Cut.{Section, sections}
 use Rattle.page.specs.Head.{latinOf}
-use Rattle.page.specs.Records.{Record, record-in, entries, table-of, order-in}
+use Rattle.page.specs.Records.{Record, record-in, entries, table-of, atr-in, order-in}
 use Rattle.page.specs.Answers.{refusal, sound}
 use Rattle.page.specs.Rules.{Apart}
 use Rattle.page.specs.File.{any, Filed, filed-in, filedOf, same-record, key-in, key-of, has-key, repeats, first-record}
@@ -26,9 +26,10 @@ use Rattle.choices.specs.declared.Choice.{Choice}
 use Rattle.tables.specs.Orders.{held}
 use Rattle.tables.specs.Keys.{by-key}
 use Rattle.choices.specs.Choices.{key-choice}
+use Rattle.names.specs.Told.{Told}
+use Rattle.names.proofs.ToldLaws.{told-order}
 use Rattle.keys.specs.Numbers.{key-numbers}
 use Rattle.choices.proofs.ChoiceLaws.{has-choice}
-use Rattle.tables.proofs.OrderLaws.{listed-held, listed-stands}
 use Rattle.tables.proofs.ReferenceLaws.{Small, small-primary, small-second}
 use Rattle.keys.proofs.GatherLaws.{gathered-key}
 use Rattle.keys.proofs.SameLaws.{Fitting, key-same}
@@ -218,14 +219,17 @@ module _ (s : Bytes) (r : Seats) (z : Ready s r) (i : ℕ) (h : i < r .count) (a
       by true y = omega (arith, seat-bounds)
       by false y = omega (arith, seat-bounds)
 
-  -- the columns stand as document 01 lists them
-  pub seat-listed : (o : List ℕ) → o ≡ upto 0 WIDEST → Ordered s (seat-at r i) o
-  unfolding seat-order order-in
-  seat-listed o q =
+  -- the columns stand as its `atr` line states
+  pub seat-told : (o : List ℕ) → Told (a .table) (fields (atr-in (seat-lines s a))) o → Ordered s (seat-at r i) o
+  unfolding seat-order
+  seat-told o k =
       let x = seat-sits s r z i h in
       let b = seat-at r i in
       let y : b .table ≡ table-of (seat-lines s b) = x .table ∙ ap table-of (x .lines) in
-      rw q (record { stands = listed-stands (b .table); is = rw (sym y) (listed-held (b .table)) })
+      let n : i < length (sections s) = omega (arith, z .count) in
+      let v = rw (x .lines) at (sound-at s (z .sound) i n .ordered) in
+      let g = rw e at k in
+      record { stands = g .stands; is = told-order (seat-lines s b) (b .table) o y g v }
 
   pub key-is : (second : Bool) (o : List ℕ) → Ordered s (seat-at r i) o → (q : Choice) → q ≡ key-choice (by-key second) (a .table) (held (a .table) o)
       → q ≡ seat-key s second a

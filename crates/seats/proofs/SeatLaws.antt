@@ -12,20 +12,23 @@ use lib.ListN.{length, getD, take, drop, set, length-set, length-map, replicate,
 use lib.Seq.{drop-cons, drop-length, getD-set-same, getD-set-other, getD-take, length-take-le}
 use Rattle.page.specs.Bytes.{Bytes, pick}
 use Rattle.page.specs.Lines.{lines}
+use Rattle.page.specs.Fields.{fields}
 use Rattle.page.specs.Tables.{TABLES, number-at}
 use Rattle.page.specs.Cut.{Section, sections}
 use Rattle.page.specs.Head.{latinOf}
-use Rattle.page.specs.Records.{table-of}
+use Rattle.page.specs.Records.{table-of, atr-in}
 use Rattle.page.specs.Answers.{refusal, sound}
 use Rattle.page.specs.File.{any, row-of, rowOf, rowsOf, first-unsound, first-again}
 use Rattle.page.specs.declared.Row.{Row}
 use Rattle.page.proofs.KeyLaws.{any-yes, any-no, any-onto, onto}
 use Rattle.page.proofs.TableLaws.{number-injective}
 use Rattle.page.proofs.CutLaws.{no-section, sections-from, sections-all, sections-end}
+use Rattle.names.specs.Told.{Told}
 use Rattle.cut.specs.Walk.{section-size, section-from, Settled, Next}
 use Rattle.cut.proofs.WalkLaws.{section-within}
+use Rattle.seats.specs.declared.seating.Columns.{Columns}
 use Rattle.seats.specs.declared.seating.Seat.{Seat}
-use Rattle.seats.specs.Seating.{no-seat, Sits, Seated, again-refusal, Seating}
+use Rattle.seats.specs.Seating.{no-seat, no-columns, seat-lines, Sits, Seated, Stating, again-refusal, Seating}
 use Rattle.seats.proofs.WalkLaws.{sound-at, Among, among}
 
 -- 17, by the places of the rows
@@ -168,6 +171,26 @@ going-first s at x seats l place w z =
           };
     }
 
+-- the order of the columns of each section
+
+pub stating-none : (s : Bytes) (seats : List Seat) (columns : List Columns) → Stating s 0 seats columns
+stating-none s seats columns = record { each = λ i h. absurd (omega arith) }
+
+module _ (s : Bytes) (n : ℕ) (seats : List Seat) (columns : List Columns) (l : n < length seats) (k : n < length columns) (g : Stating s n seats columns)
+    (a : Seat) (b : Columns) (f : Told (a .table) (fields (atr-in (seat-lines s a))) (b .order)) where
+  pub stating-more : Stating s (n + 1) (set seats n a) (set columns n b)
+  stating-more = record { each = λ i h. by i h (eqb i n) refl }
+    where
+      by : (i : ℕ) → i < n + 1 → (c : Bool) → eqb i n ≡ c
+          → Told (getD (set seats n a) i no-seat .table) (fields (atr-in (seat-lines s (getD (set seats n a) i no-seat)))) (getD (set columns n b) i no-columns .order)
+      by i h true y =
+          let w : i ≡ n = eqb-true i n y in
+          rw (w, getD-set-same seats n a no-seat l, getD-set-same columns n b no-columns k) f
+      by i h false y =
+          let w = eqb-false i n y in
+          let m : i < n = omega arith in
+          rw (getD-set-other seats n i a no-seat (λ z. omega arith), getD-set-other columns n i b no-columns (λ z. omega arith)) (g .each i m)
+
 module _ (s : Bytes) (v : first-unsound 1 (rowsOf s) ≡ sound) where
   row-table : (k : ℕ) → k < length (sections s) → getD (rowsOf s) k (rowOf (latinOf s) no-section) .table ≡ number-at (table-of (getD (sections s) k no-section .lines))
   unfolding rowsOf rowOf row-of
@@ -290,14 +313,15 @@ module _ (s : Bytes) (v : first-unsound 1 (rowsOf s) ≡ sound) where
           }
 
   -- all have their seats
-  pub going-end : (n at : ℕ) (seats : List Seat) (place : List ℕ) → Going s n at seats place → length s ≤ at → Seating s (record { again = 0; count = n; seats = seats; place = place })
+  pub going-end : (n at : ℕ) (seats : List Seat) (place : List ℕ) (columns : List Columns) → Going s n at seats place → Stating s n seats columns → length s ≤ at
+      → Seating s (record { again = 0; count = n; seats = seats; place = place; columns = columns })
   unfolding again-refusal
-  going-end n at seats place g h =
+  going-end n at seats place columns g o h =
       let e : drop n (sections s) ≡ [] = sym (g .rest) ∙ sections-end s at h in
       let m : n ≡ length (sections s) = whole n (sections s) (g .passed) e in
       record {
         again = sym (again-none (rowOf (latinOf s) no-section) (rowsOf s) (rw (rows-long ∙ sym m) (fresh n seats place (g .passed) (g .seated))));
-        ready = λ z. record { sound = v; count = m; few = omega (arith, filled-le place, g .many, g .wide); seated = g .seated };
+        ready = λ z. record { sound = v; count = m; few = omega (arith, filled-le place, g .many, g .wide); seated = g .seated; stating = o };
       }
     where
       whole : (n : ℕ) (xs : List Section) → n ≤ length xs → drop n xs ≡ [] → n ≡ length xs
@@ -306,7 +330,7 @@ module _ (s : Bytes) (v : first-unsound 1 (rowsOf s) ≡ sound) where
       whole (suc n) [] l e = absurd (omega arith)
       whole (suc n) (x ∷ xs) l e = ap suc (whole n xs (omega arith) e)
 
-  pub going-stop : (n : ℕ) (seats : List Seat) (place : List ℕ) → first-again [] 1 (rowsOf s) ≡ refusal 17 (n + 1) 1
-      → Seating s (record { again = n + 1; count = n; seats = seats; place = place })
+  pub going-stop : (n : ℕ) (seats : List Seat) (place : List ℕ) (columns : List Columns) → first-again [] 1 (rowsOf s) ≡ refusal 17 (n + 1) 1
+      → Seating s (record { again = n + 1; count = n; seats = seats; place = place; columns = columns })
   unfolding again-refusal
-  going-stop n seats place e = record { again = rw (ne-eqb (n + 1) 0 (λ z. omega arith)) (sym e); ready = λ z. absurd (omega arith) }
+  going-stop n seats place columns e = record { again = rw (ne-eqb (n + 1) 0 (λ z. omega arith)) (sym e); ready = λ z. absurd (omega arith) }

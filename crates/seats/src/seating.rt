@@ -15,12 +15,19 @@ pub struct Seat {
     pub to: usize,
 }
 
-// The sections in file order; the section of each table, from 1, or 0; and the first section whose table stands before it, or 0.
+// Which column stands where in a section.
+pub struct Columns {
+    pub order: [u8; WIDEST],
+}
+
+// The sections in file order; the section of each table, from 1, or 0; the first section whose table stands before it, or 0; and the order of
+// each section's columns, so that its `atr` line is read no more.
 pub struct Seats {
     pub again: usize,
     pub count: usize,
     pub seats: [Seat; TABLES],
     pub place: [usize; TABLES],
+    pub columns: [Columns; TABLES],
 }
 
 // One walk over the sections, so that the file is never searched for a table again.
@@ -34,6 +41,7 @@ pub fn seat_tables(s: &[u8]) -> Seats
         to: 0,
     }; TABLES];
     let mut place = [0; TABLES];
+    let mut columns = [Columns { order: [0; WIDEST] }; TABLES];
     let mut n: usize = 0;
     let mut at = cut::find_section(s, 0);
     while at < s.len() {
@@ -47,13 +55,16 @@ pub fn seat_tables(s: &[u8]) -> Seats
                 count: n,
                 seats: seats,
                 place: place,
+                columns: columns,
             };
         }
+        let order = names::find_order(&s[from..to], t);
         seats[n] = Seat {
             table: t,
             from: from,
             to: to,
         };
+        columns[n] = Columns { order: order };
         n += 1;
         place[t] = n;
     }
@@ -62,6 +73,7 @@ pub fn seat_tables(s: &[u8]) -> Seats
         count: n,
         seats: seats,
         place: place,
+        columns: columns,
     }
 }
 
@@ -73,10 +85,12 @@ pub fn find_seat(seats: Seats, i: usize) -> Seat
     all[i]
 }
 
-// Which column stands where in section i: as document 01 lists them.
+// Which column stands where in section i of s.
 pub fn find_order(s: &[u8], seats: Seats, i: usize) -> [u8; WIDEST]
     requires { ⌜ Ready (now s) seats × (i < seats .count) ⌝ }
     ensures { λ r. ⌜ Ordered (now (s .entry)) (seat-at seats i) r ⌝ }
 {
-    tables::list_columns()
+    let all = seats.columns;
+    let here = all[i];
+    here.order
 }

@@ -7,9 +7,9 @@ use native.Mathlib.Numerals.{add-one}
 use native.Mathlib.Omega.{arith}
 use lib.ListN.{length, take, drop}
 use Rattle.page.specs.Bytes.{Bytes}
-use Rattle.page.specs.Lines.{lines}
+use Rattle.page.specs.Lines.{lines, content}
 use Rattle.page.specs.Order.{Order}
-use Rattle.page.specs.Section.{choose, tbl-step, atr-step, frm-step, rec-step, count-step, end-step, mark-step, com-step, line-step, content-step, step, table-in, finish, refused, continue, run, outcome}
+use Rattle.page.specs.Section.{choose, tbl-step, atr-step, frm-step, rec-step, count-step, end-step, mark-step, com-step, line-step, content-step, step, order-after, table-in, finish, refused, continue, run, outcome}
 use Rattle.page.specs.File.{row-of, rowOf}
 use Rattle.page.specs.declared.Number.{Number}
 use Rattle.page.specs.declared.Number.the-variants as N
@@ -22,28 +22,32 @@ use Rattle.page.specs.declared.Step.the-variants as S
 use Rattle.page.specs.declared.Outcome.{Outcome}
 use Rattle.page.proofs.ScanLaws.{part-length}
 use Rattle.page.proofs.LineLaws.{line-size, cut-at, lines-end, joined-lines}
-use Rattle.machine.specs.Counts.{records-in}
+use Rattle.machine.specs.Carries.{records-in, order-at, Carried}
 use Rattle.cut.specs.Walk.{section-size, section-from}
 
 -- the line at a place, that ends at e
-module _ (s : Bytes) (at e : ℕ) (h : at < length s) (q : e ≡ at + line-size (drop at s)) (latin : Bool) (p : Phase) (n : ℕ) where
-  run-more : run latin p n (lines (drop at s))
-      ≡ continue (step latin p (take (e - at) (drop at s))) (table-in p) (n + 1) (λ p′. run latin p′ (n + 1) (lines (drop e s)))
+module _ (s : Bytes) (at e : ℕ) (h : at < length s) (q : e ≡ at + line-size (drop at s)) (latin : Bool) (p : Phase) (o : Order) (n : ℕ) where
+  abbrev l : Bytes
+  l = take (e - at) (drop at s)
+
+  run-more : run latin p o n (lines (drop at s))
+      ≡ continue (step latin p o l) (table-in p) (n + 1) (λ p′. run latin p′ (order-after p o (content l)) (n + 1) (lines (drop e s)))
   unfolding run
   run-more = rw (cut-at s at e h q, add-one)
 
-  module _ (r : Step) (x : r ≡ step latin p (take (e - at) (drop at s))) where
-    pub turn-go : (p′ : Phase) → r ≡ S.Go p′ → run latin p n (lines (drop at s)) ≡ run latin p′ (n + 1) (lines (drop e s))
+  module _ (r : Step) (x : r ≡ step latin p o l) where
+    pub turn-go : (p′ : Phase) → r ≡ S.Go p′ → (a : List ℕ) → Carried p p′ o (content l) a
+        → run latin p o n (lines (drop at s)) ≡ run latin p′ (order-at p′ a) (n + 1) (lines (drop e s))
     unfolding continue
-    turn-go p′ g = run-more ∙ rw (sym x ∙ g)
+    turn-go p′ g a k = run-more ∙ rw (sym x ∙ g, k .is)
 
-    pub turn-stop : (v : ℕ) → r ≡ S.Stop v → run latin p n (lines (drop at s)) ≡ refused (table-in p) v (n + 1)
+    pub turn-stop : (v : ℕ) → r ≡ S.Stop v → run latin p o n (lines (drop at s)) ≡ refused (table-in p) v (n + 1)
     unfolding continue
     turn-stop v g = run-more ∙ rw (sym x ∙ g)
 
-pub run-end : (s : Bytes) (at : ℕ) (latin : Bool) (p : Phase) (n : ℕ) → length s ≤ at → run latin p n (lines (drop at s)) ≡ finish p n
+pub run-end : (s : Bytes) (at : ℕ) (latin : Bool) (p : Phase) (o : Order) (n : ℕ) → length s ≤ at → run latin p o n (lines (drop at s)) ≡ finish p n
 unfolding run
-run-end s at latin p n h = rw (lines-end s at h)
+run-end s at latin p o n h = rw (lines-end s at h)
 
 -- a step counts at most one record
 data Small (m : ℕ) : Step → Type 0 where
@@ -73,38 +77,38 @@ small-end : (t m n : ℕ) (fs : List Bytes) → Small (n + 1) (end-step t m n fs
 unfolding end-step
 small-end t m n fs = if _ (if _ (small-count t n _) stops) stops
 
-small-mark : (p : Phase) (i : ℕ) → Small (records-in p + 1) (mark-step p i)
+small-mark : (p : Phase) (o : Order) (i : ℕ) → Small (records-in p + 1) (mark-step p o i)
 unfolding mark-step records-in
-small-mark P.Tbl i = stops
-small-mark (P.Atr t) i = stops
-small-mark (P.Frm t) i = stops
-small-mark (P.Rows t m n) i = if _ (goes (omega arith)) stops
-small-mark (P.Ended t n) i = stops
+small-mark P.Tbl o i = stops
+small-mark (P.Atr t) o i = stops
+small-mark (P.Frm t) o i = stops
+small-mark (P.Rows t m n) o i = if _ (goes (omega arith)) stops
+small-mark (P.Ended t n) o i = stops
 
-small-com : (p : Phase) (x : Remark) → Small (records-in p + 1) (com-step p x)
+small-com : (p : Phase) (o : Order) (x : Remark) → Small (records-in p + 1) (com-step p o x)
 unfolding com-step
-small-com p R.Comment = goes {p = p} (omega arith)
-small-com p R.Unreadable = stops
-small-com p (R.Mark i) = small-mark p i
+small-com p o R.Comment = goes {p = p} (omega arith)
+small-com p o R.Unreadable = stops
+small-com p o (R.Mark i) = small-mark p o i
 
-small-line : (p : Phase) (k : ℕ) (w : Bytes) → Small (records-in p + 1) (line-step p k w)
+small-line : (p : Phase) (o : Order) (k : ℕ) (w : Bytes) → Small (records-in p + 1) (line-step p o k w)
 unfolding line-step atr-step frm-step records-in
-small-line P.Tbl k w = if _ (small-tbl _ _) stops
-small-line (P.Atr t) k w = if _ (if _ (goes (omega arith)) stops) stops
-small-line (P.Frm t) k w = if _ (if _ (goes (omega arith)) stops) stops
-small-line (P.Rows t m n) k w = if _ (small-rec t _ m n _) (if _ (small-end t m n _) stops)
-small-line (P.Ended t n) k w = stops
+small-line P.Tbl o k w = if _ (small-tbl _ _) stops
+small-line (P.Atr t) o k w = if _ (if _ (goes (omega arith)) stops) stops
+small-line (P.Frm t) o k w = if _ (if _ (goes (omega arith)) stops) stops
+small-line (P.Rows t m n) o k w = if _ (small-rec t o m n _) (if _ (small-end t m n _) stops)
+small-line (P.Ended t n) o k w = stops
 
-small-step : (latin : Bool) (p : Phase) (l : Bytes) → Small (records-in p + 1) (step latin p l)
+small-step : (latin : Bool) (p : Phase) (o : Order) (l : Bytes) → Small (records-in p + 1) (step latin p o l)
 unfolding step content-step
-small-step latin p l = if _ (if _ (goes {p = p} (omega arith)) (if _ stops (if _ (small-com p _) (small-line p _ _)))) stops
+small-step latin p o l = if _ (if _ (goes {p = p} (omega arith)) (if _ stops (if _ (small-com p o _) (small-line p o _ _)))) stops
 
 taken : {m : ℕ} {x : Step} → Small m x → (q : Phase) → x ≡ S.Go q → records-in q ≤ m
 taken (goes {p} h) q e = let z : p ≡ q = cc in rw z at h
 taken stops q e = absurd (let z : _≡_ {A = ℕ} 0 1 = cc in omega arith)
 
-pub step-small : (latin : Bool) (p q : Phase) (l : Bytes) → step latin p l ≡ S.Go q → records-in q ≤ records-in p + 1
-step-small latin p q l e = taken (small-step latin p l) q e
+pub step-small : (latin : Bool) (p q : Phase) (o : Order) (l : Bytes) → step latin p o l ≡ S.Go q → records-in q ≤ records-in p + 1
+step-small latin p q o l e = taken (small-step latin p o l) q e
 
 -- the row of the section at a place, from its lines' answer
 pub row-from : (latin : Bool) (s : Bytes) (at e : ℕ) (o : Outcome) → e ≡ at + section-size (drop at s) → e ≤ length s

@@ -14,6 +14,7 @@ use page::Phase;
 use page::Row;
 use page::Step;
 use tables::find_number;
+use tables::list_columns;
 
 // "Table number is 0 if the `tbl` line fails."
 fn table_in(p: Phase) -> u32
@@ -64,11 +65,14 @@ pub fn read_lines(s: &[u8], latin: bool) -> Outcome
     let mut c = Cursor { at: 0 };
     let mut n: usize = 0;
     let mut p = Phase::Tbl;
+    let mut o = list_columns();
     while c.at < s.len() {
         let at = c.at;
         let l = c.line(s);
         let e = l.span.to;
-        let st = step(&s[at..e], p, latin);
+        let m = step(&s[at..e], p, o, latin);
+        let st = m.step;
+        o = m.order;
         n += 1;
         c = l.next;
         match st {

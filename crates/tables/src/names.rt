@@ -15,9 +15,10 @@ pub fn find_word(n: usize) -> Span
     ensures { λ r. ⌜ Reads r (word n) ⌝ }
 {
     if n < WORDS {
+        let starts = STARTS;
         return Span {
-            from: STARTS[n],
-            to: STARTS[n + 1],
+            from: starts[n],
+            to: starts[n + 1],
         };
     }
     Span { from: 0, to: 0 }

@@ -1,7 +1,7 @@
 -- One value of a section at a place, and what a call answers for it. Assumes nothing.
 use mathlib.Core.Path.{_≡_, refl, ap, sym, _∙_}
 use mathlib.Core.Bool.{Bool, true, false, _||_, false≢true}
-use mathlib.Core.List.{[], _∷_}
+use mathlib.Core.List.{List, [], _∷_}
 use Prim.Native.Nat.{ℕ, zero, suc, _+_, _-_, _<_, _≤_}
 use native.Mathlib.Nat.{sub-zero}
 use native.Mathlib.Omega.{arith}
@@ -11,9 +11,10 @@ use lib.Seq.{length-take-le, take-nil}
 use borrow.Author.Tests.{ne-eqb, eqb-false, ltb-false}
 use Rattle.page.specs.Bytes.{Bytes}
 use Rattle.page.specs.Lines.{lines}
+use Rattle.page.specs.Fields.{fields}
 use Rattle.page.specs.Tables.{WIDEST, width}
-use Rattle.page.specs.Order.{upto}
-use Rattle.page.specs.Records.{table-of, order-in}
+use Rattle.page.specs.Section.{outcome}
+use Rattle.page.specs.Records.{table-of, atr-in, order-in}
 use Rattle.page.specs.Places.{Standing, record-at}
 use Rattle.page.specs.Answers.{earlier, refuse-if, got, refusal}
 use Rattle.page.specs.File.{row-of, rowOf}
@@ -23,14 +24,18 @@ use Rattle.page.specs.declared.Row.{Row}
 use Rattle.page.specs.declared.Refusal.{Refusal}
 use Rattle.page.specs.declared.Value.{Value}
 use Rattle.page.specs.declared.Got.the-variants as G
-use Rattle.page.proofs.LineLaws.{joined-lines}
+use Rattle.page.proofs.LineLaws.{line-size, joined-lines}
 use Rattle.page.proofs.TableLaws.{width-le}
 use Rattle.values.specs.declared.values.Place.{Place}
 use Rattle.tables.specs.Orders.{held}
-use Rattle.tables.proofs.OrderLaws.{listed-held}
-use Rattle.cut.specs.Walk.{section-size, section-from}
+use Rattle.laws.specs.Begins.{begins}
+use Rattle.grammar.proofs.Readings.{sound-arranged}
+use Rattle.names.specs.Told.{Told}
+use Rattle.names.proofs.TitleLaws.{from-lines}
+use Rattle.names.proofs.ToldLaws.{told-order}
+use Rattle.cut.specs.Walk.{section-size, section-from, Settled}
 use Rattle.values.specs.Values.{Placed, row-from, refusal-from, value-from}
-use Rattle.cut.proofs.WalkLaws.{section-within}
+use Rattle.cut.proofs.WalkLaws.{section-within, settled-begins}
 use Rattle.sections.specs.Located.{Begins}
 
 -- the value's answer, where its section stands at a place
@@ -70,6 +75,23 @@ module _ (s : Bytes) (at : ℕ) (h : at < length s) where
       let m : n - at ≡ section-size (drop at s) = omega (arith, row-length) in
       (omega (arith, row-length), omega arith, rw (drop-take at n s, m))
 
+-- which column stands where in a sound section, by the order that its `atr` line states
+module _ (s : Bytes) (at : ℕ) (h : at < length s) (z : Settled s at) (x : Row) (q : x ≡ row-from s at) (v : x .verdict ≡ 0) where
+  begun : begins (section-from s at .lines) ≡ true
+  unfolding begins
+  begun = rw (from-lines s at h) (settled-begins s at (at + line-size (drop at s)) h refl z)
+
+  verdict-here : outcome (latinOf s) (section-from s at .lines) .verdict ≡ 0
+  unfolding row-from rowOf row-of
+  verdict-here = rw q at v
+
+  pub order-from : (t e : ℕ) → t ≡ table-of (section-from s at .lines) → e ≡ at + x .length → (a : List ℕ)
+      → Told t (fields (atr-in (lines (take (e - at) (drop at s))))) a → held t a ≡ order-in (section-from s at .lines)
+  order-from t e g n a k =
+      let p = prefix-lines s at h e (n ∙ ap (λ (y : Row). at + y .length) q) in
+      let l : lines (take (e - at) (drop at s)) ≡ section-from s at .lines = ap lines (sym (drop-take at e s)) ∙ p .2 in
+      told-order (section-from s at .lines) t a g (rw l at k) (sound-arranged (latinOf s) (section-from s at .lines) begun verdict-here)
+
 -- the answer for one value, by the section's row
 module _ (s : Bytes) (i at r f : ℕ) (x : Row) (q : x ≡ row-from s at) where
   pub value-unsound : (x .verdict ≡ 0 → ⊥) → G.Refused (refusal (x .verdict) i (x .line)) ≡ value-from s i at r f
@@ -87,10 +109,10 @@ module _ (s : Bytes) (i at r f : ℕ) (x : Row) (q : x ≡ row-from s at) where
     value-outside y e b = rw (e, value-sound, b)
 
     pub value-inside : (v : Value) → outside r (x .records) ≡ false → outside f (width (table-of (section-from s at .lines))) ≡ false
-        → v ≡ value-in (table-of (section-from s at .lines)) (held (table-of (section-from s at .lines)) (upto 0 WIDEST)) (record-at (r - 1) 0 at (section-from s at .lines)) f
+        → v ≡ value-in (table-of (section-from s at .lines)) (order-in (section-from s at .lines)) (record-at (r - 1) 0 at (section-from s at .lines)) f
         → G.Is v ≡ value-from s i at r f
-    unfolding value-from refuse-if got value-at record-of section-from order-in
-    value-inside v a b e = rw (e, value-sound, a, b, listed-held)
+    unfolding value-from refuse-if got value-at record-of section-from
+    value-inside v a b e = rw (e, value-sound, a, b)
 
 -- a number that stands among n
 pub inside : (i n : ℕ) → outside i n ≡ false → (i ≡ 0 → ⊥) × (i ≤ n)

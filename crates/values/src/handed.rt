@@ -8,6 +8,7 @@ ghost use Rattle.page.specs.Places.{record-at};
 ghost use Rattle.page.specs.File.{limit};
 ghost use Rattle.page.specs.Reading.{outside, value-in, valueOf};
 ghost use Rattle.tables.specs.Orders.{held, Orderly};
+ghost use Rattle.cut.specs.Walk.{Settled};
 ghost use Rattle.values.specs.Values.{value-from};
 use crate::values::find_record;
 use crate::values::value_in;
@@ -44,7 +45,7 @@ fn seek_value(s: &[u8], at: usize, t: usize, o: &[u8; WIDEST], r: usize, f: usiz
 
 // "the section's verdict, 24 for the record or field"
 fn value_at(file: &[u8], i: usize, at: usize, r: usize, f: usize) -> Got
-    requires { ⌜ (at < length (now file)) × (length (now file) ≤ limit) ⌝ }
+    requires { ⌜ (at < length (now file)) × (length (now file) ≤ limit) × Settled (now file) at ⌝ }
     ensures { λ x. ⌜ x ≡ value-from (now (file .entry)) i at r f ⌝ }
 {
     let latin = headers::read_charset(file);
@@ -64,7 +65,7 @@ fn value_at(file: &[u8], i: usize, at: usize, r: usize, f: usize) -> Got
         return Got::Refused(refuse_with(24));
     }
     let e = at + row.length;
-    let o = tables::list_columns();
+    let o = names::find_order(&file[at..e], t);
     Got::Is(seek_value(&file[..e], at, t, &o, r - 1, f))
 }
 

@@ -23,10 +23,11 @@ use Rattle.page.specs.Rules.{Every, none-left, one-more, times}
 use Rattle.machine.proofs.SoundLaws.{sound-passed}
 use Rattle.laws.specs.Begins.{begins}
 use Rattle.grammar.proofs.Counts.{sound-count}
+use Rattle.grammar.proofs.Readings.{sound-arranged}
 use Rattle.laws.proofs.Sections.{sections-begin}
 use Rattle.round.proofs.RoundKeys.{SoundSection}
 use Rattle.round.proofs.Round.{accepted-sections}
-use Rattle.recording.specs.Said.{rows-of, passes, said, said-in, passes-in, PassingIn, Passing}
+use Rattle.recording.specs.Said.{rows-of, passes, passing, said, said-in, passes-in, PassingIn, Passing}
 
 -- what the lines say
 
@@ -80,8 +81,8 @@ lines-pass latin (l ∷ ls) b e =
     all-passed (table-of (l ∷ ls)) (order-in (l ∷ ls)) 0 0 (l ∷ ls) (λ (r : ℕ) (h : r < times Rec (l ∷ ls)). sound-passed latin l ls r 0 b e (omega arith))
 
 section-passes : (latin : Bool) (x : Section) → begins (x .lines) ≡ true → outcome latin (x .lines) .verdict ≡ 0 → passes-in x ≡ true
-unfolding passes-in
-section-passes latin x b e = lines-pass latin (x .lines) b e
+unfolding passes-in passing
+section-passes latin x b e = rw (sound-arranged latin (x .lines) b e, lines-pass latin (x .lines) b e)
 
 module _ (latin : Bool) where
   all-pass : {xs : List Section} → Every (λ (x : Section). begins (x .lines) ≡ true) xs → Every (SoundSection latin) xs → PassingIn xs

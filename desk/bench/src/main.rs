@@ -33,8 +33,9 @@ fn bench(options: &Options) -> ExitCode {
          in turn, in the time that the thread was at work. What is lent is made before the first run.",
         options.runs
     );
+    let libraries = [compare::chosen(), compare::baseline()];
     for shape in options.shapes() {
-        if let Err(words) = bench_shape(options, shape) {
+        if let Err(words) = bench_shape(options, shape, libraries) {
             eprintln!("bench: {}: {words}", shape.name());
             return ExitCode::FAILURE;
         }
@@ -42,24 +43,34 @@ fn bench(options: &Options) -> ExitCode {
     ExitCode::SUCCESS
 }
 
-fn bench_shape(options: &Options, shape: Shape) -> Result<(), String> {
-    let libraries = [compare::chosen(), compare::baseline()];
-    let sizes = options.sizes().into_iter();
-    let loads: Vec<_> = sizes.map(|size| Load::draw(shape, size)).collect();
+/// Arranged columns are measured together with the same records in document
+/// 01's order, so that the time of the one by the other's can be believed.
+fn bench_shape(
+    options: &Options,
+    shape: Shape,
+    libraries: [&dyn Library; 2],
+) -> Result<(), String> {
+    let sizes = options.sizes();
+    let draw = |shape| sizes.iter().map(move |size| Load::draw(shape, *size));
+    let unarranged = shape.unarranged();
+    let loads: Vec<_> = draw(shape)
+        .chain(unarranged.into_iter().flat_map(draw))
+        .collect();
     println!("\n## {}\n", options.title(shape));
-    let mut report = Report::new();
+    let mut report = Report::new(unarranged.is_some());
     report.print_heading(options.unit(), libraries[0].name(), libraries[1].name());
     for call in options.calls(shape) {
         let measured = measure(options.runs, call, shape, &loads, libraries)
             .map_err(|words| format!("{}: {words}", call.name()))?;
-        for (load, measured) in loads.iter().zip(measured) {
-            report.print(call, load.size, measured);
+        let (measured, plain) = measured.split_at(sizes.len());
+        for (index, (load, measured)) in loads.iter().zip(measured).enumerate() {
+            report.print(call, load.size, *measured, plain.get(index).copied());
         }
     }
     Ok(())
 }
 
-/// Each run goes over all sizes, so that a machine that is slow for a while is
+/// Each run goes over all files, so that a machine that is slow for a while is
 /// slow for all of them.
 fn measure(
     runs: u64,
@@ -78,4 +89,21 @@ fn measure(
         }
     }
     measuring.iter().map(Measuring::measured).collect()
+}
+
+#[cfg(test)]
+mod tests {
+    use super::*;
+    use compare::command_line::{self, Wish};
+
+    /// The reader beside itself: both shapes hold what every call is to answer.
+    #[test]
+    fn arranged_columns_are_measured_with_document_01_s_order() {
+        let words = ["--largest", "1", "--runs", "1"].map(str::to_owned);
+        let Ok(Wish::Run(options)) = command_line::read::<Options>(words) else {
+            panic!("no options");
+        };
+        let libraries = [compare::baseline(); 2];
+        assert_eq!(bench_shape(&options, Shape::Arranged, libraries), Ok(()));
+    }
 }

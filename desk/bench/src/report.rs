@@ -9,24 +9,37 @@ use crate::measure::Measured;
 /// Remembers the last size of a call, to say how the time has grown.
 pub struct Report {
     last: Option<(Call, Measured)>,
+    /// Whether the same records in document 01's order are measured too.
+    is_arranged: bool,
 }
 
 impl Report {
-    pub fn new() -> Report {
-        Report { last: None }
+    pub fn new(is_arranged: bool) -> Report {
+        Report {
+            last: None,
+            is_arranged,
+        }
     }
 
     pub fn print_heading(&self, unit: &str, subject: &str, baseline: &str) {
+        let (names, lines) = match self.is_arranged {
+            true => (
+                format!(" {subject} by document 01's order | {baseline} by it |"),
+                "---:|---:|",
+            ),
+            false => (String::new(), ""),
+        };
         println!(
             "| call  | {unit} | {subject} MB/s | {baseline} MB/s | ratio | growth of {subject} | of {baseline} \
-             | stack of {subject} | of {baseline} |\n\
-             |---|---:|---:|---:|---:|---:|---:|---:|---:|"
+             | stack of {subject} | of {baseline} |{names}\n\
+             |---|---:|---:|---:|---:|---:|---:|---:|---:|{lines}"
         );
     }
 
     /// The ratio is the subject's time by the baseline's; growth is the time
-    /// by that of half the size, 2 where time grows with the bytes.
-    pub fn print(&mut self, call: Call, size: Size, measured: Measured) {
+    /// by that of half the size, 2 where time grows with the bytes; `plain` is
+    /// what the same records took in document 01's order.
+    pub fn print(&mut self, call: Call, size: Size, measured: Measured, plain: Option<Measured>) {
         let before = self.last.filter(|(last, _)| *last == call);
         let (subject, baseline) = (measured.subject, measured.baseline);
         let growth = before.map(|(_, last)| {
@@ -39,8 +52,13 @@ impl Report {
             Some(growth) => growth.map(|factor| format!("{factor:.2}")),
             None => ["", ""].map(str::to_owned),
         };
+        let by_plain = plain.map_or(String::new(), |plain| {
+            let of_subject = by(subject.time, plain.subject.time);
+            let of_baseline = by(baseline.time, plain.baseline.time);
+            format!(" {of_subject:.2} | {of_baseline:.2} |")
+        });
         println!(
-            "| {:5} | {:3} | {:.2} | {:.2} | {:.2} | {of_subject} | {of_baseline} | {} | {} |",
+            "| {:5} | {:3} | {:.2} | {:.2} | {:.2} | {of_subject} | {of_baseline} | {} | {} |{by_plain}",
             call.name(),
             size.units(),
             speed(size.total(), subject.time),

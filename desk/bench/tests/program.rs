@@ -54,6 +54,23 @@ fn small_files_are_read_one_after_the_other() {
     }
 }
 
+/// The last two columns: the time of both by that of document 01's order.
+#[test]
+fn arranged_columns_are_measured_beside_document_01_s_order() {
+    let output = bench("--largest 1 --runs 1 --shape arranged");
+    let printed = String::from_utf8(output.stdout).unwrap();
+    assert!(output.status.success(), "{printed}");
+    for call in ["check", "list", "table", "write", "fill", "strip"] {
+        let lines = measured(&printed, call);
+        assert_eq!(lines.len(), 1, "{printed}");
+        let factors: Vec<f64> = lines[0][10..12]
+            .iter()
+            .map(|f| f.parse().unwrap())
+            .collect();
+        assert!(factors.iter().all(|factor| *factor > 0.0), "{printed}");
+    }
+}
+
 #[test]
 fn help_and_misuse() {
     assert!(bench("--help").status.success());

@@ -2,6 +2,7 @@
 
 use std::fmt::{self, Debug, Display, Formatter};
 
+use samples::arrangement::is_arranged;
 use samples::Random;
 use vdv::{cells_of, own_bytes, value_in, width_of, At, Listing, Refusal, Row, Value, CELLS};
 
@@ -67,6 +68,9 @@ impl Comparison<'_> {
             baseline.check(self.file),
         )?;
         self.tally.add_check(answer);
+        if is_arranged(self.file) {
+            self.tally.add_arranged(answer);
+        }
         Ok(answer)
     }
 

@@ -1,5 +1,6 @@
-//! What only large files reach: every call on a file of just the limit, 1 one
-//! byte beyond it, and 21 for a form longer than any file may be.
+//! What only large files reach: every call on a file of just the limit and on a
+//! large one with its columns arranged, 1 one byte beyond the limit, and 21 for
+//! a form longer than any file may be.
 
 use samples::large::{file, with_longer_source, without_spaces, Order, Shape, EMPTY};
 use vdv::{cells_of, number, At, Refusal, LIMIT};
@@ -10,12 +11,16 @@ use crate::library::{all_rows, Library};
 use crate::tally::Tally;
 use crate::Pair;
 
+/// Bytes of the file with arranged columns.
+const ARRANGED: usize = LIMIT / 8;
+
 /// Text and mark of the place that is filled.
 const TEXT: &[u8] = b"Vorschlag";
 
 pub fn compare_large(pair: Pair<'_>, tally: &mut Tally) -> Result<(), Difference> {
     let mut limit = Limit { pair, tally };
-    limit.full_file()?;
+    limit.sound_file(&file(Shape::Calendar(Order::Rising), LIMIT, 1))?;
+    limit.sound_file(&file(Shape::Arranged, ARRANGED, 1))?;
     limit.one_byte_more()?;
     limit.form_of_the_limit()?;
     limit.many_sections()
@@ -68,22 +73,21 @@ impl Limit<'_> {
         )
     }
 
-    fn full_file(&mut self) -> Result<(), Difference> {
-        let full = file(Shape::Calendar(Order::Rising), LIMIT, 1);
-        self.check(&full, number::SOUND)?;
-        self.forms(&full, LIMIT, number::SOUND)?;
+    fn sound_file(&mut self, file: &[u8]) -> Result<(), Difference> {
+        self.check(file, number::SOUND)?;
+        self.forms(file, LIMIT, number::SOUND)?;
         let Pair { subject, baseline } = self.pair;
         let listing = same(
-            &"list of a full file",
-            all_rows(subject, &full),
-            all_rows(baseline, &full),
+            &format_args!("list of {} bytes", file.len()),
+            all_rows(subject, file),
+            all_rows(baseline, file),
         )?;
         let rows = listing.map_or(Vec::new(), |listing| listing.rows);
         for (index, row) in rows.into_iter().enumerate() {
             let section = index + 1;
             let run =
-                |library: &dyn Library, cells: &mut [u64]| library.table(&full, section, cells);
-            let call = format!("table {section} of a full file");
+                |library: &dyn Library, cells: &mut [u64]| library.table(file, section, cells);
+            let call = format!("table {section} of {} bytes", file.len());
             let cells = lend(self.pair, self.tally, &call, cells_of(row), &run)?;
             law(cells.is_ok(), &format_args!("{call}: handed out"))?;
         }

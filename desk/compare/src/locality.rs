@@ -18,9 +18,10 @@ pub struct Replaced {
     pub length: usize,
 }
 
-/// Lines that reach furthest: lost quotes, table lines, ends.
-const LINES: [&[u8]; 12] = [
+/// Lines that reach furthest: lost quotes, table lines, other orders, ends.
+const LINES: [&[u8]; 13] = [
     b"tbl; MENGE_TAGESART\n",
+    b"atr; TAGESART_TEXT; BASIS_VERSION; TAGESART_NR\n",
     b"tbl; REC_ORT\n",
     b"eof; 1\n",
     b"end; 0\n",

@@ -223,7 +223,10 @@ impl Display for Summary {
             self.files, self.runs, self.kept
         )?;
         for number in &self.missed {
-            writeln!(out, "number {number} was never reached")?;
+            writeln!(
+                out,
+                "number {number} was never reached, or by no arranged file"
+            )?;
         }
         for failure in &self.failures {
             writeln!(out, "{failure}")?;

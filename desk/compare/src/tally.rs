@@ -1,5 +1,5 @@
-//! How often each number was given back, by the file's answer and by the
-//! other calls.
+//! How often each number was given back, by the file's answer, by that of files
+//! whose columns are arranged, and by the other calls.
 
 use std::fmt::{self, Display, Formatter};
 
@@ -10,12 +10,20 @@ const NUMBERS: usize = number::LAST as usize + 1;
 #[derive(Clone, Debug, Default, PartialEq, Eq)]
 pub struct Tally {
     checks: [u64; NUMBERS],
+    arranged: [u64; NUMBERS],
     others: [u64; NUMBERS],
 }
 
 impl Tally {
     pub fn add_check(&mut self, answer: Refusal) {
         if let Some(count) = self.checks.get_mut(answer.number as usize) {
+            *count += 1;
+        }
+    }
+
+    /// A file that has been added, and some of its columns are arranged.
+    pub fn add_arranged(&mut self, answer: Refusal) {
+        if let Some(count) = self.arranged.get_mut(answer.number as usize) {
             *count += 1;
         }
     }
@@ -27,9 +35,14 @@ impl Tally {
     }
 
     pub fn add(&mut self, other: &Tally) {
-        let counts = self.checks.iter_mut().chain(&mut self.others);
-        for (count, more) in counts.zip(other.checks.iter().chain(&other.others)) {
-            *count += more;
+        for (counts, more) in [
+            (&mut self.checks, &other.checks),
+            (&mut self.arranged, &other.arranged),
+            (&mut self.others, &other.others),
+        ] {
+            for (count, more) in counts.iter_mut().zip(more) {
+                *count += more;
+            }
         }
     }
 
@@ -38,17 +51,23 @@ impl Tally {
         self.checks.get(number as usize).copied().unwrap_or(0)
     }
 
+    /// Files with arranged columns answered in this way.
+    pub fn arranged(&self, number: u32) -> u64 {
+        self.arranged.get(number as usize).copied().unwrap_or(0)
+    }
+
     /// Calls answered in this way, besides the check.
     pub fn others(&self, number: u32) -> u64 {
         self.others.get(number as usize).copied().unwrap_or(0)
     }
 
-    /// Numbers that should have been given and were not: 0 to 20 by files, the
-    /// rest by calls of their own.
+    /// Numbers that should have been given and were not: 0 to 20 by files, all
+    /// but 1 also by arranged ones, the rest by calls of their own.
     pub fn missed(&self) -> Vec<u32> {
         (number::SOUND..=number::LAST)
             .filter(|&n| match n {
-                ..number::NO_ROOM => self.checks(n) == 0,
+                number::FILE_TOO_LONG => self.checks(n) == 0,
+                ..number::NO_ROOM => self.checks(n) == 0 || self.arranged(n) == 0,
                 _ => self.others(n) == 0,
             })
             .collect()
@@ -57,11 +76,11 @@ impl Tally {
 
 impl Display for Tally {
     fn fmt(&self, out: &mut Formatter<'_>) -> fmt::Result {
-        writeln!(out, "number      files      calls  rule")?;
+        writeln!(out, "number      files   arranged      calls  rule")?;
         for n in number::SOUND..=number::LAST {
-            let (files, calls) = (self.checks(n), self.others(n));
+            let (files, arranged, calls) = (self.checks(n), self.arranged(n), self.others(n));
             let rule = number::in_words(n);
-            writeln!(out, "{n:6} {files:10} {calls:10}  {rule}")?;
+            writeln!(out, "{n:6} {files:10} {arranged:10} {calls:10}  {rule}")?;
         }
         Ok(())
     }
@@ -77,7 +96,12 @@ mod tests {
         for number in number::SOUND..=number::REFERENCE {
             tally.add_check(Refusal::placeless(number));
         }
-        assert_eq!(tally.missed(), [21, 22, 23, 24]);
+        assert_eq!(tally.missed().len(), 24);
+        for number in number::HEADER..=number::REFERENCE {
+            tally.add_arranged(Refusal::placeless(number));
+        }
+        assert_eq!(tally.missed(), [0, 21, 22, 23, 24]);
+        tally.add_arranged(Refusal::SOUND);
         for number in number::NO_ROOM..=number::LAST {
             tally.add_call(Refusal::placeless(number));
         }
@@ -85,7 +109,7 @@ mod tests {
         assert_eq!(Tally::default().missed().len(), 25);
         assert!(tally
             .to_string()
-            .contains("    20          1          0  a reference"));
+            .contains("    20          1          1          0  a reference"));
     }
 
     #[test]

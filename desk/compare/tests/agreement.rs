@@ -29,6 +29,25 @@ fn drawn_files() {
     assert!(summary.runs > 1_000 && summary.kept > 3_000, "{summary}");
 }
 
+/// What is compared with keeps the laws by itself, and the draws reach every
+/// number that needs no large file, with arranged columns too.
+#[test]
+fn the_reader_beside_itself() {
+    let options = Options {
+        seed: 2,
+        count: 2_000,
+        large: false,
+        ..Options::default()
+    };
+    let alone = Pair {
+        subject: compare::baseline(),
+        baseline: compare::baseline(),
+    };
+    let summary = run(alone, &options, |_| {});
+    assert!(summary.is_clean(), "{summary}");
+    assert_eq!(summary.tally.missed(), [number::FILE_TOO_LONG], "{summary}");
+}
+
 fn files(folder: &str) -> Vec<(PathBuf, Vec<u8>)> {
     let folder = Path::new(env!("CARGO_MANIFEST_DIR"))
         .join("../..")

@@ -1,9 +1,13 @@
 //! The comparison finds what it is there to find: for each fault put into an
 //! otherwise right implementation a difference is reported soon.
 
+mod arranged;
+
+use std::borrow::Cow;
 use std::path::Path;
 
 use compare::{all_rows, run, Library, Options, Pair, Plain};
+use samples::arrangement::is_arranged;
 use vdv::{number, At, Copied, Header, Owner, Refusal, Row, Value};
 
 /// A right implementation but for one fault.
@@ -61,11 +65,56 @@ faults! {
     StripKeeps,
     StripEmpties,
     ReadsTrailer,
+    NamesUnread,
+    ArrangedRefused,
+    FormatsByColumn,
+    FieldsByColumn,
+    ValueByPlace,
+    MarkByColumn,
+    PointsByPlace,
+    KeysByPlace,
+    FormInFileOrder,
+    MarksKeepNumbers,
+    FillByPlace,
 }
+
+/// Faults that show only in files whose columns are arranged.
+const OF_ARRANGED: [Fault; 10] = [
+    ArrangedRefused,
+    FormatsByColumn,
+    FieldsByColumn,
+    ValueByPlace,
+    MarkByColumn,
+    PointsByPlace,
+    KeysByPlace,
+    FormInFileOrder,
+    MarksKeepNumbers,
+    FillByPlace,
+];
 
 impl Bent {
     fn is(&self, fault: Fault) -> bool {
         self.0 == fault
+    }
+
+    /// The file that is read in the place of another.
+    fn taken<'f>(&self, file: &'f [u8]) -> Cow<'f, [u8]> {
+        match self.0 {
+            MarkByColumn => arranged::with_marks_by_column(file).into(),
+            FormatsByColumn => arranged::with_formats_by_column(file).into(),
+            _ => file.into(),
+        }
+    }
+
+    /// The right answer with a rule judged as if no column were arranged.
+    fn unarranged(&self, file: &[u8], right: Refusal) -> Refusal {
+        match self.0 {
+            ArrangedRefused => arranged::refuse_arranged(file, right),
+            FieldsByColumn => Plain.check(&arranged::straightened(file)),
+            PointsByPlace => arranged::judge_points_by_place(file, right),
+            KeysByPlace => arranged::judge_keys_by_place(file, right),
+            _ => right,
+        }
     }
 
     fn answer(&self, right: Refusal) -> Refusal {
@@ -74,6 +123,7 @@ impl Bent {
             (AcceptsAll, _) => Refusal::SOUND,
             (NoSecondKeys, number::SECOND_KEY) => Refusal::SOUND,
             (NoReferences, number::REFERENCE) => Refusal::SOUND,
+            (NamesUnread, number::ATR) => Refusal::SOUND,
             (LineOff, number::ORDER) => Refusal::new(right.number, right.section, right.line + 1),
             (SectionOff, number::PRIMARY_KEY) => Refusal::new(right.number, 1, right.line),
             (LaterLine, number::TRAILER) if right.line == 2 => Refusal::new(3, 0, 3),
@@ -116,7 +166,8 @@ impl Library for Bent {
     }
 
     fn check(&self, file: &[u8]) -> Refusal {
-        self.answer(Plain.check(file))
+        let right = Plain.check(&self.taken(file));
+        self.answer(self.unarranged(file, right))
     }
 
     fn header(&self, file: &[u8]) -> Result<Header, Refusal> {
@@ -134,10 +185,12 @@ impl Library for Bent {
             SectionZero => section.max(1),
             _ => section,
         };
-        Plain.section(file, section).map(|row| self.row(row))
+        let row = Plain.section(&self.taken(file), section)?;
+        Ok(self.row(row))
     }
 
     fn list(&self, file: &[u8], rows: &mut [Row]) -> Refusal {
+        let file = &*self.taken(file);
         if self.is(RowsWithoutRoom) {
             if let (Some(row), Ok(first)) = (rows.first_mut(), Plain.section(file, 1)) {
                 *row = first;
@@ -170,7 +223,11 @@ impl Library for Bent {
         if self.is(ReadsTrailer) && Plain.check(file).number == number::TRAILER {
             return Err(Plain.check(file));
         }
-        Ok(match Plain.value(file, at)? {
+        let at = match self.0 {
+            ValueByPlace => arranged::by_place(file, at),
+            _ => at,
+        };
+        Ok(match Plain.value(&self.taken(file), at)? {
             Value::Text { span, .. } if self.is(AllOperator) => Value::Text {
                 span,
                 owner: Owner::Operator,
@@ -185,6 +242,7 @@ impl Library for Bent {
     }
 
     fn text(&self, file: &[u8], at: At, out: &mut [u8]) -> Result<Copied, Refusal> {
+        let file = &*self.taken(file);
         let answer = Plain.text(file, at, out);
         let told = |length, owner| Ok(Copied { length, owner });
         match (self.0, answer, Plain.value(file, at)) {
@@ -211,7 +269,7 @@ impl Library for Bent {
     }
 
     fn table(&self, file: &[u8], section: usize, cells: &mut [u64]) -> Result<usize, Refusal> {
-        let length = Plain.table(file, section, cells)?;
+        let length = Plain.table(&self.taken(file), section, cells)?;
         if self.is(LastCellLost) && length > 0 {
             return Ok(length - 3);
         }
@@ -222,11 +280,21 @@ impl Library for Bent {
     }
 
     fn write(&self, file: &[u8], out: &mut [u8]) -> Result<usize, Refusal> {
-        let answer = Plain.write(file, out);
+        let answer = Plain.write(&self.taken(file), out);
+        match (self.0, answer) {
+            (FormInFileOrder, Ok(length)) => arranged::rearrange(&mut out[..length], file),
+            (MarksKeepNumbers, Ok(length)) => arranged::number_as_before(&mut out[..length], file),
+            _ => {}
+        }
         self.put(answer, out)
     }
 
     fn fill(&self, file: &[u8], at: At, text: &[u8], out: &mut [u8]) -> Result<usize, Refusal> {
+        let at = match self.0 {
+            FillByPlace => arranged::by_place(file, at),
+            _ => at,
+        };
+        let file = &*self.taken(file);
         if self.is(FortyTooLong) && text.len() == 40 && Plain.fill(file, at, text, out).is_ok() {
             return Err(Refusal::placeless(number::RANGE));
         }
@@ -245,6 +313,7 @@ impl Library for Bent {
     }
 
     fn strip(&self, file: &[u8], out: &mut [u8]) -> Result<usize, Refusal> {
+        let file = &*self.taken(file);
         match self.0 {
             StripKeeps => Plain.write(file, out),
             StripEmpties => Plain.strip(file, out).map(|_| 0),
@@ -276,7 +345,10 @@ fn each_fault_is_found() {
             subject: &Bent(fault),
             baseline: &Plain,
         };
-        !run(pair, &options, |_| {}).failures.is_empty()
+        let failures = run(pair, &options, |_| {}).failures;
+        let shows = |file: &[u8]| is_arranged(file) || !OF_ARRANGED.contains(&fault);
+        assert!(failures.iter().all(|f| shows(&f.file)), "{fault:?}");
+        !failures.is_empty()
     };
     let missed: Vec<_> = ALL.iter().filter(|fault| !found(**fault)).collect();
     assert!(missed.is_empty(), "{missed:?}");
@@ -298,7 +370,8 @@ fn a_difference_is_shown_with_few_lines() {
     let summary = run(pair, &options, |_| {});
     let failure = &summary.failures[0];
     assert_eq!(failure.difference.call, "check");
-    assert!(failure.file.iter().filter(|byte| **byte == b'\n').count() < 25);
+    let lines = failure.file.iter().filter(|byte| **byte == b'\n').count();
+    assert!(lines < 25, "{summary}");
     let folder = Path::new(env!("CARGO_TARGET_TMPDIR")).join("differences");
     summary.save(&folder, options.seed).unwrap();
     let name = format!("seed-1-file-{}.x10", failure.index.unwrap());

@@ -26,8 +26,16 @@ pub struct Advice<'f> {
     /// Counted in the section, as refusals count.
     pub line: usize,
     pub shown: Shown<'f>,
-    /// The record whose text a mark here would speak of, from 1.
-    pub record: Option<usize>,
+    pub at_stake: Option<AtStake>,
+}
+
+/// The text that a mark here would speak of. It is called by its column's name,
+/// for a mark counts the columns in the file's own order.
+#[derive(Debug, PartialEq, Eq)]
+pub struct AtStake {
+    /// From 1.
+    pub record: usize,
+    pub column: &'static str,
 }
 
 /// What becomes of the line itself.
@@ -46,9 +54,11 @@ impl Advice<'_> {
             Fate::Stays => "",
             Fate::Goes => " and is not put out",
         };
-        let text = match self.record {
-            Some(_) => "the text after it counts as the operator's",
-            None => "no text that may be marked stands after it",
+        let text = match &self.at_stake {
+            Some(AtStake { column, .. }) => {
+                format!("the text after it, {column}, counts as the operator's")
+            }
+            None => "no text that may be marked stands after it".to_owned(),
         };
         format!("line {line} looks like a mark but is none{goes}; {text}")
     }
@@ -56,8 +66,10 @@ impl Advice<'_> {
     /// The place as refusals give it.
     fn place(&self) -> String {
         let (section, line) = (self.section, self.line);
-        match self.record {
-            Some(record) => format!("section {section}, line {line}, before record {record}"),
+        match &self.at_stake {
+            Some(AtStake { record, .. }) => {
+                format!("section {section}, line {line}, before record {record}")
+            }
             None => format!("section {section}, line {line}"),
         }
     }
@@ -80,13 +92,14 @@ pub fn of(file: &[u8]) -> Vec<Advice<'_>> {
 }
 
 fn in_section(file: &[u8], section: usize, row: Row, first: usize) -> Vec<Advice<'_>> {
-    let may_be_marked = tables::numbered(row.table).is_some_and(has_markable);
+    let column = tables::numbered(row.table).and_then(markable);
     let mut records = 0;
     let mut found = Vec::new();
     for (index, content) in each_line(row.span().of(file)).enumerate() {
         records += usize::from(command(content) == Some(b"rec"));
         if is_look_alike(content) {
-            let next = records + 1;
+            let record = records + 1;
+            let column = column.filter(|_| record <= row.records);
             found.push(Advice {
                 section,
                 line: index + 1,
@@ -94,15 +107,15 @@ fn in_section(file: &[u8], section: usize, row: Row, first: usize) -> Vec<Advice
                     number: first + index,
                     content,
                 },
-                record: (may_be_marked && next <= row.records).then_some(next),
+                at_stake: column.map(|column| AtStake { record, column }),
             });
         }
     }
     found
 }
 
-fn has_markable(table: &Table) -> bool {
-    table.markable.is_some()
+fn markable(table: &Table) -> Option<&'static str> {
+    table.markable.map(|field| table.columns[field - 1].name)
 }
 
 fn is_look_alike(content: &[u8]) -> bool {
@@ -186,11 +199,15 @@ pub fn member(advice: &[Advice<'_>], fate: Fate) -> (&'static str, Json) {
 }
 
 fn as_json(advice: &Advice<'_>, fate: Fate) -> Json {
+    let at_stake = advice.at_stake.as_ref();
+    let record = at_stake.map(|text| Json::size(text.record));
+    let column = at_stake.map(|text| Json::text(text.column));
     Json::Object(vec![
         ("section", Json::size(advice.section)),
         ("line", Json::size(advice.line)),
         ("file_line", Json::size(advice.shown.number)),
-        ("record", advice.record.map_or(Json::Null, Json::size)),
+        ("record", record.unwrap_or(Json::Null)),
+        ("column", column.unwrap_or(Json::Null)),
         ("words", Json::Text(advice.sentence(fate))),
     ])
 }

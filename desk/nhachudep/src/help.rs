@@ -125,7 +125,8 @@ mark and is none is told of too.
 
   --strict  end with 1 if there is such a comment
   --json    one object a file, {file, number, part, section, line, rule,
-            advice}; of each advice {section, line, file_line, record, words}
+            advice}; of each advice {section, line, file_line, record, column,
+            words}
 ";
 
 const LIST: &str = "\
@@ -137,9 +138,10 @@ With --json: one object with header, sections, and the file's answer.
 
 const SHOW: &str = "\
 Shows the records of every table, or of one, given by number or name, in
-aligned columns. A suggestion has a `*` before it. Of a refused section no
-records are shown; those of the others are. A comment that looks like a mark
-and is none is told of on standard error.
+aligned columns; these stand in document 01's order, whatever the file's. A
+suggestion has a `*` before it. Of a refused section no records are shown; those
+of the others are. A comment that looks like a mark and is none is told of on
+standard error.
 
   --strict  end with 1 if there is such a comment
   --json    one object with the tables, each value with its owner, and the
@@ -155,13 +157,15 @@ mark and is none is told of on standard error, and counted.
 
   --strict  end with 1 if there is such a comment
   --json    one object with the marks, the counts, `complete`, whether it can be
-            said of every text, all refused sections, and the advice
+            said of every text, all refused sections, and the advice; a `field`
+            is counted as `nhachudep fill` counts it, not as the mark does
 ";
 
 const WRITE: &str = "\
-Puts out the written form: header lines in their order, one space after each
-separating `;`, numbers without leading zeros, no comments but marks, LF. A
-comment that looks like a mark and is none is warned of before it goes.
+Puts out the written form: header lines in their order, columns in document
+01's, one space after each separating `;`, numbers without leading zeros, no
+comments but marks, renumbered as the columns stand, LF. A comment that looks
+like a mark and is none is warned of before it goes.
 
   -o OUT      into this file instead of standard output
   --in-place  into the file itself
@@ -177,17 +181,19 @@ written. A read-only file is not replaced.
 
 const FILL: &str = "\
 Puts out the written form with TEXT in an empty field, marked as a suggestion.
-Section, record and field count from 1; `nhachudep show` counts them. The text
-is given in UTF-8 and put out in ISO 8859-1. A text that begins with `-` stands
-after `--`.
+Section, record and field count from 1; `nhachudep show` counts them. FIELD is
+the column's number in document 01's table, wherever the file has the column,
+and whatever number a mark in the file gives it. TEXT is given in UTF-8 and put
+out in ISO 8859-1. One that begins with `-` stands after `--`.
 
   -o OUT      into this file instead of standard output
   --in-place  into the file itself; many fills at once wait for each other
   --strict    put out nothing if a comment looks like a mark and is none
   --json      tell the answer on standard output; needs -o or --in-place
 
-These may be filled: field 2 of MENGE_BASIS_VERSIONEN, field 3 of
-FIRMENKALENDER, field 3 of MENGE_TAGESART, field 4 of MENGE_ONR_TYP.
+These may be filled: field 2 of MENGE_BASIS_VERSIONEN, BASIS_VERSION_TEXT;
+field 3 of FIRMENKALENDER, BETRIEBSTAG_TEXT; field 3 of MENGE_TAGESART,
+TAGESART_TEXT; field 4 of MENGE_ONR_TYP, ONR_TYP_TEXT.
 `nhachudep write --help` says how a file is replaced.
 ";
 
@@ -216,6 +222,19 @@ mod tests {
             assert!(of(topic).starts_with("usage: nhachudep "));
         }
         assert_eq!(Topic::named("nhachudep"), None);
+    }
+
+    /// The numbers by which `fill` names a column are document 01's.
+    #[test]
+    fn what_may_be_filled_is_said() {
+        for table in vdv::tables::ALL {
+            let Some(field) = table.markable else {
+                continue;
+            };
+            let column = table.columns[field - 1].name;
+            let said = format!("field {field} of {}, {column}", table.name);
+            assert!(FILL.replace('\n', " ").contains(&said), "{said}");
+        }
     }
 
     #[test]

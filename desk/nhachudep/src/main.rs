@@ -3,8 +3,10 @@
 
 mod advice;
 mod arguments;
+mod arrangement;
 mod columns;
 mod commands;
+mod explaining;
 mod help;
 mod input;
 mod json;

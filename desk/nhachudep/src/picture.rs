@@ -5,8 +5,11 @@ use std::ops::Range;
 
 use vdv::{all_rows, number, tables, Refusal};
 
+use crate::arrangement::Standing;
+use crate::columns::wrapped;
+use crate::explaining;
 use crate::latin::{shown, width};
-use crate::lines::{command, first_with, header_lines, line_from, lines_of, Shown};
+use crate::lines::{command, each_line, first_with, header_lines, line_from, lines_of, Shown};
 use crate::pointing::Line;
 use crate::references::Lost;
 use crate::refusals::Part;
@@ -14,6 +17,9 @@ use crate::terminal::{Paint, Tone};
 
 /// Columns of a line that are shown; more is cut round the place.
 const SHOWN: usize = 120;
+
+/// Columns before a note's words.
+const NOTE: usize = 9;
 
 pub struct Picture {
     /// The line's number in the file, the line, and the marks below it.
@@ -32,6 +38,7 @@ impl Picture {
             if line.has_odd_quotes() {
                 notes.push("its quotes do not pair: one is missing or too many".to_owned());
             }
+            notes.extend(explaining::notes(&line));
             let (content, marks) = window(line.content, &line.parts());
             (found.number, content, marks)
         });
@@ -65,7 +72,8 @@ impl Picture {
             }
         }
         for note in &self.notes {
-            let note = paint.tone(Tone::Faint, format_args!("= {note}"));
+            let note = wrapped(NOTE, note);
+            let note = paint.tone(Tone::Faint, format_args!("= {}", note.trim_start()));
             text.push_str(&format!("       {note}\n"));
         }
         text
@@ -83,14 +91,27 @@ fn line_of<'f>(file: &'f [u8], refusal: Refusal) -> Option<Shown<'f>> {
 }
 
 fn read_line<'f>(file: &[u8], refusal: Refusal, content: &'f [u8]) -> Line<'f> {
-    let row = vdv::section(file, refusal.section);
+    let row = vdv::section(file, refusal.section).ok();
+    let section = row.map_or(&[][..], |row| row.span().of(file));
+    let table = row.and_then(|row| tables::numbered(row.table));
     Line {
         content,
         number: refusal.number,
-        table: row.ok().and_then(|row| tables::numbered(row.table)),
+        table,
+        standing: table.and_then(|table| Standing::of(table, section)),
+        is_among_records: is_among_records(section, refusal.line),
         latin: vdv::header(file).is_ok_and(|header| header.latin),
         lost: &[],
     }
+}
+
+fn is_among_records(section: &[u8], line: usize) -> bool {
+    let before = each_line(section).take(line.saturating_sub(1));
+    let last = before
+        .filter_map(command)
+        .filter(|name| *name != b"com")
+        .last();
+    matches!(last, Some(b"frm" | b"rec"))
 }
 
 /// What is shown of a line, and the marks under it.

@@ -6,41 +6,83 @@ use std::ops::Range;
 use vdv::number;
 use vdv::tables::{Column, Kind, Table};
 
+use crate::arrangement::{Flaws, Standing};
 use crate::lines::{command, fields};
+
+/// The columns that say where the two points lie, in each table that has them.
+const POINTS: [&str; 4] = ["ONR_TYP_NR", "ORT_NR", "UEB_ZIEL_TYP", "UEB_ZIEL"];
 
 /// A refused line and what is known of its section.
 pub struct Line<'a> {
     pub content: &'a [u8],
     pub number: u32,
     pub table: Option<&'static Table>,
+    /// What stands where in the section, if its `atr` line says so.
+    pub standing: Option<Standing>,
+    /// Whether it stands behind `frm` and before `end`.
+    pub is_among_records: bool,
     /// Whether the file's character set is ISO8859-1.
     pub latin: bool,
-    /// Fields, from 1, by which the record refers to none.
+    /// Fields, by their numbers, by which the record refers to none.
     pub lost: &'static [usize],
 }
 
 impl Line<'_> {
-    /// The parts of the line to point at; none if that is not known.
+    /// The parts of the line to point at, from the left; none if that is not
+    /// known.
     pub fn parts(&self) -> Vec<Range<usize>> {
-        let found = match self.number {
-            number::HEADER | number::TRAILER => self.bad_byte().or(self.odd_command()),
-            number::BYTE => self.bad_byte(),
-            number::COMMAND => self.odd_command(),
-            number::ORDER => self.command(),
-            number::UNKNOWN_TABLE | number::TABLE_TWICE | number::END_COUNT => self.field(0),
-            number::ATR => self.first_odd(|column, name| column.name.as_bytes() != name),
-            number::FRM => self.first_odd(|column, format| !takes_format(column, format)),
-            number::NOT_A_TEXT => self.first_odd(|column, text| column.is_text() && !is_text(text)),
-            number::NOT_A_NUMBER => self.odd_number(),
-            number::RANGE => self.first_odd(|column, value| !fits(column, value)),
-            number::MARK => self.mark(),
-            number::SAME_POINTS => return self.points(),
-            number::PRIMARY_KEY => return self.named(self.table.map(|table| table.primary)),
-            number::SECOND_KEY => return self.named(self.table.map(|table| table.second)),
-            number::REFERENCE => return self.named(Some(self.lost)),
-            _ => None,
+        let one = |part: Option<Range<usize>>| part.into_iter().collect();
+        let mut parts: Vec<Range<usize>> = match self.number {
+            number::HEADER | number::TRAILER => one(self.bad_byte().or(self.odd_command())),
+            number::BYTE => one(self.bad_byte()),
+            number::COMMAND => one(self.odd_command()),
+            number::ORDER => one(self.command()),
+            number::UNKNOWN_TABLE | number::TABLE_TWICE | number::END_COUNT => one(self.field(1)),
+            number::ATR => self.flaws().map_or(Vec::new(), |flaws| flaws.parts()),
+            number::NOT_A_NUMBER if self.has_command(b"end") => one(self.field(1)),
+            number::FRM | number::NOT_A_TEXT | number::NOT_A_NUMBER | number::RANGE => {
+                one(self.odd_place().and_then(|place| self.field(place)))
+            }
+            number::MARK => one(self.mark()),
+            number::SAME_POINTS => self.points(),
+            number::PRIMARY_KEY => self.of_columns(self.table.map(|table| table.primary)),
+            number::SECOND_KEY => self.of_columns(self.table.map(|table| table.second)),
+            number::REFERENCE => self.of_columns(Some(self.lost)),
+            _ => Vec::new(),
         };
-        found.into_iter().filter(|part| !part.is_empty()).collect()
+        parts.retain(|part| !part.is_empty());
+        parts.sort_unstable_by_key(|part| part.start);
+        parts
+    }
+
+    pub fn has_command(&self, name: &[u8]) -> bool {
+        command(self.content) == Some(name)
+    }
+
+    /// Why an `atr` line is refused.
+    pub fn flaws(&self) -> Option<Flaws<'_>> {
+        self.table.map(|table| Flaws::of(table, self.content))
+    }
+
+    /// The place of the first field that is not as the column there asks, or of
+    /// one too many.
+    pub fn odd_place(&self) -> Option<usize> {
+        let is_odd: fn(&Column, &[u8]) -> bool = match self.number {
+            number::FRM => |column, format| !takes_format(column, format),
+            number::NOT_A_TEXT => |column, text| column.is_text() && !is_text(text),
+            number::NOT_A_NUMBER => {
+                |column, value| !column.is_text() && read_number(value).is_none()
+            }
+            number::RANGE => |column, value| !fits(column, value),
+            _ => return None,
+        };
+        let standing = self.standing.as_ref()?;
+        let found = fields(self.content);
+        let odd = found.into_iter().enumerate().find(|(index, field)| {
+            let column = standing.column_at(index + 1);
+            column.is_none_or(|column| is_odd(column, &self.content[field.clone()]))
+        });
+        odd.map(|(index, _)| index + 1)
     }
 
     /// What a lost quote looks like: 10 or 11, and quotes that do not pair.
@@ -51,7 +93,7 @@ impl Line<'_> {
     }
 
     fn bad_byte(&self) -> Option<Range<usize>> {
-        let wide = self.latin && command(self.content) == Some(b"rec");
+        let wide = self.latin && self.has_command(b"rec");
         let is_allowed = |byte: u8| matches!(byte, 32..=126) || wide && byte >= 161;
         let mut bytes = self.content.iter();
         let place = bytes.position(|byte| !is_allowed(*byte))?;
@@ -78,53 +120,37 @@ impl Line<'_> {
         }
     }
 
-    fn field(&self, index: usize) -> Option<Range<usize>> {
-        fields(self.content).get(index).cloned()
-    }
-
-    fn fields(&self, indices: impl Iterator<Item = usize>) -> Vec<Range<usize>> {
-        indices.filter_map(|index| self.field(index)).collect()
-    }
-
-    /// The first field that is not as its column asks, or one too many.
-    fn first_odd(&self, is_odd: impl Fn(&Column, &[u8]) -> bool) -> Option<Range<usize>> {
-        let found = fields(self.content);
-        let columns = self.table?.columns;
-        let odd = found.iter().zip(columns).find(|(field, column)| {
-            let field: Range<usize> = (*field).clone();
-            is_odd(column, &self.content[field])
-        });
-        odd.map(|(field, _)| field.clone())
-            .or(found.get(columns.len()).cloned())
-    }
-
-    /// 12 is given for a record's number, and for the count of `end`.
-    fn odd_number(&self) -> Option<Range<usize>> {
-        if command(self.content) == Some(b"end") {
-            return self.field(0);
-        }
-        self.first_odd(|column, value| !column.is_text() && read_number(value).is_none())
+    /// The field at a place.
+    fn field(&self, place: usize) -> Option<Range<usize>> {
+        fields(self.content).get(place.checked_sub(1)?).cloned()
     }
 
     /// A mark's own text, or the empty text it stands on.
     fn mark(&self) -> Option<Range<usize>> {
-        match (command(self.content)?, self.table?.markable) {
-            (b"com", _) => self.field(0),
-            (b"rec", Some(field)) => self.field(field - 1),
+        let standing = self.standing.as_ref();
+        match (
+            command(self.content)?,
+            standing.and_then(Standing::markable),
+        ) {
+            (b"com", _) => self.field(1),
+            (b"rec", Some((_, place))) => self.field(place),
             _ => self.command(),
         }
     }
 
     fn points(&self) -> Vec<Range<usize>> {
-        let width = self.table.map_or(0, |table| table.columns.len());
-        let first = width.saturating_sub(5);
-        self.fields(first..first + 4)
+        let columns = self.table.map_or(&[][..], |table| table.columns);
+        let numbered = (1..).zip(columns);
+        let points = numbered.filter(|(_, column)| POINTS.contains(&column.name));
+        let points: Vec<usize> = points.map(|(field, _)| field).collect();
+        self.of_columns(Some(&points))
     }
 
-    /// Fields of the record by their numbers, from 1.
-    fn named(&self, numbers: Option<&[usize]>) -> Vec<Range<usize>> {
-        let numbers = numbers.unwrap_or_default();
-        self.fields(numbers.iter().map(|field| field - 1))
+    /// What a record has in these columns, wherever they stand.
+    fn of_columns(&self, fields: Option<&[usize]>) -> Vec<Range<usize>> {
+        let fields = fields.unwrap_or_default().iter();
+        let places = fields.filter_map(|field| self.standing.as_ref()?.place_of(*field));
+        places.filter_map(|place| self.field(place)).collect()
     }
 }
 
@@ -172,18 +198,30 @@ mod tests {
     use super::*;
     use vdv::tables;
 
-    fn pointed(content: &[u8], number: u32, table: u32) -> Vec<&[u8]> {
-        let line = Line {
+    /// A line of a section whose names stand so; with none of them, as in
+    /// document 01.
+    fn line<'a>(atr: &str, content: &'a [u8], number: u32, table: u32) -> Line<'a> {
+        let table = tables::numbered(table);
+        let columns = table.map_or(&[][..], |table| table.columns);
+        let names: Vec<&str> = columns.iter().map(|column| column.name).collect();
+        let atr = match atr {
+            "" => format!("atr; {}", names.join("; ")),
+            _ => atr.to_owned(),
+        };
+        Line {
             content,
             number,
-            table: tables::numbered(table),
+            table,
+            standing: table.and_then(|table| Standing::of(table, atr.as_bytes())),
+            is_among_records: true,
             latin: false,
             lost: &[1, 3],
-        };
-        line.parts()
-            .into_iter()
-            .map(|part| &content[part])
-            .collect()
+        }
+    }
+
+    fn pointed<'a>(atr: &str, content: &'a [u8], number: u32, table: u32) -> Vec<&'a [u8]> {
+        let parts = line(atr, content, number, table).parts();
+        parts.into_iter().map(|part| &content[part]).collect()
     }
 
     /// A line with its number and table, and the parts pointed at.
@@ -192,7 +230,7 @@ mod tests {
     fn all_point(cases: &[Case<'_>]) {
         for (content, number, table, parts) in cases {
             let shown = content.escape_ascii();
-            assert_eq!(pointed(content, *number, *table), *parts, "{shown}");
+            assert_eq!(pointed("", content, *number, *table), *parts, "{shown}");
         }
     }
 
@@ -249,18 +287,37 @@ mod tests {
         ]);
     }
 
+    /// Carets go by the file's own order, and stand from the left.
+    #[test]
+    fn columns_are_found_where_they_stand() {
+        let days = "atr; TAGESART_TEXT; TAGESART_NR; BASIS_VERSION";
+        for (content, number, parts) in [
+            (
+                &b"frm; char[40]; num[3.0]; char[9]"[..],
+                9,
+                &[&b"char[9]"[..]][..],
+            ),
+            (b"frm; num[9.0]; num[3.0]; char[40]", 9, &[b"num[9.0]"]),
+            (b"rec; 7; 1; \"a\"", 11, &[b"7"]),
+            (b"rec; \"a\"; 1; \"a\"", 12, &[b"\"a\""]),
+            (b"rec; \"a\"; 1000; 1000", 13, &[b"1000"]),
+            (b"rec; \"\"; 1; 7", 15, &[b"\"\""]),
+            (b"rec; \"a\"; 1; 7", 18, &[b"1", b"7"]),
+        ] {
+            let shown = content.escape_ascii();
+            assert_eq!(pointed(days, content, number, 290), parts, "{shown}");
+        }
+        let links = "atr; UEB_LAENGE; UEB_ZIEL; ORT_NR; BEREICH_NR; UEB_ZIEL_TYP; ONR_TYP_NR; \
+            BASIS_VERSION";
+        let link = b"rec; 9; 5; 5; 0; 1; 1; 7";
+        let place = |number| line(links, link, number, 225).parts();
+        assert_eq!(place(14), [8..9, 11..12, 17..18, 20..21]);
+        assert_eq!(place(20), [20..21, 23..24]);
+    }
+
     #[test]
     fn lost_quotes() {
-        let odd = |content, number| {
-            Line {
-                content,
-                number,
-                table: None,
-                latin: false,
-                lost: &[],
-            }
-            .has_odd_quotes()
-        };
+        let odd = |content, number| line("", content, number, 290).has_odd_quotes();
         assert!(odd(b"rec; 7; 1; \"School day", 11));
         assert!(!odd(b"rec; 7; 1; School day", 11));
         assert!(!odd(b"rec; 7; 1; \"School day", 4));

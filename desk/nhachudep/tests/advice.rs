@@ -13,7 +13,8 @@ fn with_line(line: &str) -> String {
 
 fn advised(line: &str) -> String {
     format!(
-        "a.x10: line 9 looks like a mark but is none; the text after it counts as the operator's\n     \
+        "a.x10: line 9 looks like a mark but is none; \
+         the text after it, BASIS_VERSION_TEXT, counts as the operator's\n     \
          9 | {line}\n       = section 1, line 4, before record 1\n"
     )
 }
@@ -23,10 +24,13 @@ fn warned(line: &str) -> String {
 }
 
 const WORDS: &str = "\"words\":\"line 9 looks like a mark but is none; \
-    the text after it counts as the operator's\"";
+    the text after it, BASIS_VERSION_TEXT, counts as the operator's\"";
 
 fn advice(words: &str) -> String {
-    format!("\"advice\":[{{\"section\":1,\"line\":4,\"file_line\":9,\"record\":1,{words}}}]}}\n")
+    format!(
+        "\"advice\":[{{\"section\":1,\"line\":4,\"file_line\":9,\"record\":1,\
+         \"column\":\"BASIS_VERSION_TEXT\",{words}}}]}}\n"
+    )
 }
 
 #[test]
@@ -227,8 +231,8 @@ fn cases_of_marks_that_are_comments() {
     ] {
         let run = run_in(&data, &["check", name]);
         assert_eq!((run.code, run.text()), (0, &*format!("{name}: sound\n")));
-        let told =
-            "line 14 looks like a mark but is none; the text after it counts as the operator's";
+        let told = "line 14 looks like a mark but is none; the text after it, TAGESART_TEXT, \
+                    counts as the operator's";
         assert!(run.err.contains(told), "{name}");
     }
 }
@@ -243,7 +247,7 @@ fn the_example_with_a_lost_mark() {
     assert_eq!(
         run.err,
         "lost-mark.x10: line 23 looks like a mark but is none; \
-         the text after it counts as the operator's\n    \
+         the text after it, TAGESART_TEXT, counts as the operator's\n    \
          23 | com; \"SUGGESTED 3\n       = section 2, line 10, before record 4\n"
     );
 }

@@ -157,6 +157,115 @@ fn a_lost_reference() {
     assert!(refused.err.ends_with(note), "{}", refused.err);
 }
 
+/// 8 says every name that is missing, stands again, or is no column.
+#[test]
+fn names_at_fault() {
+    let folder = Folder::new("check-names");
+    let expected = "= expected, each once and in any order: BASIS_VERSION, BASIS_VERSION_TEXT\n";
+    for (atr, told) in [
+        (
+            "atr; BASIS_VERSION",
+            "       = missing: BASIS_VERSION_TEXT\n       ",
+        ),
+        (
+            "atr; BASIS_VERSION; BASIS_VERSION",
+            "       |                     ^^^^^^^^^^^^^\n       \
+             = named before: BASIS_VERSION\n       \
+             = missing: BASIS_VERSION_TEXT\n       ",
+        ),
+        (
+            "atr; BASIS_TEXT; BASIS_VERSION; BASIS_VERSION; X",
+            "       |      ^^^^^^^^^^                 ^^^^^^^^^^^^^  ^\n       \
+             = no column of MENGE_BASIS_VERSIONEN: BASIS_TEXT, X\n       \
+             = named before: BASIS_VERSION\n       \
+             = missing: BASIS_VERSION_TEXT\n       ",
+        ),
+        (
+            "atr; BASIS_VERSION; BASIS_VERSION_TEXT;",
+            "       = no column of MENGE_BASIS_VERSIONEN: an empty name\n       ",
+        ),
+    ] {
+        let right = "atr; BASIS_VERSION; BASIS_VERSION_TEXT";
+        folder.put("a.x10", SMALL.replace(right, atr));
+        folder.run(&["check", "a.x10"]).expect(
+            1,
+            "",
+            &format!(
+                "a.x10: section 1, line 2: 8 `atr` does not name each of the table's columns \
+                 once\n     7 | {atr}\n{told}{expected}"
+            ),
+        );
+    }
+}
+
+/// 15 says what is wrong with the mark, by the place where it stands.
+#[test]
+fn marks_at_fault() {
+    let folder = Folder::new("check-marks");
+    let mark = "com; \"SUGGESTED 2\"\n";
+    let outside = "a mark stands behind `frm` and before `end`";
+    for (from, to, line, note) in [
+        ("atr;", format!("{mark}atr;"), 7, outside),
+        ("frm;", format!("{mark}frm;"), 8, outside),
+        ("eof;", format!("{mark}eof;"), 13, outside),
+        (
+            mark,
+            mark.repeat(2),
+            10,
+            "the marks of one record rise: this one is no higher than the last",
+        ),
+        (
+            mark,
+            mark.replace('2', "02"),
+            9,
+            "after `SUGGESTED ` comes a number without leading zeros, and no more",
+        ),
+        (
+            "rec; 8;",
+            format!("{mark}rec; 8;"),
+            12,
+            "BASIS_VERSION_TEXT is marked, and empty",
+        ),
+        (
+            "end;",
+            format!("{mark}end;"),
+            13,
+            "the mark before it speaks of no record",
+        ),
+        (
+            mark,
+            mark.replace('2', "1"),
+            9,
+            "BASIS_VERSION stands 1st in this `atr`, and may not be marked\n       \
+             = only BASIS_VERSION_TEXT may be marked, which stands 2nd",
+        ),
+    ] {
+        folder.put("a.x10", SMALL.replace(from, &to));
+        let run = folder.run(&["check", "a.x10"]);
+        assert!(run.err.contains(": 15 mark "), "{}", run.err);
+        assert!(run.err.contains(&format!("\n{line:6} | ")), "{}", run.err);
+        let note = format!("\n       = {note}\n");
+        assert!(run.err.ends_with(&note), "{}", run.err);
+    }
+}
+
+/// Notes are no wider than a terminal, however many columns a table has.
+#[test]
+fn long_notes_are_wrapped() {
+    let folder = Folder::new("check-wrapped");
+    let times = "tbl; UEB_FZT\natr; BASIS_VERSION\nfrm; num[9.0]\nend; 0\neof; 2\n";
+    folder.put("a.x10", SMALL.replace("eof; 1\n", times));
+    let run = folder.run(&["check", "a.x10"]);
+    assert!(
+        run.err.ends_with(
+            "= expected, each once and in any order: BASIS_VERSION, BEREICH_NR,\n         \
+             FGR_NR, ONR_TYP_NR, ORT_NR, UEB_ZIEL_TYP, UEB_ZIEL, UEB_FAHRZEIT\n"
+        ),
+        "{}",
+        run.err
+    );
+}
+
 #[test]
 fn a_file_over_the_limit() {
     let folder = Folder::new("check-limit");

@@ -131,7 +131,13 @@ fn refused_fills() {
             "neu",
             "24 no such section, record or field",
         ),
-        (["1", "2", "1"], "neu", "23 field may not be filled"),
+        (
+            ["1", "2", "1"],
+            "neu",
+            "23 field may not be filled\n       \
+             = field 1 of MENGE_BASIS_VERSIONEN is BASIS_VERSION; \
+             only 2 may be filled, BASIS_VERSION_TEXT",
+        ),
         (["1", "1", "2"], "neu", "22 field to fill is not empty"),
         (["1", "2", "2"], "", "11 not a text"),
         (

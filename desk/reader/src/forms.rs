@@ -19,7 +19,8 @@ enum Change<'t> {
     Strip,
 }
 
-/// Section, record and field from 1.
+/// Section, record and field from 1; the field by its number in document 01's
+/// table, wherever its column stands in the file.
 struct Filling<'t> {
     section: usize,
     record: usize,

@@ -8,7 +8,7 @@ const WORD: &[u8] = b"SUGGESTED ";
 #[derive(Clone, Copy, Debug, PartialEq, Eq)]
 pub enum Comment {
     Ordinary,
-    /// A mark that names this field, counted from 1.
+    /// A mark that names the field at this place of the file, from 1.
     Mark(usize),
     Unreadable,
 }
@@ -40,10 +40,12 @@ fn field_number(digits: &[u8]) -> Option<usize> {
     })
 }
 
-/// The marks that wait for the next `rec`.
+/// The marks that wait for the next `rec`: the fields of document 01's table
+/// that they speak of, and the place that the last of them named.
 #[derive(Clone, Copy, Debug, Default, PartialEq, Eq)]
 pub struct Marks {
     bits: u16,
+    last: usize,
 }
 
 impl Marks {
@@ -55,12 +57,14 @@ impl Marks {
         field < 16 && self.bits >> field & 1 == 1
     }
 
-    /// "Several marks of one record rise strictly": false if this one does
-    /// not lie above those that wait. The field is one of the table's.
-    pub fn add(&mut self, field: usize) -> bool {
-        if self.bits >> field != 0 {
+    /// "Several marks of one record rise strictly", and "A mark's number counts
+    /// in the file's own order": false if this place does not lie behind those
+    /// that wait. The field that stands there is one of the table's.
+    pub fn add(&mut self, place: usize, field: usize) -> bool {
+        if place <= self.last {
             return false;
         }
+        self.last = place;
         self.bits |= 1 << field;
         true
     }
@@ -121,8 +125,8 @@ mod tests {
     #[test]
     fn rising() {
         let mut marks = Marks::default();
-        assert!(marks.add(2) && marks.add(3));
-        assert!(!marks.add(3) && !marks.add(1));
-        assert!(marks.has(2) && !marks.has(1));
+        assert!(marks.add(2, 4) && marks.add(3, 1));
+        assert!(!marks.add(3, 1) && !marks.add(1, 3));
+        assert!(marks.has(4) && marks.has(1) && !marks.has(2) && !marks.has(3));
     }
 }

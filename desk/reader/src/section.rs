@@ -4,6 +4,7 @@ use std::borrow::Cow;
 use std::ops::Range;
 
 use crate::answer::{number, Verdict};
+use crate::arrangement::Arrangement;
 use crate::fields::{read_number, Fields, Text};
 use crate::header::Charset;
 use crate::lines::{is_latin, is_plain, Command, Head, Lines, Part};
@@ -36,7 +37,8 @@ pub enum Field<'a> {
     Text(Text<'a>),
 }
 
-/// A `rec` line that passed, with the marks that stood before it.
+/// A `rec` line that passed, with the marks that stood before it. Its fields
+/// stand in document 01's order, whatever the file's.
 #[derive(Clone, Copy, Debug, PartialEq, Eq)]
 pub struct Record<'a> {
     pub line: usize,
@@ -54,7 +56,7 @@ impl<'a> Record<'a> {
         self.width == 0
     }
 
-    /// The value of a field, counted from 1.
+    /// The value of a field, by its number in document 01's table.
     pub fn value(&self, field: usize) -> Option<Value<'a>> {
         let value = self.fields().get(field.checked_sub(1)?)?;
         Some(match value {
@@ -114,6 +116,7 @@ pub struct Records<'a> {
     stage: Stage,
     line: usize,
     table: Option<&'static Table>,
+    arrangement: Arrangement,
     count: usize,
     waiting: Marks,
     /// The record last read, kept here so that none is copied on the way.
@@ -128,6 +131,7 @@ impl<'a> Records<'a> {
             stage: Stage::Tbl,
             line: 0,
             table: None,
+            arrangement: Arrangement::NONE,
             count: 0,
             waiting: Marks::default(),
             record: Record {
@@ -202,18 +206,23 @@ impl<'a> Records<'a> {
     }
 
     fn comment(&mut self, rest: Part<'a>) -> Result<(), u8> {
-        let field = match Comment::read(rest) {
+        let place = match Comment::read(rest) {
             Comment::Ordinary => return Ok(()),
             Comment::Unreadable => return Err(number::MARK),
-            Comment::Mark(field) => field,
+            Comment::Mark(place) => place,
         };
-        let markable = self.table.and_then(|table| table.markable);
-        let placed = self.stage == Stage::Records && markable == Some(field);
-        if placed && self.waiting.add(field) {
+        let field = self.markable_at(place).ok_or(number::MARK)?;
+        if self.stage == Stage::Records && self.waiting.add(place, field) {
             Ok(())
         } else {
             Err(number::MARK)
         }
+    }
+
+    /// The field that stands at this place, if it may be marked.
+    fn markable_at(&self, place: usize) -> Option<usize> {
+        let markable = self.table?.markable?;
+        (self.arrangement.field_at(place)? == markable).then_some(markable)
     }
 
     fn tbl(&mut self, rest: Part<'a>) -> Result<(), u8> {
@@ -224,20 +233,17 @@ impl<'a> Records<'a> {
     }
 
     fn atr(&mut self, rest: Part<'a>, table: &Table) -> Result<(), u8> {
-        let names = Fields::of(rest).map(|f| f.bytes);
-        if !names.eq(table.columns.iter().map(|c| c.name.as_bytes())) {
-            return Err(number::ATR);
-        }
+        self.arrangement = Arrangement::read(rest, table).ok_or(number::ATR)?;
         self.stage = Stage::Frm;
         Ok(())
     }
 
     fn frm(&mut self, rest: Part<'a>, table: &Table) -> Result<(), u8> {
         let mut formats = Fields::of(rest);
-        let fits = table.columns.iter().all(|column| {
+        let fits = self.arrangement.columns().all(|column| {
             formats
                 .next()
-                .is_some_and(|format| column.takes_format(format.bytes))
+                .is_some_and(|format| table.columns[column].takes_format(format.bytes))
         });
         if !fits || formats.next().is_some() {
             return Err(number::FRM);
@@ -251,7 +257,7 @@ impl<'a> Records<'a> {
         record.line = self.line;
         record.width = table.columns.len();
         record.marks = self.waiting;
-        read_fields(rest, table, &mut record.fields)?;
+        read_fields(rest, table, &self.arrangement, &mut record.fields)?;
         if table.points.is_some_and(|points| meet(record, points)) {
             return Err(number::SAME_POINTS);
         }
@@ -278,19 +284,21 @@ impl<'a> Records<'a> {
 }
 
 /// "10, each field from the left (11 or 12, then 13)": a wrong count is known
-/// only at the line's end, so a field's refusal waits for it.
+/// only at the line's end, so a field's refusal waits for it. The left is that
+/// of the line; the value goes to its column.
 fn read_fields<'a>(
     rest: Part<'a>,
     table: &Table,
+    arrangement: &Arrangement,
     fields: &mut [Field<'a>; WIDEST],
 ) -> Result<(), u8> {
     let mut refusal = None;
     let mut split = Fields::of(rest);
-    for (field, column) in fields.iter_mut().zip(table.columns) {
+    for column in arrangement.columns() {
         let part = split.next().ok_or(number::FIELD_COUNT)?;
         if refusal.is_none() {
-            match read_field(part, column.kind) {
-                Ok(value) => *field = value,
+            match read_field(part, table.columns[column].kind) {
+                Ok(value) => fields[column] = value,
                 Err(number) => refusal = Some(number),
             }
         }

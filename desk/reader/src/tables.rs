@@ -32,7 +32,7 @@ pub struct Table {
     pub primary: &'static [usize],
     pub second: &'static [usize],
     pub references: &'static [Reference],
-    /// The field, counted from 1, that a mark may name.
+    /// The field, counted from 1, that may be marked.
     pub markable: Option<usize>,
     /// Columns of (type, number) of the two points that must differ.
     pub points: Option<[(usize, usize); 2]>,

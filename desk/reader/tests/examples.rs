@@ -78,6 +78,7 @@ fn sound_examples_are_written_and_stay_so() {
     for name in [
         "depot-week",
         "suggestions",
+        "arranged",
         "451-1",
         "451-2",
         "451-3",

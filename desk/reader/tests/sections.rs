@@ -121,12 +121,18 @@ fn columns() {
         with("atr;BASIS_VERSION ; TAGESART_NR;TAGESART_TEXT "),
         (0, 0)
     );
+    assert_eq!(
+        with("atr; TAGESART_NR; BASIS_VERSION; TAGESART_TEXT"),
+        (0, 0)
+    );
     for atr in [
         "atr;",
         "atr; BASIS_VERSION; TAGESART_NR",
         "atr; BASIS_VERSION; TAGESART_NR; TAGESART_TEXT;",
-        "atr; TAGESART_NR; BASIS_VERSION; TAGESART_TEXT",
+        "atr; TAGESART_NR; TAGESART_TEXT",
+        "atr; TAGESART_NR; BASIS_VERSION; TAGESART_TEXT; BASIS_VERSION",
         "atr; BASIS_VERSION; BASIS_VERSION; TAGESART_TEXT",
+        "atr; TAGESART_NR; BASIS_VERSION; BETRIEBSTAG_TEXT",
         "atr; BASIS_VERSION; TAGESART_NR; Tagesart_Text",
         "atr; BASIS_VERSION; TAGESART_NR; \"TAGESART_TEXT\"",
     ] {

@@ -1,8 +1,11 @@
 //! A model put into lines, in one of the many dresses document 01 allows:
-//! spaces, blank lines, comments, line ends, zeros, forms of the date.
+//! spaces, blank lines, comments, line ends, zeros, forms of the date, and
+//! arrangements of the columns.
 
+use vdv::tables::Table;
 use vdv::Owner;
 
+use crate::arrangement::Arrangement;
 use crate::form::{clock, dotted, quoted, slashed};
 use crate::model::{Content, Datum, Heading, Model, Record};
 use crate::page::{End, Line, Page};
@@ -51,6 +54,7 @@ struct Style {
     comments: usize,
     zeros: usize,
     sizes: usize,
+    arranged: usize,
 }
 
 impl Style {
@@ -68,6 +72,7 @@ impl Style {
             comments: random.pick(&[0, 0, 4, 30]),
             zeros: random.pick(&[0, 0, 10, 60]),
             sizes: random.pick(&[0, 0, 100]),
+            arranged: random.pick(&[0, 0, 50, 100]),
         }
     }
 }
@@ -142,23 +147,33 @@ impl Dresser<'_> {
 
     fn section(&mut self, content: &Content) {
         let columns = content.table.columns;
+        let arrangement = self.arrange(content.table);
         self.line("tbl", [bytes(content.table.name)]);
         self.aside();
-        self.line("atr", columns.iter().map(|column| bytes(column.name)));
+        let names: Vec<_> = columns.iter().map(|column| bytes(column.name)).collect();
+        self.line("atr", arrangement.arrange(&names));
         self.aside();
         let formats: Vec<_> = columns
             .iter()
             .map(|column| bytes(&column.format_of_size(self.draw_size(column.written))))
             .collect();
-        self.line("frm", formats);
+        self.line("frm", arrangement.arrange(&formats));
         for record in &content.records {
             self.aside();
-            self.record(record);
+            self.record(&arrangement.arrange(record));
         }
         self.aside();
         let count = self.number(content.records.len() as u64);
         self.line("end", [count]);
         self.aside();
+    }
+
+    fn arrange(&mut self, table: &Table) -> Arrangement {
+        if self.random.percent(self.style.arranged) {
+            Arrangement::draw(self.random, table)
+        } else {
+            Arrangement::plain(table)
+        }
     }
 
     /// "n from 1 to 255 without leading zeros; it limits no value".
@@ -170,10 +185,12 @@ impl Dresser<'_> {
         }
     }
 
+    /// A record whose values stand as the file has them: "A mark's number counts
+    /// in the file's own order".
     fn record(&mut self, record: &Record) {
-        for (column, datum) in record.iter().enumerate() {
+        for (place, datum) in record.iter().enumerate() {
             if datum.is_suggestion() {
-                let mark = format!("SUGGESTED {}", column + 1);
+                let mark = format!("SUGGESTED {}", place + 1);
                 self.line("com", [quoted(mark.as_bytes())]);
                 self.aside();
             }

@@ -1,10 +1,14 @@
 //! Large files of a given number of bytes, to measure with and for the limit.
 
-use vdv::tables::{Table, CALENDAR, DAY_TYPES, LINKS, POINT_TYPES, TIMES, VALIDITY, VERSIONS};
+use vdv::tables::{
+    named, Table, CALENDAR, DAY_TYPES, LINKS, POINT_TYPES, TIMES, VALIDITY, VERSIONS,
+};
 use vdv::{number, At};
 
+use crate::arrangement::Arrangement;
 use crate::form::form;
 use crate::meaning::{self, PARENTS_FIRST};
+use crate::page::Line;
 use crate::random::Random;
 
 const HEADER: &[u8] = b"mod; DD.MM.YYYY; HH:MM:SS; free\n\
@@ -35,18 +39,22 @@ pub enum Shape {
     /// All eight tables, each with a share of the bytes: many versions with
     /// few records each.
     Eight(Order),
+    /// All eight tables in key order, each table's columns in another order
+    /// than document 01's.
+    Arranged,
     /// Small tables again and again: unsound by 17.
     Small,
 }
 
 /// Those that document 01 accepts.
-pub const SOUND: [Shape; 6] = [
+pub const SOUND: [Shape; 7] = [
     Shape::Network(Order::Rising),
     Shape::Network(Order::Shuffled),
     Shape::Calendar(Order::Rising),
     Shape::Calendar(Order::Shuffled),
     Shape::Eight(Order::Rising),
     Shape::Eight(Order::Shuffled),
+    Shape::Arranged,
 ];
 
 impl Shape {
@@ -58,8 +66,14 @@ impl Shape {
             Shape::Calendar(Order::Shuffled) => "one huge calendar shuffled",
             Shape::Eight(Order::Rising) => "all eight tables in key order",
             Shape::Eight(Order::Shuffled) => "all eight tables shuffled",
+            Shape::Arranged => "all eight tables in key order, columns arranged",
             Shape::Small => "small tables again and again",
         }
+    }
+
+    /// The same records, and no other bytes, in document 01's order.
+    pub fn unarranged(self) -> Option<Shape> {
+        (self == Shape::Arranged).then_some(Shape::Eight(Order::Rising))
     }
 
     /// The file's answer: "table a second time" where small ones come again.
@@ -82,6 +96,7 @@ pub fn file(shape: Shape, bytes: usize, seed: u64) -> Vec<u8> {
         Shape::Network(order) => network(&mut random, bytes, order),
         Shape::Calendar(order) => calendar(&mut random, bytes, order),
         Shape::Eight(order) => eight(&mut random, bytes, order),
+        Shape::Arranged => with_columns_reversed(&eight(&mut random, bytes, Order::Rising)),
         Shape::Small => small(&mut random, bytes),
     }
 }
@@ -102,6 +117,47 @@ pub fn without_spaces(file: &[u8]) -> Vec<u8> {
 pub fn with_longer_source(file: &[u8], more: usize) -> Vec<u8> {
     let place = file.iter().position(|&byte| byte == b'"').unwrap_or(0) + 1;
     [&file[..place], &vec![b'.'; more], &file[place..]].concat()
+}
+
+/// The same with the columns of each table the other way round. Fields are
+/// separated alike and marks have one digit, so every line keeps its length.
+fn with_columns_reversed(file: &[u8]) -> Vec<u8> {
+    let mut out = Vec::with_capacity(file.len());
+    let mut reversed = None;
+    for line in file.split_inclusive(|byte| *byte == b'\n') {
+        let mut line = Line::unended(line);
+        if line.command() == b"tbl" {
+            let name = line.fields().concat();
+            reversed = named(name.trim_ascii()).map(Arrangement::reversed);
+        } else if let Some(reversed) = &reversed {
+            reverse(&mut line, reversed);
+        }
+        out.extend_from_slice(&line.content);
+    }
+    out
+}
+
+fn reverse(line: &mut Line, reversed: &Arrangement) {
+    let content = line.content.trim_ascii_end().to_vec();
+    let unended = Line::unended(&content);
+    let fields = match line.command() {
+        b"atr" | b"frm" | b"rec" => reversed.arrange(&unended.fields()),
+        b"com" => match marked_field(&content).and_then(|field| reversed.place_of(field)) {
+            Some(place) => vec![format!(" \"SUGGESTED {place}\"").into_bytes()],
+            None => return,
+        },
+        _ => return,
+    };
+    line.set_fields(&fields);
+    line.content.push(b'\n');
+}
+
+/// The number in a mark as the files here write it.
+fn marked_field(mark: &[u8]) -> Option<usize> {
+    let number = mark
+        .strip_prefix(b"com; \"SUGGESTED ")?
+        .strip_suffix(b"\"")?;
+    std::str::from_utf8(number).ok()?.parse().ok()
 }
 
 struct Part {
@@ -386,5 +442,25 @@ mod tests {
                 assert_eq!(file(shape, bytes, 1).len(), bytes, "{}", shape.name());
             }
         }
+    }
+
+    #[test]
+    fn arranged_columns_hold_the_same_records() {
+        let straight = file(Shape::Eight(Order::Rising), 65_537, 1);
+        let arranged = file(Shape::Arranged, 65_537, 1);
+        assert_ne!(arranged, straight);
+        assert_eq!(with_columns_reversed(&straight), arranged);
+        let holds = |part: &str| {
+            let mut windows = arranged.windows(part.len());
+            windows.any(|window| window == part.as_bytes())
+        };
+        assert!(holds(
+            "\natr; TAGESART_NR; BETRIEBSTAG_TEXT; BETRIEBSTAG; BASIS_VERSION\n"
+        ));
+        assert!(holds("\nfrm; num[3.0]; char[40]; num[8.0]; num[9.0]\n"));
+        assert!(holds(
+            "\ncom; \"SUGGESTED 2\"\nrec; 1; \"Feiertag\"; 20250106; 1\n"
+        ));
+        assert!(holds("\nrec; \"Fahrplan\"; 1\n"));
     }
 }

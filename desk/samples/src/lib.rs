@@ -1,7 +1,8 @@
 //! Planning files drawn from a seed, together with what they mean; damage to
-//! them; and large ones to measure with. Nothing here reads a file: what a
-//! sound file says is known before it is put into bytes.
+//! them; and large ones to measure with. Nothing here reads what a file says:
+//! of a sound one that is known before it is put into bytes.
 
+pub mod arrangement;
 pub mod damage;
 pub mod dress;
 pub mod form;
@@ -12,6 +13,7 @@ pub mod page;
 pub mod random;
 pub mod texts;
 
+pub use arrangement::Arrangement;
 pub use model::{Content, Datum, Heading, Model, Record};
 pub use page::Page;
 pub use random::Random;
@@ -28,7 +30,8 @@ impl Sample {
     }
 }
 
-/// A small sound file over any of the eight tables, in any order and dress.
+/// A small sound file over any of the eight tables, in any order and dress, in
+/// half of the files with columns in the sender's order.
 pub fn sound(random: &mut Random) -> Sample {
     let most = meaning::draw_size(random);
     let model = meaning::draw(random, most);

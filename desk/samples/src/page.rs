@@ -15,6 +15,13 @@ pub struct Line {
 }
 
 impl Line {
+    pub fn unended(content: &[u8]) -> Line {
+        Line {
+            content: content.to_vec(),
+            end: End::Nothing,
+        }
+    }
+
     /// What stands before the first `;`, trimmed; nothing without `;`.
     pub fn command(&self) -> &[u8] {
         let stop = self.content.iter().position(|&byte| byte == b';');

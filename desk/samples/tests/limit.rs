@@ -11,6 +11,19 @@ fn large_files_are_sound() {
     }
 }
 
+/// What is measured against each other says the same.
+#[test]
+fn arranged_columns_are_written_in_document_01_s_order() {
+    let form = |shape: Shape| {
+        let mut out = vec![0; 400_000];
+        let length = write(&file(shape, 300_000, 1), &mut out).unwrap();
+        out.truncate(length);
+        out
+    };
+    let unarranged = Shape::Arranged.unarranged().unwrap();
+    assert!(form(Shape::Arranged) == form(unarranged));
+}
+
 #[test]
 fn small_tables_again_and_again_are_17() {
     let bytes = file(Shape::Small, 300_000, 1);

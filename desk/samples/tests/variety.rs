@@ -3,9 +3,11 @@
 
 use std::collections::BTreeMap;
 
+use samples::arrangement::is_arranged;
 use samples::damage::{self, ALL};
 use samples::Random;
 use vdv::number;
+use vdv::tables::Table;
 
 /// How many of the drawn sound files show something.
 fn share(shows: impl Fn(&samples::Sample, &[u8]) -> bool) -> usize {
@@ -71,6 +73,44 @@ fn every_table_has_records_and_suggestions() {
     }
 }
 
+/// How many of the drawn sound files have this table with its columns arranged,
+/// and show something of it.
+fn arranged_share(table: &Table, shows: impl Fn(&samples::Content) -> bool) -> usize {
+    let names: Vec<_> = table.columns.iter().map(|c| c.name).collect();
+    let plain = format!("tbl; {}\natr; {}\n", table.name, names.join("; "));
+    let stands = format!("tbl; {}\natr; ", table.name);
+    share(|sample, file| {
+        let mut tables = sample.model.tables.iter();
+        let content = tables.find(|content| content.table == table);
+        holds(file, stands.as_bytes())
+            && !holds(file, plain.as_bytes())
+            && content.is_some_and(&shows)
+    })
+}
+
+/// With records, with suggestions, and with texts to fill.
+#[test]
+fn every_table_is_arranged() {
+    assert!((240..360).contains(&share(|_, file| is_arranged(file))));
+    for table in vdv::tables::ALL {
+        let found = arranged_share(table, |content| !content.records.is_empty());
+        assert!(found >= 20, "{}: {found}", table.name);
+        let Some(field) = table.markable else {
+            continue;
+        };
+        let text = |record: &samples::Record| record[field - 1].clone();
+        let marked = arranged_share(table, |content| {
+            content.records.iter().map(text).any(|t| t.is_suggestion())
+        });
+        let empty = samples::Datum::Text(Vec::new(), vdv::Owner::Operator);
+        let fillable = arranged_share(table, |content| {
+            content.records.iter().map(text).any(|t| t == empty)
+        });
+        assert!(marked >= 5, "{}: {marked} marked", table.name);
+        assert!(fillable >= 5, "{}: {fillable} fillable", table.name);
+    }
+}
+
 #[test]
 fn every_number_of_a_file_is_reached() {
     let mut met = BTreeMap::new();
@@ -103,7 +143,16 @@ fn damage_does_what_its_name_says() {
         ("end dropped", number::ORDER),
         ("record after end", number::ORDER),
         ("unknown table", number::UNKNOWN_TABLE),
-        ("columns exchanged", number::ATR),
+        ("column missing", number::ATR),
+        ("column twice", number::ATR),
+        ("column unknown", number::ATR),
+        ("column too many", number::ATR),
+        ("columns exchanged", number::FRM),
+        ("formats of another order", number::FRM),
+        ("record of another order", number::NOT_A_NUMBER),
+        ("mark numbered by column", number::MARK),
+        ("mark of another place", number::MARK),
+        ("several odd fields", number::NOT_A_TEXT),
         ("format changed", number::FRM),
         ("formats exchanged", number::FRM),
         ("mark misplaced", number::MARK),

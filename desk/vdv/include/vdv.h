@@ -3,7 +3,9 @@
  * A file or a text is lent by a pointer and a count of bytes; the pointer is not
  * null, also where the count is 0. What is lent to be written to overlaps nothing
  * else that is lent. There are no other conditions, and no call keeps anything
- * of what it is lent. Sections, records and fields count from 1.
+ * of what it is lent. Sections, records and fields count from 1. A field is a
+ * column of document 01's table, by its number there, wherever the file's `atr`
+ * has it; the bytes told of it lie where they lie in the file.
  *
  * Each answer begins with document 01's number, VDV_SOUND where the call was not
  * refused, and the place: section, 0 for header and trailer, and line. The
@@ -31,7 +33,7 @@ enum vdv_number {
     VDV_COMMAND = 5, /* no `;`, or unknown command */
     VDV_ORDER = 6, /* command out of its order, or section without `end` */
     VDV_UNKNOWN_TABLE = 7, /* unknown table */
-    VDV_ATR = 8, /* `atr` differs from the table's columns */
+    VDV_ATR = 8, /* `atr` does not name each of the table's columns once */
     VDV_FRM = 9, /* `frm` differs from the columns' kinds */
     VDV_FIELD_COUNT = 10, /* wrong number of fields */
     VDV_NOT_A_TEXT = 11, /* not a text */
@@ -158,13 +160,15 @@ vdv_value_answer vdv_value(const uint8_t *file, size_t length, size_t section, s
 vdv_text_answer vdv_text(const uint8_t *file, size_t length, size_t section, size_t record, size_t field,
                          uint8_t *out, size_t room);
 
-/* Every value of a section into lent cells, three a value in the order of the
- * records: its kind as in enum vdv_kind, then a number's amount and 0, or a
- * text's first place and the place after it. Refused as its values are, then 21.
- * The length counts cells. */
+/* Every value of a section into lent cells, three a value, record after record,
+ * the values of each in the order of document 01's table whatever the file's: its
+ * kind as in enum vdv_kind, then a number's amount and 0, or a text's first place
+ * and the place after it. Refused as its values are, then 21. The length counts
+ * cells. */
 vdv_length_answer vdv_table(const uint8_t *file, size_t length, size_t section, uint64_t *cells, size_t room);
 
-/* The written form: the file's verdict, then 21. */
+/* The written form: the file's verdict, then 21. Its columns stand in the order of
+ * document 01's tables, and its marks count so. */
 vdv_length_answer vdv_write(const uint8_t *file, size_t length, uint8_t *out, size_t room);
 
 /* The written form with one more suggestion: the file's verdict, 24, 23, 22, for

@@ -102,6 +102,8 @@ impl Row {
 pub struct At {
     pub section: usize,
     pub record: usize,
+    /// The column's number in document 01's table, wherever the file's `atr`
+    /// has it, and whatever number a mark in the file gives it.
     pub field: usize,
 }
 

@@ -111,11 +111,22 @@ pub fn list(file: &[u8], rows: &mut [Row]) -> Result<Refusal, Refusal> {
 }
 
 /// One value: refused by the first of 1, 2, 24 for the section, the section's
-/// verdict, 24 for the record or field.
+/// verdict, 24 for the record or field. The field is named by its number in
+/// document 01's table, wherever the file has it; a text's span lies where the
+/// text lies in the file.
 ///
 /// ```
-/// let at = vdv::At::new(1, 1, 1);
-/// assert_eq!(vdv::value(b"", at).unwrap_err().number, vdv::number::HEADER);
+/// let file = b"mod; DD.MM.YYYY; HH:MM:SS; free\n\
+///     src; \"\"; \"01.02.2024\"; \"06:00:00\"\n\
+///     chs; \"ASCII\"\nver; \"1\"\nifv; \"1.0\"\n\
+///     tbl; MENGE_BASIS_VERSIONEN\n\
+///     atr; BASIS_VERSION_TEXT; BASIS_VERSION\n\
+///     frm; char[40]; num[9.0]\n\
+///     rec; \"Winter\"; 7\n\
+///     end; 1\n";
+/// assert_eq!(vdv::value(file, vdv::At::new(1, 1, 1)), Ok(vdv::Value::Number(7)));
+/// let refusal = vdv::value(file, vdv::At::new(1, 1, 3)).unwrap_err();
+/// assert_eq!(refusal.number, vdv::number::NO_SUCH);
 /// ```
 pub fn value(file: &[u8], at: At) -> Result<Value, Refusal> {
     // SAFETY: as in `check`.
@@ -165,9 +176,10 @@ pub fn text(file: &[u8], at: At, out: &mut [u8]) -> Result<Copied, Refusal> {
     unless_refused(text, answer.refusal)
 }
 
-/// Every value of a section into lent cells, [`CELLS`] a value in the order of
-/// the records; [`value_in`] reads them back. Refused as its values are, then
-/// 21. Answers how many cells are written.
+/// Every value of a section into lent cells, [`CELLS`] a value, record after
+/// record, the values of each in the order of document 01's table whatever the
+/// file's; [`value_in`] reads them back. Refused as its values are, then 21.
+/// Answers how many cells are written.
 ///
 /// ```
 /// use vdv::{value_in, Value, CELLS};
@@ -202,9 +214,24 @@ pub fn table(file: &[u8], section: usize, cells: &mut [u64]) -> Result<usize, Re
     unless_refused(answer.length, answer.refusal)
 }
 
-/// The written form into lent room: the file's verdict, then 21.
+/// The written form into lent room: the file's verdict, then 21. Its columns
+/// stand in the order of document 01's tables, and its marks count so.
 ///
 /// ```
+/// let file = b"mod; DD.MM.YYYY; HH:MM:SS; free\n\
+///     src; \"Desk\"; \"01.02.2024\"; \"06:00:00\"\n\
+///     chs; \"ASCII\"\nver; \"1\"\nifv; \"1.0\"\n\
+///     tbl; MENGE_BASIS_VERSIONEN\n\
+///     atr; BASIS_VERSION_TEXT; BASIS_VERSION\n\
+///     frm; char[40]; num[9.0]\n\
+///     com; \"SUGGESTED 1\"\n\
+///     rec; \"Winter\"; 7\n\
+///     end; 1\n\
+///     eof; 1\n";
+/// let mut form = vec![0; 1024];
+/// let length = vdv::write(file, &mut form).unwrap();
+/// let lines = b"com; \"SUGGESTED 2\"\nrec; 7; \"Winter\"\nend; 1\neof; 1\n";
+/// assert!(form[..length].ends_with(lines));
 /// let mut out = [0; 64];
 /// assert_eq!(vdv::write(b"", &mut out).unwrap_err().number, vdv::number::HEADER);
 /// assert_eq!(out, [0; 64]);
@@ -218,7 +245,7 @@ pub fn write(file: &[u8], out: &mut [u8]) -> Result<usize, Refusal> {
 
 /// The written form with one more suggestion into lent room: the file's
 /// verdict, 24, 23, 22, for the text 11 if it is empty, 4, 13 if it is over 40
-/// bytes, then 21.
+/// bytes, then 21. The field is named as for [`value`].
 ///
 /// ```
 /// let file = b"mod; DD.MM.YYYY; HH:MM:SS; free\n\

@@ -30,7 +30,7 @@ numbers! {
     5 COMMAND "no `;`, or unknown command",
     6 ORDER "command out of its order, or section without `end`",
     7 UNKNOWN_TABLE "unknown table",
-    8 ATR "`atr` differs from the table's columns",
+    8 ATR "`atr` does not name each of the table's columns once",
     9 FRM "`frm` differs from the columns' kinds",
     10 FIELD_COUNT "wrong number of fields",
     11 NOT_A_TEXT "not a text",

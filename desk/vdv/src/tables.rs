@@ -1,4 +1,6 @@
-//! The eight tables of document 01, as the desk's tools know them.
+//! The eight tables of document 01, as the desk's tools know them. A column is
+//! named by its number here, from 1, as calls name it; in a file it stands where
+//! the section's `atr` has it.
 
 /// Range or size of a column's values.
 #[derive(Clone, Copy, Debug, PartialEq, Eq)]
@@ -20,16 +22,17 @@ pub struct Table {
     pub number: u32,
     pub name: &'static str,
     pub columns: &'static [Column],
-    /// Fields of the primary and of the second key, from 1.
+    /// Columns of the primary and of the second key.
     pub primary: &'static [usize],
     pub second: &'static [usize],
-    /// "Only these may be marked": the field, from 1.
+    /// "Only these may be marked": the column. A mark in a file has the number
+    /// of its place there.
     pub markable: Option<usize>,
     /// In the order of their numbers.
     pub references: &'static [Reference],
 }
 
-/// "References go to the named table's primary key": by these fields, from 1.
+/// "References go to the named table's primary key": by these columns.
 #[derive(Debug, PartialEq, Eq)]
 pub struct Reference {
     pub fields: &'static [usize],

@@ -2,7 +2,7 @@
 
 use std::path::Path;
 
-use vdv::{form_of, number, Refusal};
+use vdv::{form_of, number, tables, At, Refusal};
 
 use super::Work;
 use crate::advice::{self, Advice, Fate};
@@ -129,14 +129,36 @@ fn refuse(
         return work.outlets.print(&format_args!("{object}\n"));
     }
     refusals::tell(work.outlets, source, file, refusal);
-    if let Change::Fill(_, text) = change {
-        if refusal == Refusal::placeless(number::BYTE) {
-            let latin = vdv::header(file).is_ok_and(|header| header.latin);
-            let note = what_is_not_allowed(text, latin);
+    if let Change::Fill(at, text) = change {
+        if let Some(note) = explain_fill(file, *at, text, refusal) {
             work.outlets.note(&format_args!("       = {note}\n"));
         }
     }
     Ok(())
+}
+
+fn explain_fill(file: &[u8], at: At, text: &Argument, refusal: Refusal) -> Option<String> {
+    if refusal == Refusal::placeless(number::BYTE) {
+        let latin = vdv::header(file).is_ok_and(|header| header.latin);
+        return Some(what_is_not_allowed(text, latin));
+    }
+    match refusal.number {
+        number::MAY_NOT_FILL => what_may_be_filled(file, at),
+        _ => None,
+    }
+}
+
+/// "A fill goes on naming the column by its number in document 01's table",
+/// which need not be the one that its mark has in the file.
+fn what_may_be_filled(file: &[u8], at: At) -> Option<String> {
+    let table = tables::numbered(vdv::section(file, at.section).ok()?.table)?;
+    let name = |field: usize| Some(table.columns.get(field.checked_sub(1)?)?.name);
+    let (asked, field) = (name(at.field)?, at.field);
+    let may = match table.markable {
+        Some(field) => format!("only {field} may be filled, {}", name(field)?),
+        None => "none may be filled".to_owned(),
+    };
+    Some(format!("field {field} of {} is {asked}; {may}", table.name))
 }
 
 /// Which character of a text made it be refused by 4.

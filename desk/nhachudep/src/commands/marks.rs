@@ -20,6 +20,7 @@ use crate::trouble::{Outcome, Trouble};
 struct Sentence {
     key: Vec<u64>,
     record: usize,
+    /// The column's number in document 01's table.
     field: usize,
     /// The record's line in its section.
     line: usize,

@@ -30,6 +30,7 @@ damaged.x10: section 1, line 4: 11 not a text
      9 | rec; 7; 1; \"School day
        |            ^^^^^^^^^^^
        = its quotes do not pair: one is missing or too many
+       = TAGESART_TEXT stands here, a text of up to 40 bytes
 ";
 
 /// What a run put out, and its exit code.

@@ -74,7 +74,8 @@ pub fn double_header_line(random: &mut Random, page: &mut Page) {
     let places = page.places_of(random.pick(&COMMANDS));
     if let Some(place) = places.first() {
         let content = page.lines[*place].content.clone();
-        let behind = place + random.below(header_length(page) + 1 - place);
+        let last = header_length(page).max(*place);
+        let behind = place + random.below(last + 1 - place);
         page.insert(behind, &content);
     }
 }

@@ -22,13 +22,13 @@ const MALFORMED: [&[u8]; 13] = [
 fn mark(random: &mut Random) -> Vec<u8> {
     match random.below(3) {
         0 => random.pick(&MALFORMED).to_vec(),
-        1 => format!("com; \"SUGGESTED {}\"", random.between(2, 4)).into_bytes(),
+        1 => format!("com; \"SUGGESTED {}\"", random.between(1, 4)).into_bytes(),
         _ => format!("com;\"SUGGESTED {}\" ", random.below(12)).into_bytes(),
     }
 }
 
 /// Where marks stand now.
-fn places(page: &Page) -> Vec<usize> {
+pub(super) fn places(page: &Page) -> Vec<usize> {
     let is_mark = |line: &Line| {
         let fields = line.fields();
         line.command() == b"com"

@@ -2,6 +2,7 @@
 //! its bytes. Each piece is drawn; some do no harm.
 
 mod bytes;
+mod columns;
 mod header;
 mod lines;
 mod marks;
@@ -43,7 +44,7 @@ const fn to_bytes(name: &'static str, damage: fn(&mut Random, &mut Vec<u8>)) -> 
     Damage { name, level }
 }
 
-pub const ALL: [Damage; 40] = [
+pub const ALL: [Damage; 49] = [
     to_meaning("primary key repeated", meaning::repeat_primary_key),
     to_meaning("second key repeated", meaning::repeat_second_key),
     to_meaning("parent lost", meaning::lose_parent),
@@ -61,11 +62,23 @@ pub const ALL: [Damage; 40] = [
     to_lines("record of too few fields", sections::drop_field),
     to_lines("record of too many fields", sections::add_field),
     to_lines("odd field", sections::change_field),
+    to_lines("several odd fields", sections::change_several_fields),
     to_lines("end count wrong", sections::change_end),
     to_lines("end dropped", sections::drop_end),
     to_lines("record after end", sections::put_record_behind_end),
     to_lines("unknown table", sections::change_table_name),
-    to_lines("columns exchanged", sections::exchange_columns),
+    to_lines("column missing", columns::drop_name),
+    to_lines("column twice", columns::repeat_name),
+    to_lines("column unknown", columns::change_name),
+    to_lines("column too many", columns::add_name),
+    to_lines("columns exchanged", columns::exchange_names),
+    to_lines(
+        "formats of another order",
+        columns::arrange_formats_otherwise,
+    ),
+    to_lines("record of another order", columns::arrange_record_otherwise),
+    to_lines("mark numbered by column", columns::number_mark_by_column),
+    to_lines("mark of another place", columns::move_mark),
     to_lines("format changed", sections::change_format),
     to_lines("formats exchanged", sections::exchange_formats),
     to_lines("mark misplaced", marks::put_mark_anywhere),

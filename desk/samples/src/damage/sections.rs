@@ -108,11 +108,22 @@ pub fn add_field(random: &mut Random, page: &mut Page) {
 }
 
 pub fn change_field(random: &mut Random, page: &mut Page) {
-    let odd = random.pick(&ODD_FIELDS).to_vec();
+    change_fields(random, page, 1);
+}
+
+/// Several fields of one record, of which the first from the left counts.
+pub fn change_several_fields(random: &mut Random, page: &mut Page) {
+    let count = 2 + random.below(3);
+    change_fields(random, page, count);
+}
+
+fn change_fields(random: &mut Random, page: &mut Page, count: usize) {
     if let Some(line) = pick_line(random, page, "rec") {
         let mut fields = line.fields();
-        let place = random.below(fields.len());
-        fields[place] = odd;
+        for _ in 0..count {
+            let place = random.below(fields.len());
+            fields[place] = random.pick(&ODD_FIELDS).to_vec();
+        }
         line.set_fields(&fields);
     }
 }
@@ -159,16 +170,8 @@ pub fn change_table_name(random: &mut Random, page: &mut Page) {
     }
 }
 
-pub fn exchange_columns(random: &mut Random, page: &mut Page) {
-    exchange_fields(random, page, "atr");
-}
-
 pub fn exchange_formats(random: &mut Random, page: &mut Page) {
-    exchange_fields(random, page, "frm");
-}
-
-fn exchange_fields(random: &mut Random, page: &mut Page, command: &str) {
-    if let Some(line) = pick_line(random, page, command) {
+    if let Some(line) = pick_line(random, page, "frm") {
         let mut fields = line.fields();
         let [one, other] = [(); 2].map(|()| random.below(fields.len()));
         fields.swap(one, other);

@@ -5,7 +5,6 @@ use Rattle.page.specs.Answers.{refusal, sound, refuse-if}
 use Rattle.page.specs.Reading.{section-at}
 use Rattle.page.specs.Handing.{cellsOf, cells-refusal}
 use Rattle.page.proofs.TableLaws.{width-le}
-use Rattle.tables.proofs.OrderLaws.{listed-stands}
 use Rattle.output.proofs.PutLaws.{put-as, put-same}
 use Rattle.values.proofs.ValueLaws.{row-is}
 use Rattle.cells.proofs.AnswerLaws.{table-refused, table-given, table-unsound, table-sound, cells-few, end-within, cells-counted, cells-all}
@@ -93,24 +92,50 @@ add-e c =
     let i = end-within s (a .section) (a .at) b (x .result) q v (t .result) e (t .ensures) refl in
     omega (arith, i .0, b .short)
 
-list-columns-requires : tie.Need-list-columns-requires
-list-columns-requires c κs = search needs
+sub-find-order : tie.Need-sub-find-order
+sub-find-order c =
+    let a = c .before .before .before .before .before .before .before .before .before .before .before .args in
+    let s = a .file .now in
+    let x = c .before .before .before .before .before .before .before .read-section in
+    let b = c .before .before .before .before .before .before .before .before .before .before .before .pre in
+    let q = row-is s (a .at) _ _ (c .before .before .before .before .before .before .before .before .read-charset .ensures) (x .ensures) in
+    let t = c .before .before .before .before .table-at in
+    let v = c .before .before .before .before .before .if1 .left in
+    let e = a .at + x .result .length in
+    let i = end-within s (a .section) (a .at) b (x .result) q v (t .result) e (t .ensures) refl in
+    search needs
+
+part-find-order-start : tie.Need-part-find-order-start
+part-find-order-start c =
+    let a = c .before .before .before .before .before .before .before .before .before .before .before .args in
+    let s = a .file .now in
+    let x = c .before .before .before .before .before .before .before .read-section in
+    let b = c .before .before .before .before .before .before .before .before .before .before .before .pre in
+    let q = row-is s (a .at) _ _ (c .before .before .before .before .before .before .before .before .read-charset .ensures) (x .ensures) in
+    let t = c .before .before .before .before .table-at in
+    let v = c .before .before .before .before .before .if1 .left in
+    let e = a .at + x .result .length in
+    let i = end-within s (a .section) (a .at) b (x .result) q v (t .result) e (t .ensures) refl in
+    search needs
+
+part-find-order-end : tie.Need-part-find-order-end
+part-find-order-end c =
+    let a = c .before .before .before .before .before .before .before .before .before .before .before .args in
+    let s = a .file .now in
+    let x = c .before .before .before .before .before .before .before .read-section in
+    let b = c .before .before .before .before .before .before .before .before .before .before .before .pre in
+    let q = row-is s (a .at) _ _ (c .before .before .before .before .before .before .before .before .read-charset .ensures) (x .ensures) in
+    let t = c .before .before .before .before .table-at in
+    let v = c .before .before .before .before .before .if1 .left in
+    let e = a .at + x .result .length in
+    let i = end-within s (a .section) (a .at) b (x .result) q v (t .result) e (t .ensures) refl in
+    search needs
+
+find-order-requires : tie.Need-find-order-requires
+find-order-requires c κs = search needs
 
 slice-aggregate-put-records : tie.Need-slice-aggregate-put-records
 slice-aggregate-put-records c =
-    let a = c .before .before .before .before .before .before .before .before .before .before .before .before .before .before .args in
-    let s = a .file .now in
-    let x = c .before .before .before .before .before .before .before .before .before .before .read-section in
-    let b = c .before .before .before .before .before .before .before .before .before .before .before .before .before .before .pre in
-    let q = row-is s (a .at) _ _ (c .before .before .before .before .before .before .before .before .before .before .before .read-charset .ensures) (x .ensures) in
-    let t = c .before .before .before .before .before .before .before .table-at in
-    let v = c .before .before .before .before .before .before .before .before .if1 .left in
-    let e = a .at + x .result .length in
-    let i = end-within s (a .section) (a .at) b (x .result) q v (t .result) e (t .ensures) refl in
-    sym (length-take-le _ _ (i .0))
-
-put-records-requires : tie.Need-put-records-requires
-put-records-requires c κs =
     let a = c .before .before .before .before .before .before .before .before .before .before .before .before .before .before .before .args in
     let s = a .file .now in
     let x = c .before .before .before .before .before .before .before .before .before .before .before .read-section in
@@ -120,16 +145,29 @@ put-records-requires c κs =
     let v = c .before .before .before .before .before .before .before .before .before .if1 .left in
     let e = a .at + x .result .length in
     let i = end-within s (a .section) (a .at) b (x .result) q v (t .result) e (t .ensures) refl in
-    let n = c .before .before .before .before .before .before .before .find-width .result * 3 in
-    let w : n ≡ width (t .result) * 3 = ap (λ (k : ℕ). k * 3) (c .before .before .before .before .before .before .before .find-width .ensures) in
+    sym (length-take-le _ _ (i .0))
+
+put-records-requires : tie.Need-put-records-requires
+put-records-requires c κs =
+    let a = c .before .before .before .before .before .before .before .before .before .before .before .before .before .before .before .before .args in
+    let s = a .file .now in
+    let x = c .before .before .before .before .before .before .before .before .before .before .before .before .read-section in
+    let b = c .before .before .before .before .before .before .before .before .before .before .before .before .before .before .before .before .pre in
+    let q = row-is s (a .at) _ _ (c .before .before .before .before .before .before .before .before .before .before .before .before .before .read-charset .ensures) (x .ensures) in
+    let t = c .before .before .before .before .before .before .before .before .before .table-at in
+    let v = c .before .before .before .before .before .before .before .before .before .before .if1 .left in
+    let e = a .at + x .result .length in
+    let i = end-within s (a .section) (a .at) b (x .result) q v (t .result) e (t .ensures) refl in
+    let n = c .before .before .before .before .before .before .before .before .find-width .result * 3 in
+    let w : n ≡ width (t .result) * 3 = ap (λ (k : ℕ). k * 3) (c .before .before .before .before .before .before .before .before .find-width .ensures) in
     let m = cells-counted s (a .section) (a .at) b (x .result) q v (t .result) e (t .ensures) refl n w in
-    let o = c .before .before .before .list-columns in
+    let o = c .before .before .before .find-order in
     let d = cells-all s (a .section) (a .at) b (x .result) q v (t .result) e (t .ensures) refl (o .result) (o .ensures) in
     let k = length-take-le e s (i .0) in (
       rw k (i .1),
       rw k (omega (arith, i .0, b .short)),
-      rw (o .ensures) (listed-stands (t .result)),
-      rw d (omega (arith, m, c .before .before .before .before .before .if2 .left)),
+      o .ensures .stands,
+      rw d (omega (arith, m, c .before .before .before .before .before .before .if2 .left)),
     )
 
 same-length : tie.Need-same-length
@@ -138,21 +176,21 @@ same-length c = put-same (c .before .before .put-records .ensures)
 returns-3 : tie.Need-returns-3
 unfolding refuse-if
 returns-3 c =
-    let a = c .before .before .before .before .before .before .before .before .before .before .before .before .before .before .before .before .before .before .args in
+    let a = c .before .before .before .before .before .before .before .before .before .before .before .before .before .before .before .before .before .before .before .args in
     let s = a .file .now in
-    let x = c .before .before .before .before .before .before .before .before .before .before .before .before .before .before .read-section in
-    let b = c .before .before .before .before .before .before .before .before .before .before .before .before .before .before .before .before .before .before .pre in
-    let q = row-is s (a .at) _ _ (c .before .before .before .before .before .before .before .before .before .before .before .before .before .before .before .read-charset .ensures) (x .ensures) in
-    let t = c .before .before .before .before .before .before .before .before .before .before .before .table-at in
-    let v = c .before .before .before .before .before .before .before .before .before .before .before .before .if1 .left in
+    let x = c .before .before .before .before .before .before .before .before .before .before .before .before .before .before .before .read-section in
+    let b = c .before .before .before .before .before .before .before .before .before .before .before .before .before .before .before .before .before .before .before .pre in
+    let q = row-is s (a .at) _ _ (c .before .before .before .before .before .before .before .before .before .before .before .before .before .before .before .before .read-charset .ensures) (x .ensures) in
+    let t = c .before .before .before .before .before .before .before .before .before .before .before .before .table-at in
+    let v = c .before .before .before .before .before .before .before .before .before .before .before .before .before .if1 .left in
     let e = a .at + x .result .length in
     let i = end-within s (a .section) (a .at) b (x .result) q v (t .result) e (t .ensures) refl in
-    let n = c .before .before .before .before .before .before .before .before .before .before .find-width .result * 3 in
-    let w : n ≡ width (t .result) * 3 = ap (λ (k : ℕ). k * 3) (c .before .before .before .before .before .before .before .before .before .before .find-width .ensures) in
+    let n = c .before .before .before .before .before .before .before .before .before .before .before .find-width .result * 3 in
+    let w : n ≡ width (t .result) * 3 = ap (λ (k : ℕ). k * 3) (c .before .before .before .before .before .before .before .before .before .before .before .find-width .ensures) in
     let m = cells-counted s (a .section) (a .at) b (x .result) q v (t .result) e (t .ensures) refl n w in
-    let o = c .before .before .before .before .before .before .list-columns in
+    let o = c .before .before .before .before .before .before .find-order in
     let d = cells-all s (a .section) (a .at) b (x .result) q v (t .result) e (t .ensures) refl (o .result) (o .ensures) in
-    let h : length (cellsOf (section-at s (a .section))) ≤ length (a .cells .now) = omega (arith, m, c .before .before .before .before .before .before .before .before .if2 .left) in
+    let h : length (cellsOf (section-at s (a .section))) ≤ length (a .cells .now) = omega (arith, m, c .before .before .before .before .before .before .before .before .before .if2 .left) in
     let f : cells-refusal s (a .section) (length (a .cells .now)) ≡ sound =
     table-sound s (a .section) (a .at) b (x .result) q v (length (a .cells .now))
     ∙ ap (λ (y : Bool). refuse-if y 21) (le-ltb (length (a .cells .now)) (length (cellsOf (section-at s (a .section)))) h) in
@@ -172,7 +210,10 @@ hand-table-spec =
     refuse-with-requires
     returns-2
     add-e
-    list-columns-requires
+    sub-find-order
+    part-find-order-start
+    part-find-order-end
+    find-order-requires
     slice-aggregate-put-records
     put-records-requires
     same-length

@@ -1,23 +1,15 @@
 -- `machine::machine::step_atr` meets its contract. Assumes nothing.
-use Prim.Native.Nat.{_-_}
-use mathlib.Core.Path.{sym, _∙_}
-use borrow.Author.Needs.{needs}
-use Rattle.page.specs.Section.{atr-step, choose}
+use Rattle.page.specs.Section.{choose}
 use Rattle.machine.proofs.machine.step_atr.Statement.{statement}
 use Rattle.machine.proofs.machine.step_atr.Tie as tie
 
-names-match-requires : tie.Need-names-match-requires
-names-match-requires c κs = search needs
-
 returns : tie.Need-returns
-unfolding atr-step choose
-returns c =
-    rw (sym (c .before .names-match .ensures) ∙ c .if1 .taken)
+unfolding choose
+returns c = rw (c .if1 .taken)
 
 returns-2 : tie.Need-returns-2
-unfolding atr-step choose
-returns-2 c =
-    rw (sym (c .before .names-match .ensures) ∙ c .if1 .left)
+unfolding choose
+returns-2 c = rw (c .if1 .left)
 
 pub step-atr-spec : {M : Type 1} → statement M
-step-atr-spec = tie.close (tie.spec names-match-requires returns returns-2)
+step-atr-spec = tie.close (tie.spec returns returns-2)

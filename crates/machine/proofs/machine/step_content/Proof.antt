@@ -47,7 +47,9 @@ returns-4 c =
     rw (sym (c .before .before .before .before .before .before .before .before .before .command-of .ensures), sym (c .before .before .before .before .before .before .before .before .is-wide .ensures), sym (c .before .before .before .before .before .before .before .all-allowed .ensures) ∙ not-false _ (c .before .before .before .before .before .before .if1 .left), sym (c .before .before .before .before .before .is-blank .ensures) ∙ c .before .before .before .before .if2 .left, lt-leb 15 (c .before .before .before .before .before .before .before .before .before .command-of .result) (c .before .before .before .if3 .left), sym (c .before .before .rest-of .ensures), eq-eqb (c .before .before .before .before .before .before .before .before .before .command-of .result) 13 (c .before .if4 .taken)) (c .step-com .ensures)
 
 step-line-requires : tie.Need-step-line-requires
-step-line-requires c κs = search needs
+step-line-requires c κs =
+    let y = c .before .before .before .before .before .before .before .before .before .before .pre in
+    (y .0, y .1, rw (c .before .rest-of .ensures) (y .2))
 
 returns-5 : tie.Need-returns-5
 unfolding content-step clean choose

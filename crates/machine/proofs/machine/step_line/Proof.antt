@@ -1,14 +1,10 @@
 -- `machine::machine::step_line` meets its contract. Assumes nothing.
 use Prim.Native.Nat.{_-_}
+use mathlib.Core.Path.{sym}
 use borrow.Author.Tests.{eq-eqb, ne-eqb}
 use borrow.Author.Needs.{needs}
-use Rattle.page.specs.Section.{line-step, choose, frm-step}
-use Rattle.machine.specs.Counts.{records-in}
-use Rattle.page.specs.Fields.{fields}
-use Rattle.page.specs.Order.{Order, listed-order}
-use Rattle.tables.specs.Orders.{held}
-use Rattle.tables.proofs.OrderLaws.{listed-held, listed-orderly}
-use mathlib.Core.Path.{_≡_, ap, _∙_}
+use Rattle.page.specs.Section.{line-step, atr-step, choose}
+use Rattle.machine.specs.Carries.{records-in, order-at, Carries, Found}
 use Rattle.machine.proofs.machine.step_line.Statement.{statement}
 use Rattle.machine.proofs.machine.step_line.Tie as tie
 
@@ -30,34 +26,32 @@ step-atr-requires : tie.Need-step-atr-requires
 step-atr-requires c κs = search needs
 
 returns-2 : tie.Need-returns-2
-unfolding line-step choose
+unfolding line-step atr-step choose Found
 returns-2 c =
-    rw (c .before .before .before .p .given .1, eq-eqb (c .before .before .before .before .before .before .args .k) 9 (c .before .if2 .taken)) (c .step-atr .ensures)
+    let f = rw (c .before .before .before .p .given .1) at (c .before .before .before .before .before .before .pre .2) in
+    rw (c .before .before .before .p .given .1, eq-eqb (c .before .before .before .before .before .before .args .k) 9 (c .before .if2 .taken), sym f) (c .step-atr .ensures)
 
 enum-known-p-2 : tie.Need-enum-known-p-2
 enum-known-p-2 c = search needs
 
-list-columns-requires : tie.Need-list-columns-requires
-list-columns-requires c κs = search needs
-
 step-frm-requires : tie.Need-step-frm-requires
-step-frm-requires c κs = rw (c .before .list-columns .ensures) listed-orderly
+unfolding Carries
+step-frm-requires c κs = let x = rw (c .before .before .p2 .given .1) at (c .before .before .before .before .before .pre .0) in x .orderly
 
 returns-3 : tie.Need-returns-3
-unfolding line-step choose
+unfolding line-step order-at choose
 returns-3 c =
-    let t = c .before .before .before .before .before .p2 .given .0 .0 in
-    let a = c .before .before .before .before .before .before .before .before .args in
-    let e : held t (c .before .before .list-columns .result) ≡ listed-order t = ap (held t) (c .before .before .list-columns .ensures) ∙ listed-held t in
-    rw (c .before .before .before .before .before .p2 .given .1, eq-eqb (a .k) 10 (c .before .before .before .if3 .taken)) (c .step-frm .ensures ∙ ap (λ (o : Order). frm-step t o (fields (a .w .now))) e)
+    rw (c .before .before .before .p2 .given .1, eq-eqb (c .before .before .before .before .before .before .args .k) 10 (c .before .if3 .taken)) (c .step-frm .ensures)
 
 enum-known-p-3 : tie.Need-enum-known-p-3
 enum-known-p-3 c = search needs
 
 step-rows-requires : tie.Need-step-rows-requires
-unfolding records-in
+unfolding records-in Carries
 step-rows-requires c κs =
-    rw (c .before .p3 .given .1) at (c .before .before .before .before .pre)
+    let x = rw (c .before .p3 .given .1) at (c .before .before .before .before .pre .0) in
+    let y = rw (c .before .p3 .given .1) at (c .before .before .before .before .pre .1) in
+    (x, y)
 
 enum-told-2 : tie.Need-enum-told-2
 enum-told-2 c = search needs
@@ -78,6 +72,7 @@ returns-6 c =
     rw (c .before .before .p2 .given .1, ne-eqb (c .before .before .before .before .before .args .k) 10 (c .if3 .left))
 
 returns-7 : tie.Need-returns-7
+unfolding order-at
 returns-7 c =
     rw (c .before .before .p3 .given .1) (c .step-rows .ensures)
 
@@ -97,7 +92,6 @@ step-line-spec =
     step-atr-requires
     returns-2
     enum-known-p-2
-    list-columns-requires
     step-frm-requires
     returns-3
     enum-known-p-3

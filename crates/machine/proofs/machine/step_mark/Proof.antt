@@ -1,12 +1,10 @@
 -- `machine::machine::step_mark` meets its contract. Assumes nothing.
 use Prim.Native.Nat.{_-_}
-use mathlib.Core.Path.{sym, _∙_, _≡_, ap}
+use mathlib.Core.Path.{sym, _∙_}
 use borrow.Author.Tests.{not-true, not-false, lt-ltb, le-ltb}
 use borrow.Author.Needs.{needs}
 use Rattle.page.specs.Section.{mark-step, choose}
-use Rattle.page.specs.Order.{listed-order}
-use Rattle.tables.specs.Orders.{held}
-use Rattle.tables.proofs.OrderLaws.{listed-held, listed-orderly}
+use Rattle.machine.specs.Carries.{order-at, Carries}
 use Rattle.machine.proofs.machine.step_mark.Statement.{statement}
 use Rattle.machine.proofs.machine.step_mark.Tie as tie
 
@@ -22,25 +20,18 @@ enum-told-3 c = search needs
 enum-known-p : tie.Need-enum-known-p
 enum-known-p c = search needs
 
-list-columns-requires : tie.Need-list-columns-requires
-list-columns-requires c κs = search needs
-
 may-mark-requires : tie.Need-may-mark-requires
-may-mark-requires c κs = rw (c .before .list-columns .ensures) listed-orderly
+unfolding Carries
+may-mark-requires c κs = let x = rw (c .before .p .given .1) at (c .before .before .before .pre) in x .orderly
 
 returns : tie.Need-returns
-unfolding mark-step choose
-returns c =
-    let t = c .before .before .before .before .before .p .given .0 .0 in
-    let e : held t (c .before .before .before .list-columns .result) ≡ listed-order t = ap (held t) (c .before .before .before .list-columns .ensures) ∙ listed-held t in
-    rw (c .before .before .before .before .before .p .given .1, sym e, sym (c .before .may-mark .ensures) ∙ not-true _ (c .if1 .taken))
+unfolding mark-step order-at choose
+returns c = rw (c .before .before .before .p .given .1, sym (c .before .may-mark .ensures) ∙ not-true _ (c .if1 .taken))
 
 returns-2 : tie.Need-returns-2
-unfolding mark-step choose
+unfolding mark-step order-at choose
 returns-2 c =
-    let t = c .before .before .before .before .before .before .p .given .0 .0 in
-    let e : held t (c .before .before .before .before .list-columns .result) ≡ listed-order t = ap (held t) (c .before .before .before .before .list-columns .ensures) ∙ listed-held t in
-    rw (c .before .before .before .before .before .before .p .given .1, sym e, sym (c .before .before .may-mark .ensures) ∙ not-false _ (c .before .if1 .left), lt-ltb (c .before .before .before .before .before .before .p .given .0 .1 .0) (c .before .before .before .before .before .before .before .before .args .i) (c .if2 .taken))
+    rw (c .before .before .before .before .p .given .1, sym (c .before .before .may-mark .ensures) ∙ not-false _ (c .before .if1 .left), lt-ltb (c .before .before .before .before .p .given .0 .1 .0) (c .before .before .before .before .before .before .args .i) (c .if2 .taken))
 
 enum-told-4 : tie.Need-enum-told-4
 enum-told-4 c = search needs
@@ -61,11 +52,9 @@ returns-5 c =
     rw (c .enum-told3 .given .1)
 
 returns-6 : tie.Need-returns-6
-unfolding mark-step choose
+unfolding mark-step order-at choose
 returns-6 c =
-    let t = c .before .before .before .before .before .before .p .given .0 .0 in
-    let e : held t (c .before .before .before .before .list-columns .result) ≡ listed-order t = ap (held t) (c .before .before .before .before .list-columns .ensures) ∙ listed-held t in
-    rw (c .before .before .before .before .before .before .p .given .1, sym e, sym (c .before .before .may-mark .ensures) ∙ not-false _ (c .before .if1 .left), le-ltb (c .before .before .before .before .before .before .p .given .0 .1 .0) (c .before .before .before .before .before .before .before .before .args .i) (c .if2 .left))
+    rw (c .before .before .before .before .p .given .1, sym (c .before .before .may-mark .ensures) ∙ not-false _ (c .before .if1 .left), le-ltb (c .before .before .before .before .p .given .0 .1 .0) (c .before .before .before .before .before .before .args .i) (c .if2 .left))
 
 returns-7 : tie.Need-returns-7
 unfolding mark-step
@@ -80,7 +69,6 @@ step-mark-spec =
     enum-told-2
     enum-told-3
     enum-known-p
-    list-columns-requires
     may-mark-requires
     returns
     returns-2

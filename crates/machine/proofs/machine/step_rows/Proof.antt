@@ -2,28 +2,16 @@
 use Prim.Native.Nat.{_-_}
 use borrow.Author.Tests.{eq-eqb, ne-eqb}
 use borrow.Author.Needs.{needs}
-use Rattle.page.specs.Section.{line-step, choose, rec-step}
-use Rattle.page.specs.Fields.{fields}
-use Rattle.page.specs.Order.{Order, listed-order}
-use Rattle.tables.specs.Orders.{held}
-use Rattle.tables.proofs.OrderLaws.{listed-held, listed-stands}
-use mathlib.Core.Path.{_≡_, ap, _∙_}
+use Rattle.page.specs.Section.{line-step, choose}
 use Rattle.machine.proofs.machine.step_rows.Statement.{statement}
 use Rattle.machine.proofs.machine.step_rows.Tie as tie
 
-list-columns-requires : tie.Need-list-columns-requires
-list-columns-requires c κs = search needs
-
 step-rec-requires : tie.Need-step-rec-requires
-step-rec-requires c κs =
-    (rw (c .before .list-columns .ensures) (listed-stands (c .before .before .before .before .args .t)), c .before .before .before .before .pre)
+step-rec-requires c κs = search needs
 
 returns : tie.Need-returns
 unfolding line-step choose
-returns c =
-    let a = c .before .before .before .before .before .args in
-    let e : held (a .t) (c .before .before .list-columns .result) ≡ listed-order (a .t) = ap (held (a .t)) (c .before .before .list-columns .ensures) ∙ listed-held (a .t) in
-    rw (eq-eqb (a .k) 11 (c .before .before .before .if1 .taken)) (c .step-rec .ensures ∙ ap (λ (o : Order). rec-step (a .t) o (a .m) (a .n) (fields (a .w .now))) e)
+returns c = rw (eq-eqb (c .before .before .before .args .k) 11 (c .before .if1 .taken)) (c .step-rec .ensures)
 
 step-end-requires : tie.Need-step-end-requires
 step-end-requires c κs = search needs
@@ -42,7 +30,6 @@ pub step-rows-spec : {M : Type 1} → statement M
 step-rows-spec =
     tie.close
     (tie.spec
-    list-columns-requires
     step-rec-requires
     returns
     step-end-requires

@@ -1,9 +1,7 @@
 use borrow.Author.Needs.{needs}
-use mathlib.Core.Path.{sym, _∙_}
 use mathlib.Core.Bool.{false≢true}
-use borrow.Author.Tests.{eqb-true, not-false}
-use lib.Dec.{eqb}
-use Rattle.page.proofs.TestLaws.{and-left, and-right}
+use borrow.Author.Tests.{not-false}
+use Rattle.copies.proofs.StandLaws.{plain-none}
 use Rattle.records.proofs.record.is_kept.Statement.{statement}
 use Rattle.records.proofs.record.is_kept.Tie as tie
 
@@ -19,8 +17,9 @@ all-written-requires c κs = search needs
 returns-2 : tie.Need-returns-2
 returns-2 c =
     let a = c .before .before .before .before .before .args in
-    let z = sym (c .before .before .is-plain .ensures) ∙ c .before .if2 .taken in
-    λ e. (not-false _ (c .before .before .before .if1 .left), eqb-true (a .m) 0 (and-left (eqb (a .m) 0) (eqb (a .plan .field) 0) z), eqb-true (a .plan .field) 0 (and-right (eqb (a .m) 0) (eqb (a .plan .field) 0) z), c .all-written .ensures e)
+    let p = c .before .before .is-plain in
+    let z = plain-none (a .plan .field) (a .m) (p .result) (p .ensures) (c .before .if2 .taken) in
+    λ e. (not-false _ (c .before .before .before .if1 .left), z .0, z .1, c .all-written .ensures e)
 
 returns-3 : tie.Need-returns-3
 returns-3 c = λ e. absurd (false≢true e)

@@ -88,9 +88,9 @@ put-bytes-requires-2 c κs =
     let room = rw (sym (i .ensures)) at (q .0) in
     omega (arith, room, c .before .before .before .before .put-marks .ensures .next)
 
-put-fields-requires : tie.Need-put-fields-requires
+put-values-requires : tie.Need-put-values-requires
 unfolding record-by
-put-fields-requires c κs =
+put-values-requires c κs =
     let a = c .before .before .before .before .before .before .before .before .before .before .before .before .before .before .before .before .args in
     let q = c .before .before .before .before .before .before .before .before .before .before .before .before .before .before .before .before .pre in
     let w = a .w .now in
@@ -112,7 +112,7 @@ put-line-end-requires c κs =
     let e = columns-many (a .t) o (fields w) (q .2 .arranged) in
     let n = record-length (a .plan .ends) (a .plan .strip) (a .plan .field) (i .result) (a .text .now) (columns (a .t)) (by-column o (fields w)) e in
     let room = rw (sym (i .ensures)) at (q .0) in
-    omega (arith, room, c .before .before .before .before .before .before .before .before .before .before .before .before .put-marks .ensures .next, c .before .before .before .before .before .before .before .put-bytes2 .ensures .next, c .before .before .before .put-fields .ensures .next)
+    omega (arith, room, c .before .before .before .before .before .before .before .before .before .before .before .before .put-marks .ensures .next, c .before .before .before .before .before .before .before .put-bytes2 .ensures .next, c .before .before .before .put-values .ensures .next)
 
 same-length-2 : tie.Need-same-length-2
 same-length-2 c = search needs
@@ -128,7 +128,7 @@ returns-2 c =
     let e = columns-many (a .t) o (fields w) (q .2 .arranged) in
     let r = record-is (a .plan .ends) (a .plan .strip) (a .plan .field) (i .result) (a .text .now) (columns (a .t)) (by-column o (fields w)) e in
     let s = ap (λ (j : ℕ). record-form (a .plan .ends) (changed-values (a .plan .strip) (a .plan .field) (a .text .now) (valuesOf j 1 (columns (a .t)) (by-column o (fields w))))) (i .ensures) in
-    put-as (r ∙ s) (puts (c .before .before .before .before .before .before .before .before .before .before .before .before .before .before .before .put-marks .ensures) (puts (c .before .before .before .before .before .before .before .before .before .before .put-bytes2 .ensures) (puts (c .before .before .before .before .before .before .put-fields .ensures) (c .before .before .put-line-end .ensures))))
+    put-as (r ∙ s) (puts (c .before .before .before .before .before .before .before .before .before .before .before .before .before .before .before .put-marks .ensures) (puts (c .before .before .before .before .before .before .before .before .before .before .put-bytes2 .ensures) (puts (c .before .before .before .before .before .before .put-values .ensures) (c .before .before .put-line-end .ensures))))
 
 pub put-record-spec : {M : Type 1} → statement M
 put-record-spec =
@@ -144,7 +144,7 @@ put-record-spec =
     put-marks-requires
     slice-aggregate-put-bytes-2
     put-bytes-requires-2
-    put-fields-requires
+    put-values-requires
     put-line-end-requires
     same-length-2
     returns-2)

@@ -7,11 +7,11 @@ use Rattle.tables.proofs.WordLaws.{starts, starts-from, reads-word, no-
 use Rattle.tables.proofs.names.find_word.Statement.{statement}
 use Rattle.tables.proofs.names.find_word.Tie as tie
 
-mul-t4 : tie.Need-mul-t4
-mul-t4 c = search needs
+mul-t5 : tie.Need-mul-t5
+mul-t5 c = search needs
 
-array-read-t7 : tie.Need-array-read-t7
-array-read-t7 c = search needs
+array-read-t8 : tie.Need-array-read-t8
+array-read-t8 c = search needs
 
 add-t9 : tie.Need-add-t9
 add-t9 c = search needs
@@ -31,4 +31,4 @@ returns-2 c = no-word (c .before .args .n) (c .if1 .left)
 
 pub find-word-spec : {M : Type 1} → statement M
 find-word-spec =
-    tie.close (tie.spec mul-t4 array-read-t7 add-t9 mul-t10 array-read-t13 returns returns-2)
+    tie.close (tie.spec mul-t5 array-read-t8 add-t9 mul-t10 array-read-t13 returns returns-2)

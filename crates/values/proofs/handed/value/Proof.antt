@@ -15,7 +15,7 @@ enum-known-at c = search needs
 value-at-requires : tie.Need-value-at-requires
 value-at-requires c κs =
     let b = rw (c .before .at .given .1) at (c .before .before .before .locate .ensures .1) in
-    (b .inside, b .short)
+    (b .inside, b .short, b .settled)
 
 enum-known-x : tie.Need-enum-known-x
 enum-known-x c = search needs

@@ -10,8 +10,7 @@ use Rattle.page.specs.Reading.{outside}
 use Rattle.page.specs.Records.{table-of}
 use Rattle.page.specs.Lines.{lines}
 use Rattle.page.specs.Tables.{width}
-use Rattle.tables.proofs.OrderLaws.{listed-orderly}
-use Rattle.values.proofs.ValueLaws.{Ready, row-is, value-unsound, value-outside, value-inside, ready, outside-left, outside-right}
+use Rattle.values.proofs.ValueLaws.{Ready, row-is, order-from, value-unsound, value-outside, value-inside, ready, outside-left, outside-right}
 use Rattle.cut.specs.Walk.{section-from}
 use Rattle.values.proofs.handed.value_at.Statement.{statement}
 use Rattle.values.proofs.handed.value_at.Tie as tie
@@ -77,32 +76,44 @@ there c =
 add-e : tie.Need-add-e
 add-e c = let d = there c in search needs
 
-list-columns-requires : tie.Need-list-columns-requires
-list-columns-requires c κs = search needs
+sub-find-order : tie.Need-sub-find-order
+sub-find-order c = let d = there c in search needs
+
+part-find-order-start : tie.Need-part-find-order-start
+part-find-order-start c = let d = there c in search needs
+
+part-find-order-end : tie.Need-part-find-order-end
+part-find-order-end c = let d = there c in search needs
+
+find-order-requires : tie.Need-find-order-requires
+find-order-requires c κs = search needs
 
 slice-aggregate-seek-value : tie.Need-slice-aggregate-seek-value
-slice-aggregate-seek-value c = sym (length-take-le _ _ (there (c .before .before) .within))
+slice-aggregate-seek-value c = sym (length-take-le _ _ (there (c .before .before .before) .within))
 
 sub-seek-value : tie.Need-sub-seek-value
-sub-seek-value c = let d = there (c .before .before .before) in search needs
+sub-seek-value c = let d = there (c .before .before .before .before) in search needs
 
 seek-value-requires : tie.Need-seek-value-requires
 seek-value-requires c κs =
-    let d = there (c .before .before .before) in
-    let k = length-take-le _ (c .before .before .before .before .before .before .before .before .before .before .before .before .before .before .before .args .file .now) (d .within) in
-    (rw k (d .start), rw k (omega (arith, c .before .before .before .before .before .before .before .before .before .before .before .before .before .before .before .pre .1, d .within)), rw (c .before .before .list-columns .ensures) listed-orderly, d .column-in)
+    let d = there (c .before .before .before .before) in
+    let k = length-take-le _ (c .before .before .before .before .before .before .before .before .before .before .before .before .before .before .before .before .args .file .now) (d .within) in
+    (rw k (d .start), rw k (omega (arith, c .before .before .before .before .before .before .before .before .before .before .before .before .before .before .before .before .pre .1, d .within)), c .before .before .find-order .ensures .stands .orderly, d .column-in)
 
 returns-4 : tie.Need-returns-4
 returns-4 c =
-    let a = c .before .before .before .before .before .before .before .before .before .before .before .before .before .before .before .before .args in
-    let x = c .before .before .before .before .before .before .before .before .before .before .before .before .before .read-section in
-    let t = c .before .before .before .before .before .before .before .before .table-at .ensures in
-    let q = row-is (a .file .now) (a .at) _ _ (c .before .before .before .before .before .before .before .before .before .before .before .before .before .before .read-charset .ensures) (x .ensures) in
-    let w : width (table-of (section-from (a .file .now) (a .at) .lines)) ≡ c .before .before .before .before .before .before .before .find-width .result = ap width (sym t) ∙ sym (c .before .before .before .before .before .before .before .find-width .ensures) in
-    let m : outside (a .r) (x .result .records) ≡ false = sym (c .before .before .before .before .before .before .before .before .before .before .is-outside .ensures) ∙ c .before .before .before .before .before .before .before .before .before .if2 .left in
-    let n : outside (a .f) (width (table-of (section-from (a .file .now) (a .at) .lines))) ≡ false = rw w (sym (c .before .before .before .before .before .before .is-outside2 .ensures) ∙ c .before .before .before .before .before .if3 .left) in
-    let d = there (c .before .before .before .before) in
-    value-inside (a .file .now) (a .i) (a .at) (a .r) (a .f) (x .result) q (c .before .before .before .before .before .before .before .before .before .before .before .if1 .left) _ m n (rw (sym t, sym (d .same-lines), sym (c .before .before .before .list-columns .ensures)) (c .seek-value .ensures))
+    let a = c .before .before .before .before .before .before .before .before .before .before .before .before .before .before .before .before .before .args in
+    let y = c .before .before .before .before .before .before .before .before .before .before .before .before .before .before .before .before .before .pre in
+    let x = c .before .before .before .before .before .before .before .before .before .before .before .before .before .before .read-section in
+    let t = c .before .before .before .before .before .before .before .before .before .table-at in
+    let q = row-is (a .file .now) (a .at) _ _ (c .before .before .before .before .before .before .before .before .before .before .before .before .before .before .before .read-charset .ensures) (x .ensures) in
+    let w : width (table-of (section-from (a .file .now) (a .at) .lines)) ≡ c .before .before .before .before .before .before .before .before .find-width .result = ap width (sym (t .ensures)) ∙ sym (c .before .before .before .before .before .before .before .before .find-width .ensures) in
+    let m : outside (a .r) (x .result .records) ≡ false = sym (c .before .before .before .before .before .before .before .before .before .before .before .is-outside .ensures) ∙ c .before .before .before .before .before .before .before .before .before .before .if2 .left in
+    let n : outside (a .f) (width (table-of (section-from (a .file .now) (a .at) .lines))) ≡ false = rw w (sym (c .before .before .before .before .before .before .before .is-outside2 .ensures) ∙ c .before .before .before .before .before .before .if3 .left) in
+    let d = there (c .before .before .before .before .before) in
+    let v = c .before .before .before .before .before .before .before .before .before .before .before .before .if1 .left in
+    let o = order-from (a .file .now) (a .at) (y .0) (y .2) (x .result) q v (t .result) _ (t .ensures) refl _ (c .before .before .before .find-order .ensures) in
+    value-inside (a .file .now) (a .i) (a .at) (a .r) (a .f) (x .result) q v _ m n (rw (sym o, sym (t .ensures), sym (d .same-lines)) (c .seek-value .ensures))
 
 pub value-at-spec : {M : Type 1} → statement M
 value-at-spec =
@@ -120,7 +131,10 @@ value-at-spec =
     refuse-with-requires-2
     returns-3
     add-e
-    list-columns-requires
+    sub-find-order
+    part-find-order-start
+    part-find-order-end
+    find-order-requires
     slice-aggregate-seek-value
     sub-seek-value
     seek-value-requires
