@@ -2,7 +2,7 @@
 -- Assumes nothing.
 use mathlib.Core.Path.{_≡_, refl, ap, sym, _∙_}
 use mathlib.Core.Logic.{_↔_}
-use mathlib.Core.Bool.{Bool, true, false, _&&_}
+use mathlib.Core.Bool.{Bool, true, false}
 use mathlib.Core.List.{List, [], _∷_, map}
 use Prim.Native.Nat.{ℕ, zero, suc, _+_, _<_, _≤_}
 use native.Mathlib.Nat.{add-zero, zero-add}
@@ -196,6 +196,10 @@ standing-column t o p h = ap (λ (c : Named). c .column) (standing-at t o p h)
 pub by-column-length : (o : Order) (fs : List Bytes) → length (by-column o fs) ≡ length o
 unfolding by-column
 by-column-length o fs = length-map (upto 0 (length o)) (λ (c : ℕ). getD fs (place c o) []) ∙ upto-length 0 (length o)
+
+pub columns-many : (t : ℕ) (o : Order) (fs : List Bytes) → arranged (width t) o ≡ true → length (by-column o fs) ≡ length (columns t)
+unfolding width
+columns-many t o fs a = by-column-length o fs ∙ arranged-long (width t) o a
 
 map-at : {A : Type 0} (f : ℕ → A) (d : A) (l : List ℕ) (p : ℕ) → p < length l → getD (map f l) p d ≡ f (getD l p 0)
 map-at f d [] p h = absurd (omega arith)

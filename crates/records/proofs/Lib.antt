@@ -1,2 +1,1 @@
 mod RecordLaws
-mod PartLaws

@@ -8,7 +8,7 @@ use lib.ListN.{length, getD}
 use Rattle.page.specs.Bytes.{Bytes, bytes, pick}
 use Rattle.page.specs.Fields.{fields, numberOf}
 use Rattle.page.specs.Tables.{columns, column-at, width}
-use Rattle.page.specs.Order.{Order, listed-order, arranged, standing, place, by-column}
+use Rattle.page.specs.Order.{Order, listed-order, standing, place, by-column}
 use Rattle.page.specs.Section.{fieldOf, field-number, first-wrong, amount}
 use Rattle.page.specs.Records.{valuesOf}
 use Rattle.page.specs.Places.{field-place, span-from}
@@ -19,7 +19,7 @@ use Rattle.page.specs.declared.Column.{Column}
 use Rattle.page.specs.declared.Span.{Span}
 use Rattle.page.specs.declared.Field.{Field}
 use Rattle.page.specs.declared.Field.the-variants as F
-use Rattle.page.proofs.OrderLaws.{arranged-long, place-in, by-column-length, listed-standing, listed-column}
+use Rattle.page.proofs.OrderLaws.{arranged-long, place-in, listed-standing, listed-column}
 use Rattle.tables.specs.Orders.{held, Stands}
 use Rattle.digits.specs.Runs.{field-from}
 use Rattle.judging.proofs.RecordLaws.{column-read}
@@ -28,10 +28,6 @@ use Rattle.copies.specs.Parts.{Whole}
 use Rattle.copies.proofs.FieldLaws.{column-sound}
 use Rattle.copies.proofs.ReadLaws.{Words, text-read, number-read, never-refused, field-begins, field-there}
 use Rattle.copies.proofs.StandLaws.{record-kept, kept-length}
-
-pub columns-many : (t : ℕ) (o : Order) (fs : List Bytes) → arranged (width t) o ≡ true → length (by-column o fs) ≡ length (columns t)
-unfolding width
-columns-many t o fs a = by-column-length o fs ∙ arranged-long (width t) o a
 
 -- a record that is copied whole
 module _ (ends : LineEnd) (strip : Bool) (x : Bytes) (f m t : ℕ) (o : Order) (w : Bytes) (n : length (fields w) ≡ width t)

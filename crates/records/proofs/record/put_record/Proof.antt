@@ -8,13 +8,14 @@ use Rattle.page.specs.Tables.{columns}
 use Rattle.page.specs.Order.{by-column, column-in}
 use Rattle.page.specs.Records.{valuesOf}
 use Rattle.page.specs.Form.{record-form}
+use Rattle.page.proofs.OrderLaws.{columns-many}
 use Rattle.tables.specs.Orders.{held}
 use Rattle.machine.proofs.SoundLaws.{passed-width, passed-wrong}
 use Rattle.output.proofs.PutLaws.{puts, put-as}
 use Rattle.copies.specs.Changed.{changed-values}
 use Rattle.copies.specs.Planned.{record-by}
 use Rattle.copies.proofs.PartLaws.{record-is, record-length}
-use Rattle.records.proofs.RecordLaws.{columns-many, record-copied, copied-length}
+use Rattle.records.proofs.RecordLaws.{record-copied, copied-length}
 use Rattle.records.proofs.record.put_record.Statement.{statement}
 use Rattle.records.proofs.record.put_record.Tie as tie
 

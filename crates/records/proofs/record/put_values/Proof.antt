@@ -3,7 +3,7 @@ use mathlib.Core.Path.{ap}
 use native.Mathlib.Omega.{arith}
 use lib.ListN.{length}
 use Rattle.output.proofs.PutLaws.{put-as}
-use Rattle.records.proofs.PartLaws.{parts-kept}
+use Rattle.parts.proofs.PartLaws.{parts-kept}
 use Rattle.records.proofs.record.put_values.Statement.{statement}
 use Rattle.records.proofs.record.put_values.Tie as tie
 

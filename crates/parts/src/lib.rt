@@ -11,7 +11,7 @@ ghost use Rattle.page.specs.Order.{by-column};
 ghost use Rattle.page.specs.Form.{separated};
 ghost use Rattle.output.specs.Put.{Put};
 ghost use Rattle.tables.specs.Orders.{held, Stands};
-ghost use Rattle.records.specs.Parted.{Parted};
+ghost use Rattle.parts.specs.Parted.{Parted};
 use copies::written_end;
 use output::put_byte;
 use output::put_bytes;

@@ -9,9 +9,9 @@ use Rattle.page.specs.Form.{separated}
 use Rattle.page.proofs.TableLaws.{width-le}
 use Rattle.tables.specs.Orders.{held}
 use Rattle.output.proofs.PutLaws.{Todo, begin, next-by, at-end, same}
-use Rattle.records.proofs.PartLaws.{part-in, part-more, part-room, parts-end}
-use Rattle.records.proofs.parts.put_parts.Statement.{statement}
-use Rattle.records.proofs.parts.put_parts.Tie as tie
+use Rattle.parts.proofs.PartLaws.{part-in, part-more, part-room, parts-end}
+use Rattle.parts.proofs.put_parts.Statement.{statement}
+use Rattle.parts.proofs.put_parts.Tie as tie
 
 abbrev Inv-loop : tie.InvT-loop
 Inv-loop out₀ at w t o n starts ends q₀ k₀ out q k =

@@ -15,7 +15,7 @@ use Rattle.page.specs.Order.{Order, standing, place, by-column}
 use Rattle.page.specs.Section.{first-wrong}
 use Rattle.page.specs.Places.{field-place}
 use Rattle.page.specs.Form.{separated}
-use Rattle.page.proofs.OrderLaws.{place-in, place-at, by-column-length, by-column-at, sound-by-column}
+use Rattle.page.proofs.OrderLaws.{place-in, place-at, by-column-length, by-column-at, columns-many, sound-by-column}
 use Rattle.page.proofs.FieldLaws.{end-in}
 use Rattle.digits.specs.Runs.{field-from}
 use Rattle.tables.specs.Orders.{held, Stands}
@@ -24,8 +24,7 @@ use Rattle.copies.specs.Parts.{Ends, fields-form, stands}
 use Rattle.copies.proofs.FieldLaws.{fields-cons}
 use Rattle.copies.proofs.ReadLaws.{field-begins, field-there}
 use Rattle.copies.proofs.StandLaws.{ends-spaced, ends-stand, stand-all, fields-kept}
-use Rattle.records.specs.Parted.{Part, Parted}
-use Rattle.records.proofs.RecordLaws.{columns-many}
+use Rattle.parts.specs.Parted.{Part, Parted}
 
 -- those of the columns that stand at the first k places
 abbrev pub Placed : ℕ → List ℕ → Bytes → ℕ → List ℕ → List ℕ → Type 0

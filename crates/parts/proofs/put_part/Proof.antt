@@ -1,7 +1,7 @@
 use borrow.Author.Needs.{needs}
 use Rattle.output.proofs.PutLaws.{puts}
-use Rattle.records.proofs.parts.put_part.Statement.{statement}
-use Rattle.records.proofs.parts.put_part.Tie as tie
+use Rattle.parts.proofs.put_part.Statement.{statement}
+use Rattle.parts.proofs.put_part.Tie as tie
 
 put-byte-requires : tie.Need-put-byte-requires
 put-byte-requires c κs = search needs

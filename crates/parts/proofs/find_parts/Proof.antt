@@ -3,7 +3,7 @@ use mathlib.Core.Path.{_≡_, refl, _∙_}
 use mathlib.Core.Bool.{false≢true}
 use Prim.Native.Nat.{ℕ, _+_, _-_, _<_, _≤_}
 use native.Mathlib.Omega.{arith}
-use lib.ListN.{length, getD, length-set}
+use lib.ListN.{length, length-set}
 use Rattle.page.specs.Tables.{WIDEST, width}
 use Rattle.page.specs.Order.{place}
 use Rattle.page.specs.Places.{field-place}
@@ -12,9 +12,9 @@ use Rattle.page.proofs.TableLaws.{width-le}
 use Rattle.tables.specs.Orders.{held}
 use Rattle.judging.proofs.StartLaws.{place-on}
 use Rattle.copies.proofs.ReadLaws.{field-begins}
-use Rattle.records.proofs.PartLaws.{Placed, placed-more, placed-all}
-use Rattle.records.proofs.parts.find_parts.Statement.{statement}
-use Rattle.records.proofs.parts.find_parts.Tie as tie
+use Rattle.parts.proofs.PartLaws.{Placed, placed-more, placed-all}
+use Rattle.parts.proofs.find_parts.Statement.{statement}
+use Rattle.parts.proofs.find_parts.Tie as tie
 
 abbrev Inv-loop : tie.InvT-loop
 Inv-loop w t o n starts₀ ends₀ at₀ k₀ starts ends at k =
@@ -53,6 +53,7 @@ cast-c c =
 mul-starts : tie.Need-mul-starts Inv-loop μ-loop
 mul-starts c =
     let s = c .before .before .before .before .before .before .before .pre .0 .orderly .small (c .before .before .before .before .loop .k) in
+    let g = width-le (c .before .before .before .before .before .before .before .args .t) in
     search needs
 
 array-write-starts : tie.Need-array-write-starts Inv-loop μ-loop
@@ -61,6 +62,7 @@ array-write-starts c = omega (arith, c .before .before .before .before .before .
 mul-ends : tie.Need-mul-ends Inv-loop μ-loop
 mul-ends c =
     let s = c .before .before .before .before .before .before .before .pre .0 .orderly .small (c .before .before .before .before .loop .k) in
+    let g = width-le (c .before .before .before .before .before .before .before .args .t) in
     search needs
 
 array-write-ends : tie.Need-array-write-ends Inv-loop μ-loop
@@ -95,12 +97,11 @@ loop-again c =
     let g : l .k < width (a .t) = omega (arith, c .before .before .before .before .before .find-width .ensures, c .before .before .before .loop-test .taken) in
     let b : l .at ≤ length w = rw (l .inv .1) (field-begins w (l .k) (omega (arith, q .1))) in
     let u = e .ensures (omega (arith, c .before .if1 .left)) in
-    let h = end-in w (l .at) (e .result) b (u .size) in
-    let i = getD (a .o .now) (l .k) 0 in (
+    let h = end-in w (l .at) (e .result) b (u .size) in (
       omega arith,
       place-on w (l .k) (l .at) (e .result) (l .inv .1) (u .size),
-      length-set (l .starts) i (l .at) ∙ l .inv .2,
-      length-set (l .ends) i (e .result) ∙ l .inv .3,
+      length-set (l .starts) _ (l .at) ∙ l .inv .2,
+      length-set (l .ends) _ (e .result) ∙ l .inv .3,
       placed-more (a .t) (a .o .now) (q .0) w (l .k) (l .at) (e .result) (l .starts) (l .ends) g (l .inv .2) (l .inv .3) (l .inv .4) (l .inv .1) u,
     )
 
