@@ -3,6 +3,7 @@ mod key;
 mod read;
 
 pub use key::Key;
+pub use key::PLACES;
 pub use key::hash_key;
 pub use key::less_key;
 pub use key::mix;

@@ -1,2 +1,3 @@
 pub mod LostLaws
 pub mod AimLaws
+mod RecentLaws

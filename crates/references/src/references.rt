@@ -3,7 +3,9 @@ ghost use mathlib.Core.Path.{_≡_};
 ghost use mathlib.Core.Bool.{true};
 ghost use mathlib.Core.List.{[]};
 ghost use Prim.Native.Nat.{_-_, _<_, _≤_};
+ghost use lib.Dec.{eqb};
 ghost use lib.ListN.{length, take, drop};
+ghost use Rattle.page.specs.Bytes.{pick};
 ghost use Rattle.page.specs.Lines.{lines};
 ghost use Rattle.page.specs.Tables.{MOST};
 ghost use Rattle.page.specs.File.{lost, first-record, filedOf};
@@ -11,6 +13,7 @@ ghost use Rattle.scans.specs.Scan.{first-line};
 ghost use Rattle.seats.specs.Seating.{seat-at, Ready};
 ghost use Rattle.seats.specs.Faults.{lost-line, Looked};
 ghost use Rattle.references.specs.Aims.{aim-at, reached, lacks-some, lacks-any, Within};
+ghost use Rattle.references.specs.Recently.{Recently};
 use crate::aims::Aim;
 use crate::aims::Aims;
 use crate::aims::find_aim;
@@ -27,6 +30,8 @@ use guesses::keep_place;
 use guesses::last_place;
 use guesses::let_guess;
 use keys::Key;
+use keys::PLACES;
+use keys::same_key;
 use lines::Cursor;
 use page::Refusal;
 use scans::Find;
@@ -39,6 +44,35 @@ use seats::find_seat;
 struct Reach {
     met: bool,
     known: Known,
+}
+
+// The key by which the first reference of the last record found its own, if one did. It is the version's, which seldom changes.
+struct Recent {
+    met: bool,
+    key: Key,
+}
+
+fn is_recent(recent: Recent, r: usize, key: Key) -> bool
+    ensures { λ x. ⌜ (x ≡ true → (r ≡ 0) × (recent .met ≡ true) × (recent .key .k ≡ key .k)) ⌝ }
+{
+    if r == 0 {
+        if recent.met {
+            return same_key(recent.key, key);
+        }
+    }
+    false
+}
+
+fn keep_recent(recent: Recent, r: usize, key: Key) -> Recent
+    ensures { λ x. ⌜ x ≡ pick (eqb r 0) (record { met = true; key = key }) recent ⌝ }
+{
+    if r == 0 {
+        return Recent {
+            met: true,
+            key: key,
+        };
+    }
+    recent
 }
 
 // Files of fewer bytes are short, and so are sections.
@@ -116,11 +150,18 @@ fn reaches(
     r: usize,
     key: Key,
     known: Known,
+    recent: Recent,
     g: &mut [u32],
 ) -> Reach
-    requires { ⌜ Within (now s) aims × (r < MOST) ⌝ }
+    requires { ⌜ Within (now s) aims × (r < MOST) × Recently (now s) aims recent ⌝ }
     ensures { λ x. ⌜ x .met ≡ reached (now (s .entry)) (aim-at aims r) (key .k) ⌝ }
 {
+    if is_recent(recent, r, key) {
+        return Reach {
+            met: true,
+            known: known,
+        };
+    }
     let a = find_aim(aims, r);
     let soon = reaches_soon(s, at, a, r, key, known, &g[..]);
     if soon.met {
@@ -141,6 +182,7 @@ fn reaches(
 struct Loss {
     lost: bool,
     known: Known,
+    recent: Recent,
 }
 
 // Is the line from a place to e a record of table t with a reference that finds none?
@@ -152,37 +194,45 @@ fn loses(
     t: usize,
     aims: Aims,
     last: Known,
+    before: Recent,
     g: &mut [u32],
 ) -> Loss
-    requires { ⌜ Within (now s) aims × (at ≤ e) × (e ≤ length (now w)) ⌝ }
-    ensures { λ r. ⌜ r .lost ≡ lacks-some (now (s .entry)) aims t (take (e - at) (drop at (now (w .entry)))) ⌝ }
+    requires { ⌜ Within (now s) aims × (at ≤ e) × (e ≤ length (now w)) × Recently (now s) aims before ⌝ }
+    ensures { λ r.
+        ⌜ (r .lost ≡ lacks-some (now (s .entry)) aims t (take (e - at) (drop at (now (w .entry)))))
+        × Recently (now (s .entry)) aims (r .recent) ⌝ }
 {
     let c = lines::content_of(&w[at..e]);
     if commands::command_of(c) != commands::REC {
         return Loss {
             lost: false,
             known: last,
+            recent: before,
         };
     }
     let f = lines::rest_of(c);
     let n = tables::count_references(t);
     let mut known = last;
+    let mut recent = before;
     let mut r: usize = 0;
     while r < n {
         let key = keys::read_chosen(f, find_aim(aims, r).refer);
-        let x = reaches(s, w, at, aims, r, key, known, g);
+        let x = reaches(s, w, at, aims, r, key, known, recent, g);
         if !x.met {
             return Loss {
                 lost: true,
                 known: known,
+                recent: recent,
             };
         }
         known = x.known;
+        recent = keep_recent(recent, r, key);
         r += 1;
     }
     Loss {
         lost: false,
         known: known,
+        recent: recent,
     }
 }
 
@@ -192,6 +242,10 @@ fn lost_among(s: &[u8], w: &[u8], t: usize, aims: Aims, first: Known, g: &mut [u
     ensures { λ r. ⌜ r ≡ first-line (lacks-any (now (s .entry)) aims t) [] 0 (lines (now (w .entry))) ⌝ }
 {
     let mut known = first;
+    let mut recent = Recent {
+        met: false,
+        key: Key { k: [0; PLACES] },
+    };
     let mut at: usize = 0;
     let mut n: usize = 0;
     while at < w.len() {
@@ -200,8 +254,9 @@ fn lost_among(s: &[u8], w: &[u8], t: usize, aims: Aims, first: Known, g: &mut [u
         let e = l.span.to;
         at = e;
         n += 1;
-        let x = loses(s, w, here, e, t, aims, known, g);
+        let x = loses(s, w, here, e, t, aims, known, recent, g);
         known = x.known;
+        recent = x.recent;
         if x.lost {
             return n;
         }

@@ -1,7 +1,9 @@
 -- `references::references::loses` meets its contract. Assumes nothing.
 use Rattle.references.proofs.AimLaws.{few-references, lacks-is, lacks-other, lacks-record}
+use Rattle.references.proofs.RecentLaws.{met-more}
 use Rattle.scans.proofs.ScanLaws.{some-hit, some-more, some-end}
 use Rattle.references.specs.Aims.{lacks}
+use Rattle.references.specs.Recently.{Recently}
 use Rattle.scans.specs.Scan.{some}
 use Rattle.page.specs.Fields.{fields}
 use Prim.Native.Nat.{_-_, _≤_}
@@ -13,12 +15,11 @@ use Rattle.references.proofs.references.loses.Statement.{statement}
 use Rattle.references.proofs.references.loses.Tie as tie
 
 abbrev Inv-loop : tie.InvT-loop
-Inv-loop s w at e t aims g₀ f n known₀ r₀ g known r =
-    (r ≤ n) × (some (lacks s aims (fields f)) r (n - r) ≡ some (lacks s aims (fields f)) 0 n) × (length g ≡ length g₀)
+Inv-loop s w at e t aims g₀ f n known₀ recent₀ r₀ g known recent r =
+    (r ≤ n) × (some (lacks s aims (fields f)) r (n - r) ≡ some (lacks s aims (fields f)) 0 n) × (length g ≡ length g₀) × Recently s aims recent
 
 abbrev μ-loop : tie.MeasureT-loop
-μ-loop s w at e t aims g₀ f n known₀ r₀ g known r =
-    n - r
+μ-loop s w at e t aims g₀ f n known₀ recent₀ r₀ g known recent r = n - r
 
 sub-content-of : tie.Need-sub-content-of Inv-loop μ-loop
 sub-content-of c = search needs
@@ -37,7 +38,8 @@ command-of-requires c κs = search needs
 
 returns : tie.Need-returns Inv-loop μ-loop
 returns c =
-    sym (lacks-other (c .before .before .before .before .before .before .before .args .s .now) (c .before .before .before .before .before .before .before .args .aims) (c .before .before .before .before .before .before .before .args .t) _ _ _ (c .before .before .content-of .ensures) (c .before .command-of .ensures) (c .if1 .taken))
+    let a = c .before .before .before .before .before .before .before .args in
+    (sym (lacks-other (a .s .now) (a .aims) (a .t) _ _ _ (c .before .before .content-of .ensures) (c .before .command-of .ensures) (c .if1 .taken)), c .before .before .before .before .before .before .before .pre .3)
 
 rest-of-requires : tie.Need-rest-of-requires Inv-loop μ-loop
 rest-of-requires c κs = search needs
@@ -48,7 +50,7 @@ count-references-requires c κs = search needs
 loop-holds : tie.Need-loop-holds Inv-loop μ-loop
 loop-holds c =
     let n : c .count-references .result - 0 ≡ c .count-references .result = omega arith in
-    (omega arith, rw n, refl)
+    (omega arith, rw n, refl, c .before .before .before .before .before .before .before .before .before .pre .3)
 
 find-aim-requires : tie.Need-find-aim-requires Inv-loop μ-loop
 find-aim-requires c κs = search needs
@@ -59,16 +61,26 @@ read-chosen-requires c κs = search needs
 reaches-requires : tie.Need-reaches-requires Inv-loop μ-loop
 reaches-requires c κs =
     let k = few-references (c .before .before .before .before .before .before .before .before .before .before .before .before .before .before .args .t) (c .before .before .before .before .before .count-references .result) (c .before .before .before .before .before .count-references .ensures) in
-    (c .before .before .before .before .before .before .before .before .before .before .before .before .before .before .pre .0, omega arith)
+    (c .before .before .before .before .before .before .before .before .before .before .before .before .before .before .pre .0, omega arith, c .before .before .before .before .loop .inv .3)
 
 same-length : tie.Need-same-length Inv-loop μ-loop
-same-length c =
-    c .before .before .before .before .reaches .kept .1 .1 .1 .1 .1 .1 .1 .0 ∙ c .before .before .before .before .before .before .before .before .before .loop .inv .2
+same-length c = c .before .before .before .before .reaches .kept .1 .1 .1 .1 .1 .1 .1 .1 .0 ∙ c .before .before .before .before .before .before .before .before .before .loop .inv .2
 
 returns-2 : tie.Need-returns-2 Inv-loop μ-loop
 returns-2 c =
-    sym (lacks-record (c .before .before .before .before .before .before .before .before .before .before .before .before .before .before .before .before .before .before .before .args .s .now) (c .before .before .before .before .before .before .before .before .before .before .before .before .before .before .before .before .before .before .before .args .aims) (c .before .before .before .before .before .before .before .before .before .before .before .before .before .before .before .before .before .before .before .args .t) _ _ _ (c .before .before .before .before .before .before .before .before .before .before .before .before .before .before .content-of .ensures) (c .before .before .before .before .before .before .before .before .before .before .before .before .before .command-of .ensures) (c .before .before .before .before .before .before .before .before .before .before .before .before .if1 .left) _ (c .before .before .before .before .before .before .before .before .before .before .before .rest-of .ensures) (c .before .before .before .before .before .before .before .before .before .before .count-references .result) (c .before .before .before .before .before .before .before .before .before .before .count-references .ensures)
-    ∙ sym (c .before .before .before .before .before .before .before .before .before .loop .inv .1) ∙ some-hit _ (c .before .before .before .before .before .before .before .before .before .loop .r) (c .before .before .before .before .before .before .before .before .before .before .count-references .result) (c .before .before .before .before .before .before .before .before .loop-test .taken) (lacks-is (c .before .before .before .before .before .before .before .before .before .before .before .before .before .before .before .before .before .before .before .args .s .now) (c .before .before .before .before .before .before .before .before .before .before .before .before .before .before .before .before .before .before .before .args .aims) (c .before .before .before .before .before .before .before .before .before .before .before .before .before .before .before .before .before .before .before .args .t) _ (c .before .before .before .before .before .before .before .before .before .loop .r) (c .before .before .before .before .before .before .before .find-aim .result) (c .before .before .before .before .before .before .before .find-aim .ensures) _ (c .before .before .before .before .before .before .read-chosen .ensures) _ _ (c .before .before .before .before .reaches .ensures) (c .if2 .taken)))
+    let a = c .before .before .before .before .before .before .before .before .before .before .before .before .before .before .before .before .before .before .before .args in
+    let l = c .before .before .before .before .before .before .before .before .before .loop in
+    let f = c .before .before .before .before .before .before .before .find-aim in (
+      sym (
+          lacks-record (a .s .now) (a .aims) (a .t) _ _ _ (c .before .before .before .before .before .before .before .before .before .before .before .before .before .before .content-of .ensures) (c .before .before .before .before .before .before .before .before .before .before .before .before .before .command-of .ensures) (c .before .before .before .before .before .before .before .before .before .before .before .before .if1 .left) _ (c .before .before .before .before .before .before .before .before .before .before .before .rest-of .ensures) (c .before .before .before .before .before .before .before .before .before .before .count-references .result) (c .before .before .before .before .before .before .before .before .before .before .count-references .ensures)
+          ∙ sym (l .inv .1)
+          ∙ some-hit _ (l .r) (c .before .before .before .before .before .before .before .before .before .before .count-references .result) (c .before .before .before .before .before .before .before .before .loop-test .taken)
+          (lacks-is (a .s .now) (a .aims) (a .t) _ (l .r) (f .result) (f .ensures) _ (c .before .before .before .before .before .before .read-chosen .ensures) _ _ (c .before .before .before .before .reaches .ensures) (c .if2 .taken))),
+      l .inv .3,
+    )
+
+keep-recent-requires : tie.Need-keep-recent-requires Inv-loop μ-loop
+keep-recent-requires c κs = search needs
 
 add-r : tie.Need-add-r Inv-loop μ-loop
 add-r c = search needs
@@ -78,16 +90,31 @@ loop-less c = search needs
 
 loop-again : tie.Need-loop-again Inv-loop μ-loop
 loop-again c =
-    (omega arith, sym (some-more _ (c .before .before .before .before .before .before .before .before .before .before .loop .r) (c .before .before .before .before .before .before .before .before .before .before .before .count-references .result) (c .before .before .before .before .before .before .before .before .before .loop-test .taken) (lacks-is (c .before .before .before .before .before .before .before .before .before .before .before .before .before .before .before .before .before .before .before .before .args .s .now) (c .before .before .before .before .before .before .before .before .before .before .before .before .before .before .before .before .before .before .before .before .args .aims) (c .before .before .before .before .before .before .before .before .before .before .before .before .before .before .before .before .before .before .before .before .args .t) _ (c .before .before .before .before .before .before .before .before .before .before .loop .r) (c .before .before .before .before .before .before .before .before .find-aim .result) (c .before .before .before .before .before .before .before .before .find-aim .ensures) _ (c .before .before .before .before .before .before .before .read-chosen .ensures) _ _ (c .before .before .before .before .before .reaches .ensures) (c .before .if2 .left))) ∙ c .before .before .before .before .before .before .before .before .before .before .loop .inv .1, c .before .before .before .before .before .reaches .kept .1 .1 .1 .1 .1 .1 .1 .0 ∙ c .before .before .before .before .before .before .before .before .before .before .loop .inv .2)
+    let a = c .before .before .before .before .before .before .before .before .before .before .before .before .before .before .before .before .before .before .before .before .before .args in
+    let l = c .before .before .before .before .before .before .before .before .before .before .before .loop in
+    let f = c .before .before .before .before .before .before .before .before .before .find-aim in
+    let x = c .before .before .before .before .before .before .reaches in (
+      omega (arith, c .before .before .before .before .before .before .before .before .before .before .loop-test .taken),
+      sym
+          (some-more _ (l .r) (c .before .before .before .before .before .before .before .before .before .before .before .before .count-references .result) (c .before .before .before .before .before .before .before .before .before .before .loop-test .taken)
+          (lacks-is (a .s .now) (a .aims) (a .t) _ (l .r) (f .result) (f .ensures) _ (c .before .before .before .before .before .before .before .before .read-chosen .ensures) _ _ (x .ensures) (c .before .before .if2 .left)))
+          ∙ l .inv .1,
+      x .kept .1 .1 .1 .1 .1 .1 .1 .1 .0 ∙ l .inv .2,
+      met-more (a .s .now) (a .aims) (l .recent) (l .inv .3) (l .r) _ _ (x .ensures) (c .before .before .if2 .left) _ (c .keep-recent .ensures),
+    )
 
 same-length-2 : tie.Need-same-length-2 Inv-loop μ-loop
-same-length-2 c =
-    c .before .loop .inv .2
+same-length-2 c = c .before .loop .inv .2
 
 returns-3 : tie.Need-returns-3 Inv-loop μ-loop
 returns-3 c =
-    sym (lacks-record (c .before .before .before .before .before .before .before .before .before .before .before .args .s .now) (c .before .before .before .before .before .before .before .before .before .before .before .args .aims) (c .before .before .before .before .before .before .before .before .before .before .before .args .t) _ _ _ (c .before .before .before .before .before .before .content-of .ensures) (c .before .before .before .before .before .command-of .ensures) (c .before .before .before .before .if1 .left) _ (c .before .before .before .rest-of .ensures) (c .before .before .count-references .result) (c .before .before .count-references .ensures)
-    ∙ sym (c .before .loop .inv .1) ∙ some-end _ (c .before .loop .r) (c .before .before .count-references .result) (c .loop-test .left))
+    let a = c .before .before .before .before .before .before .before .before .before .before .before .args in
+    let l = c .before .loop in (
+      sym (
+          lacks-record (a .s .now) (a .aims) (a .t) _ _ _ (c .before .before .before .before .before .before .content-of .ensures) (c .before .before .before .before .before .command-of .ensures) (c .before .before .before .before .if1 .left) _ (c .before .before .before .rest-of .ensures) (c .before .before .count-references .result) (c .before .before .count-references .ensures)
+          ∙ sym (l .inv .1) ∙ some-end _ (l .r) (c .before .before .count-references .result) (c .loop-test .left)),
+      l .inv .3,
+    )
 
 pub loses-spec : {M : Type 1} → statement M
 loses-spec =
@@ -109,6 +136,7 @@ loses-spec =
     reaches-requires
     same-length
     returns-2
+    keep-recent-requires
     add-r
     loop-less
     loop-again
