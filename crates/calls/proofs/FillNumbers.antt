@@ -9,7 +9,7 @@ use native.Mathlib.Omega.{arith}
 use lib.Dec.{eqb, ltb}
 use lib.ListN.{length}
 use borrow.Author.Tests.{ne-eqb}
-use Rattle.page.specs.Bytes.{Bytes, pick, all}
+use Rattle.page.specs.Bytes.{Bytes, pick, all, unpadded}
 use Rattle.page.specs.Lines.{allowed}
 use Rattle.page.specs.Tables.{column-at, width}
 use Rattle.page.specs.Cut.{sections}
@@ -77,7 +77,11 @@ Blank s i r f what = (¬ NoPlace s i r f) × (MayFill s i f × (IsEmpty s i r f 
 abbrev pub IsAllowed : Bytes → Bytes → Type 0
 IsAllowed s t = all (allowed (latinOf s)) t ≡ true
 
-module _ (s : Bytes) (i r f : ℕ) (t : Bytes) (room : ℕ) where
+-- "a fill's text is trimmed likewise": t is what is left of the text that was sent
+module _ (s : Bytes) (i r f : ℕ) (sent : Bytes) (room : ℕ) where
+  abbrev t : Bytes
+  t = unpadded sent
+
   in-order : put-refusal (fill-refusal s i r f t) (fill-form s i r f t) room ≡ earlier (file-refusal s) (first-refusal (fill-questions s i r f t room))
   unfolding put-refusal fill-refusal first-refusal fill-questions
   in-order =
@@ -96,7 +100,7 @@ module _ (s : Bytes) (i r f : ℕ) (t : Bytes) (room : ℕ) where
 
   -- the file's verdict, if it has one; else the first of the seven that refuses
   pub fill-exactly : (x : Refusal) → ¬ (x .number ≡ 0) →
-      fillOf s i r f t room ≡ W.Refused x ↔ ((file-refusal s ≡ x) ⊎ ((file-refusal s .number ≡ 0) × (first-refusal (fill-questions s i r f t room) ≡ x)))
+      fillOf s i r f sent room ≡ W.Refused x ↔ ((file-refusal s ≡ x) ⊎ ((file-refusal s .number ≡ 0) × (first-refusal (fill-questions s i r f t room) ≡ x)))
   unfolding fillOf putOf
   fill-exactly x z =
       via (written-exactly (put-refusal (fill-refusal s i r f t) (fill-form s i r f t) room) x z (length (fill-form s i r f t)))
@@ -104,7 +108,7 @@ module _ (s : Bytes) (i r f : ℕ) (t : Bytes) (room : ℕ) where
 
   -- one of the seven, by its turn
   pub fill-turn : (v : ℕ) → OneOf section-numbers v ⊎ (gives file-numbers v ≡ false) → ¬ (v ≡ 0) →
-      fillOf s i r f t room ≡ W.Refused (refusal v 0 0) ↔ ((file-refusal s .number ≡ 0) × Turn v (fill-questions s i r f t room))
+      fillOf s i r f sent room ≡ W.Refused (refusal v 0 0) ↔ ((file-refusal s .number ≡ 0) × Turn v (fill-questions s i r f t room))
   unfolding fillOf putOf
   fill-turn v w z =
       via (written-exactly (put-refusal (fill-refusal s i r f t) (fill-form s i r f t) room) (refusal v 0 0) z (length (fill-form s i r f t)))
@@ -133,45 +137,45 @@ module _ (s : Bytes) (i r f : ℕ) (t : Bytes) (room : ℕ) where
   of-field a b c q = turn-next place-d a (turn-past (is-d (column-at (table-of (section-at s i .lines)) (f - 1) .fillable)) b (turn-past empty-d c q))
 
   -- 24: "no such section, record or field"
-  pub fill-24 : fillOf s i r f t room ≡ W.Refused (refusal 24 0 0) ↔ ((file-refusal s .number ≡ 0) × NoPlace s i r f)
+  pub fill-24 : fillOf s i r f sent room ≡ W.Refused (refusal 24 0 0) ↔ ((file-refusal s .number ≡ 0) × NoPlace s i r f)
   unfolding fill-questions any
   fill-24 = via (fill-turn 24 (inr refl) (some-number 24 (omega arith))) (second (turn-now place-d refl))
 
   -- 23: "field may not be filled"
-  pub fill-23 : fillOf s i r f t room ≡ W.Refused (refusal 23 0 0) ↔ ((file-refusal s .number ≡ 0) × ((¬ NoPlace s i r f) × (¬ MayFill s i f)))
+  pub fill-23 : fillOf s i r f sent room ≡ W.Refused (refusal 23 0 0) ↔ ((file-refusal s .number ≡ 0) × ((¬ NoPlace s i r f) × (¬ MayFill s i f)))
   unfolding fill-questions any
   fill-23 =
       via (fill-turn 23 (inr refl) (some-number 23 (omega arith)))
       (second (turn-next place-d refl (turn-now (turned (is-d (column-at (table-of (section-at s i .lines)) (f - 1) .fillable))) refl)))
 
   -- 22: "field to fill is not empty"
-  pub fill-22 : fillOf s i r f t room ≡ W.Refused (refusal 22 0 0) ↔ ((file-refusal s .number ≡ 0) × ((¬ NoPlace s i r f) × (MayFill s i f × (¬ IsEmpty s i r f))))
+  pub fill-22 : fillOf s i r f sent room ≡ W.Refused (refusal 22 0 0) ↔ ((file-refusal s .number ≡ 0) × ((¬ NoPlace s i r f) × (MayFill s i f × (¬ IsEmpty s i r f))))
   unfolding fill-questions any
   fill-22 =
       via (fill-turn 22 (inr refl) (some-number 22 (omega arith)))
       (second (turn-next place-d refl (turn-past (is-d (column-at (table-of (section-at s i .lines)) (f - 1) .fillable)) refl (turn-now (turned empty-d) refl))))
 
   -- 11: "text empty"
-  pub fill-11 : fillOf s i r f t room ≡ W.Refused (refusal 11 0 0) ↔ ((file-refusal s .number ≡ 0) × Blank s i r f (t ≡ []))
+  pub fill-11 : fillOf s i r f sent room ≡ W.Refused (refusal 11 0 0) ↔ ((file-refusal s .number ≡ 0) × Blank s i r f (t ≡ []))
   unfolding fill-questions any
   fill-11 = via (fill-turn 11 (inl refl) (some-number 11 (omega arith))) (second (of-field refl refl refl (turn-now (nothing-d t) refl)))
 
   -- 4: "text byte not allowed in a `rec`"
-  pub fill-4 : fillOf s i r f t room ≡ W.Refused (refusal 4 0 0) ↔ ((file-refusal s .number ≡ 0) × Blank s i r f ((¬ (t ≡ [])) × (¬ IsAllowed s t)))
+  pub fill-4 : fillOf s i r f sent room ≡ W.Refused (refusal 4 0 0) ↔ ((file-refusal s .number ≡ 0) × Blank s i r f ((¬ (t ≡ [])) × (¬ IsAllowed s t)))
   unfolding fill-questions any
   fill-4 =
       via (fill-turn 4 (inl refl) (some-number 4 (omega arith)))
       (second (of-field refl refl refl (turn-next (nothing-d t) refl (turn-now (turned (is-d (all (allowed (latinOf s)) t))) refl))))
 
   -- 13: "over 40 bytes"
-  pub fill-13 : fillOf s i r f t room ≡ W.Refused (refusal 13 0 0) ↔ ((file-refusal s .number ≡ 0) × Blank s i r f ((¬ (t ≡ [])) × (IsAllowed s t × (40 < length t))))
+  pub fill-13 : fillOf s i r f sent room ≡ W.Refused (refusal 13 0 0) ↔ ((file-refusal s .number ≡ 0) × Blank s i r f ((¬ (t ≡ [])) × (IsAllowed s t × (40 < length t))))
   unfolding fill-questions any
   fill-13 =
       via (fill-turn 13 (inl refl) (some-number 13 (omega arith)))
       (second (of-field refl refl refl (turn-next (nothing-d t) refl (turn-past (is-d (all (allowed (latinOf s)) t)) refl (turn-now (below 40 (length t)) refl)))))
 
   -- 21: "the form is longer than the lent output or than 16,777,216 bytes"
-  pub fill-21 : fillOf s i r f t room ≡ W.Refused (refusal 21 0 0) ↔
+  pub fill-21 : fillOf s i r f sent room ≡ W.Refused (refusal 21 0 0) ↔
       ((file-refusal s .number ≡ 0) × Blank s i r f ((¬ (t ≡ [])) × (IsAllowed s t × ((¬ (40 < length t)) × TooLong (fill-form s i r f t) room))))
   unfolding fill-questions any
   fill-21 =

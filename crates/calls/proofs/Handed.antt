@@ -12,12 +12,12 @@ use lib.Seq.{take-append-seam, drop-append-le, drop-append-add}
 use borrow.Author.Tests.{eqb-true, eq-eqb, le-leb, ltb-true, ltb-false}
 use Rattle.page.specs.Bytes.{Bytes, pick, until, moved, part}
 use Rattle.page.specs.Lines.{joined, content-size, content, command, rest, semicolon, Tbl, Atr, Frm, Rec}
-use Rattle.page.specs.Fields.{fields, textOf, numberOf}
+use Rattle.page.specs.Fields.{fields, numberOf}
 use Rattle.page.specs.Tables.{Named, no-column, column-at, width}
 use Rattle.page.specs.Order.{Order, arranged, by-column, column-in}
 use Rattle.page.specs.Cut.{Section, sections}
 use Rattle.page.specs.Head.{latinOf}
-use Rattle.page.specs.Section.{record-text, text-field, number-field, fieldOf, outcome}
+use Rattle.page.specs.Section.{own-span, record-text, text-field, number-field, fieldOf, outcome}
 use Rattle.page.specs.Records.{Datum, number, words, Record, waits, recordsOf, table-of, order-in}
 use Rattle.page.specs.Places.{Standing, field-span, stands, record-at, this-or}
 use Rattle.page.specs.Model.{Content, contentOf, modelOf, datum-at}
@@ -49,7 +49,7 @@ use Rattle.page.proofs.CutLaws.{section-stands}
 use Rattle.page.proofs.ScanLaws.{part-length, part-moved}
 use Rattle.page.proofs.FieldLaws.{field-span-in, field-span-part}
 use Rattle.page.proofs.OrderLaws.{arranged-long, place-in, by-column-at}
-use Rattle.page.proofs.TextLaws.{text-long, text-between, record-text-is, worded-some}
+use Rattle.page.proofs.TextLaws.{words-there, worded-some}
 use Rattle.laws.specs.Begins.{begins}
 use Rattle.grammar.specs.Marks.{marks-at}
 use Rattle.calls.specs.Handed.{StandsFor, a-number, a-text}
@@ -113,32 +113,23 @@ section-lies s i r p h =
     let l = record-lies (r - 1) 0 (joined (t .before)) (x .lines) (joined (t .after)) in
     rw (← e, ← t .place) at l
 
--- what stands between the quotes of a field
-abbrev between : Bytes → Span
-between f = record { from = 1; to = length f - 1 }
-
--- of a text: its own bytes, a quote doubled
-span-bytes : (s : Bytes) (x : Standing) → Lies s x → (k : ℕ) → k < length (fields (x .rest)) → (u : Bytes) → textOf (getD (fields (x .rest)) k []) ≡ some u →
-    part (moved (x .at) (moved (field-span (x .rest) k .from) (between (getD (fields (x .rest)) k [])))) s ≡ doubled u
+-- a text's own bytes, a quote doubled, stand in its span
+span-bytes : (s : Bytes) (x : Standing) → Lies s x → (k : ℕ) → k < length (fields (x .rest)) → (u : Bytes) → record-text (getD (fields (x .rest)) k []) ≡ some u →
+    part (moved (x .at) (moved (field-span (x .rest) k .from) (own-span (getD (fields (x .rest)) k [])))) s ≡ doubled u
 span-bytes s x lies k h u e =
     let i = field-span-in (x .rest) k h in
     let p = field-span-part (x .rest) k h in
     let n : length (part (field-span (x .rest) k) (x .rest)) ≡ field-span (x .rest) k .to - field-span (x .rest) k .from =
     part-length (field-span (x .rest) k .from) (field-span (x .rest) k .to) (x .rest) (i .1) in
-    let l : 2 ≤ length (getD (fields (x .rest)) k []) = text-long (getD (fields (x .rest)) k []) u e in
-    let m : length (getD (fields (x .rest)) k []) ≡ field-span (x .rest) k .to - field-span (x .rest) k .from = sym (ap length p) ∙ n in
-    let sp : Span = moved (field-span (x .rest) k .from) (between (getD (fields (x .rest)) k [])) in
-    let a : part sp (take (length (x .rest)) (drop (x .at) s)) ≡ part (moved (x .at) sp) s = part-moved sp (x .at) (length (x .rest)) s (omega arith) (omega arith) in
-    sym a ∙ (ap (part sp) lies ∙ inner (field-span (x .rest) k) (x .rest) (getD (fields (x .rest)) k []) u p m l (text-between (getD (fields (x .rest)) k []) u e))
-  where
-    inner : (sp : Span) (w f u : Bytes) → part sp w ≡ f → length f ≡ sp .to - sp .from → 2 ≤ length f → take (length f - 2) (drop 1 f) ≡ doubled u →
-        part (moved (sp .from) (between f)) w ≡ doubled u
-    inner sp w f u p m l t =
-        let a : part (between f) (take (sp .to - sp .from) (drop (sp .from) w)) ≡ part (moved (sp .from) (between f)) w =
-        part-moved (between f) (sp .from) (sp .to - sp .from) w (omega arith) (omega arith) in
-        let c : length f - 1 - 1 ≡ length f - 2 = omega arith in
-        let d : part (between f) f ≡ part (moved (sp .from) (between f)) w = rw p at a in
-        sym d ∙ (rw c t)
+    let f : Bytes = getD (fields (x .rest)) k [] in
+    let t = words-there f _ (worded-some f u e) in
+    let m : length f ≡ field-span (x .rest) k .to - field-span (x .rest) k .from = sym (ap length p) ∙ n in
+    let sp : Span = moved (field-span (x .rest) k .from) (own-span f) in
+    let a : part sp (take (length (x .rest)) (drop (x .at) s)) ≡ part (moved (x .at) sp) s =
+    part-moved sp (x .at) (length (x .rest)) s (omega (arith, t .ends)) (omega (arith, t .within)) in
+    let b : part (own-span f) (take (field-span (x .rest) k .to - field-span (x .rest) k .from) (drop (field-span (x .rest) k .from) (x .rest))) ≡ part sp (x .rest) =
+    part-moved (own-span f) (field-span (x .rest) k .from) (field-span (x .rest) k .to - field-span (x .rest) k .from) (x .rest) (omega (arith, t .ends)) (omega (arith, t .within)) in
+    sym a ∙ (ap (part sp) lies ∙ (sym b ∙ (ap (part (own-span f)) p ∙ t .stands)))
 
 -- what a record's line holds: the record after r others of lines that denote records
 
@@ -191,7 +182,7 @@ number-read : (c : Column) (f : Bytes) (n : ℕ) → c .text ≡ false → numbe
 unfolding fieldOf number-field
 number-read c f n t e l h = rw (t, e, le-leb (c .lo) n l, le-leb n (c .hi) h)
 
-text-read : (c : Column) (f u : Bytes) → c .text ≡ true → record-text f ≡ some u → length u ≤ c .hi → fieldOf c f ≡ F.Text (between f)
+text-read : (c : Column) (f u : Bytes) → c .text ≡ true → record-text f ≡ some u → length u ≤ c .hi → fieldOf c f ≡ F.Text (own-span f)
 unfolding fieldOf text-field
 text-read c f u t e h = rw (t, worded-some f u e, le-leb (length u) (c .hi) h)
 
@@ -285,13 +276,13 @@ module _ (s : Bytes) (i r f : ℕ) (g : Given s i r f) where
   the-text =
       record {
         from = record-of here r .at + (field-span (record-of here r .rest) (place-of s i f) .from + 1);
-        to = record-of here r .at + (field-span (record-of here r .rest) (place-of s i f) .from + (length the-field - 1));
+        to = record-of here r .at + (field-span (record-of here r .rest) (place-of s i f) .from + own-span the-field .to);
         owner = text-owner s i r f;
       }
 
   text-span : (u : Bytes) → record-text the-field ≡ some u → take (the-text .to - the-text .from) (drop (the-text .from) s) ≡ doubled u
   text-span u e =
-      span-bytes s (record-of here r) (section-lies s i r (g .section .0) (g .section .1)) (place-of s i f) as-many u (sym (record-text-is the-field) ∙ e)
+      span-bytes s (record-of here r) (section-lies s i r (g .section .0) (g .section .1)) (place-of s i f) as-many u e
 
   value-reads : (x : Field) → fieldOf (column-at the-table (f - 1)) the-field ≡ x →
       value-at here r f ≡ valued (text-owner s i r f) (later-field (record-of here r .at) (later-field (field-span (record-of here r .rest) (place-of s i f) .from) x))
@@ -305,7 +296,7 @@ module _ (s : Bytes) (i r f : ℕ) (g : Given s i r f) where
       by : {d : Datum} → Holds (owner-by the-marks f) (column-at the-table (f - 1)) the-field d → StandsFor s (value-at here r f) d
       by (Grammar.a-number {n} a b c e) = rw (value-reads (F.Number n) (number-read (column-at the-table (f - 1)) the-field n a b c e)) a-number
       by (Grammar.a-text {t} a b c) =
-          rw (value-reads (F.Text (between the-field)) (text-read (column-at the-table (f - 1)) the-field t a b c), ← owner-is) (a-text {x = the-text} (text-span t b))
+          rw (value-reads (F.Text (own-span the-field)) (text-read (column-at the-table (f - 1)) the-field t a b c), ← owner-is) (a-text {x = the-text} (text-span t b))
 
   -- a text's value: its own bytes are the model's, and its owner is the one that is handed out
   pub record TextSays : Type 0 where
@@ -321,7 +312,7 @@ module _ (s : Bytes) (i r f : ℕ) (g : Given s i r f) where
       by d e (Grammar.a-text {t} a b c) =
           record {
             datum = e ∙ rw (b, owner-is);
-            value = value-reads (F.Text (between the-field)) (text-read (column-at the-table (f - 1)) the-field t a b c);
+            value = value-reads (F.Text (own-span the-field)) (text-read (column-at the-table (f - 1)) the-field t a b c);
           }
 
 -- the same of the calls' answers

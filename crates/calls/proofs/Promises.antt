@@ -8,7 +8,7 @@ use native.Mathlib.Omega.{arith}
 use lib.Dec.{eqb, ltb}
 use lib.ListN.{length, drop, length-append, length-drop}
 use borrow.Author.Tests.{lt-ltb, ltb-false, eqb-true}
-use Rattle.page.specs.Bytes.{Bytes, pick}
+use Rattle.page.specs.Bytes.{Bytes, pick, unpadded}
 use Rattle.page.specs.Answers.{refusal, earlier, refuse-if, checked, headed, listed, got, written}
 use Rattle.page.specs.File.{limit, too-long, header-refusal, file-refusal, checkOf}
 use Rattle.page.specs.Reading.{headerOf, find-refusal, sectionOf, list-refusal, listOf, rows-after, value-refusal, valueOf}
@@ -79,7 +79,7 @@ refused-strip s out x e = refused-put (file-refusal s) x (strip-form s) out e
 
 pub refused-fill : (s : Bytes) (i j f : ℕ) (t out : Bytes) (x : Refusal) → fillOf s i j f t (length out) ≡ W.Refused x → fill-after s i j f t out ≡ out
 unfolding fillOf fill-after
-refused-fill s i j f t out x e = refused-put (fill-refusal s i j f t) x (fill-form s i j f t) out e
+refused-fill s i j f t out x e = refused-put (fill-refusal s i j f (unpadded t)) x (fill-form s i j f (unpadded t)) out e
 
 -- "Listing is refused by 1, 2 and 21 only and then writes no row"
 pub refused-list : (s : Bytes) (rows : List Row) → eqb (list-refusal s (length rows) .number) 0 ≡ false → rows-after s rows ≡ rows

@@ -8,7 +8,7 @@ use native.Mathlib.Omega.{arith}
 use lib.Dec.{eqb, ltb}
 use lib.ListN.{length}
 use borrow.Author.Tests.{eqb-true, ltb-true, lt-ltb}
-use Rattle.page.specs.Bytes.{Bytes, pick, all}
+use Rattle.page.specs.Bytes.{Bytes, pick, all, unpadded}
 use Rattle.page.specs.Lines.{allowed}
 use Rattle.page.specs.Head.{latinOf}
 use Rattle.page.specs.Tables.{column-at}
@@ -119,6 +119,6 @@ unfolding stripOf
 strip-room s room = room-exactly (file-refusal s) (file-never s) (strip-form s) room
 
 pub fill-room : (s : Bytes) (i j f : ℕ) (t : Bytes) (room : ℕ) →
-    paper-written (fillOf s i j f t room) .number ≡ 21 ↔ ((fill-refusal s i j f t .number ≡ 0) × TooLong (fill-form s i j f t) room)
+    paper-written (fillOf s i j f t room) .number ≡ 21 ↔ ((fill-refusal s i j f (unpadded t) .number ≡ 0) × TooLong (fill-form s i j f (unpadded t)) room)
 unfolding fillOf
-fill-room s i j f t room = room-exactly (fill-refusal s i j f t) (fill-never s i j f t) (fill-form s i j f t) room
+fill-room s i j f t room = room-exactly (fill-refusal s i j f (unpadded t)) (fill-never s i j f (unpadded t)) (fill-form s i j f (unpadded t)) room

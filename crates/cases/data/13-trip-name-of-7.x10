@@ -11,6 +11,6 @@ end; 1
 tbl; MENGE_FAHRTART
 atr; BASIS_VERSION; FAHRTART_NR; STR_FAHRTART
 frm; num[9.0]; num[2.0]; char[6]
-rec; 7; 1; "NORMAL "
+rec; 7; 1; "NORMALE"
 end; 1
 eof; 2

@@ -71,7 +71,7 @@ fn print_stripped(s: &[u8]) {
 
 fn print_filled(s: &[u8], section: usize, record: usize, field: usize) {
     let mut out = [0; ROOM];
-    let x = forms::fill(s, section, record, field, b"Tag \"neu\"; 1", &mut out);
+    let x = forms::fill(s, section, record, field, b"Tag \"neu\"; 1  ", &mut out);
     io::write_all(STDOUT_FILENO, b"fill");
     print_number(section as u64);
     print_number(record as u64);

@@ -1,16 +1,16 @@
 -- A field that passed its column's rules is read as a text or a number, and what is read is what is written. Assumes nothing.
-use mathlib.Core.Path.{_≡_, refl, ap, sym, subst, _∙_}
+use mathlib.Core.Path.{_≡_, refl, ap, sym, _∙_}
 use mathlib.Core.Bool.{Bool, true, false, _&&_}
-use mathlib.Core.List.{[]}
+use mathlib.Core.List.{[], _∷_, _++_}
 use mathlib.Core.Option.{Option, none, some}
 use Prim.Native.Nat.{ℕ, _+_, _-_, _*_, _<_, _≤_}
 use native.Mathlib.Omega.{arith}
-use borrow.Author.Tests.{leb-true}
-use lib.Dec.{leb}
+use borrow.Author.Tests.{ne-eqb, eqb-true, leb-true}
+use lib.Dec.{eqb, leb}
 use lib.ListN.{length, getD, take, drop}
-use Rattle.page.specs.Bytes.{Bytes, pick, part, moved, trimOf}
+use Rattle.page.specs.Bytes.{Bytes, pick, part, moved, trimOf, keep, space, unpadded}
 use Rattle.page.specs.Fields.{field-size, fields, textOf, numberOf}
-use Rattle.page.specs.Section.{Wording, worded, own-of, wordsOf, record-text, text-field, number-field, fieldOf, field-number, amount}
+use Rattle.page.specs.Section.{Wording, own-of, wordsOf, record-text, text-field, number-field, fieldOf, field-number, amount}
 use Rattle.page.specs.Records.{own-bytes}
 use Rattle.page.specs.Places.{field-place, span-from, field-span}
 use Rattle.page.specs.Reading.{later-field}
@@ -21,9 +21,9 @@ use Rattle.page.specs.declared.Number.{Number}
 use Rattle.page.specs.declared.Number.the-variants as N
 use Rattle.page.specs.declared.Field.{Field}
 use Rattle.page.specs.declared.Field.the-variants as F
-use Rattle.page.proofs.ScanLaws.{part-length, part-moved}
+use Rattle.page.proofs.ScanLaws.{part-length, part-moved, keep-stop}
 use Rattle.page.proofs.FieldLaws.{end-in, span-in, span-part, field-span-in, field-span-part}
-use Rattle.page.proofs.TextLaws.{text-quoted, text-long, text-between, record-text-is}
+use Rattle.page.proofs.TextLaws.{text-quoted, text-long, text-between, record-text-is, text-kept, unpadded-there, words-there, unpadded-in}
 use Rattle.digits.specs.Runs.{field-from}
 use Rattle.output.specs.Raw.{raw-text}
 use Rattle.output.proofs.FormLaws.{quoted-length}
@@ -35,17 +35,10 @@ record Stored (f : Bytes) (x : Wording) : Type 0 where
   raw : raw-text (part (x .span) f) ≡ quoted (x .own)
 
 stored : (f : Bytes) (x : Wording) → wordsOf f ≡ some x → Stored f x
-unfolding wordsOf raw-text quoted
-stored f x e = by (textOf f) refl e
-  where
-    by : (o : Option Bytes) → textOf f ≡ o → worded f o ≡ some x → Stored f x
-    by none q z = absurd (let y : _≡_ {A = ℕ} 0 1 = cc in omega arith)
-    by (some u) q z =
-        let l = text-long f u q in
-        let n : length f - 1 - 1 ≡ length f - 2 = omega arith in
-        let r : take (length f - 1 - 1) (drop 1 f) ≡ doubled u = rw n (text-between f u q) in
-        let y : record { own = u; span = record { from = 1; to = length f - 1 } } ≡ x = cc in
-        subst (Stored f) y (record { begins = omega arith; within = omega arith; raw = ap raw-text r })
+unfolding raw-text quoted
+stored f x e =
+    let a = words-there f x e in
+    record { begins = omega (arith, a .begins, a .ends); within = omega (arith, a .within); raw = ap raw-text (a .stands) }
 
 -- what a field that passed its column's rules is read as
 data Read (c : Column) (f : Bytes) : Field → Type 0 where
@@ -80,14 +73,34 @@ read-of c f z = by (c .text) refl z
     by true k z = worded-so k (wordsOf f) refl z
     by false k z = counted k (numberOf f) refl z
 
--- a text is written as it stands, with its quotes
-pub text-whole : (c : Column) (f : Bytes) → c .text ≡ true → field-number (fieldOf c f) ≡ 0 → f ≡ quoted (own-bytes (record-text f))
+pub text-opens : (c : Column) (f : Bytes) → c .text ≡ true → field-number (fieldOf c f) ≡ 0 → getD f 0 0 ≡ 34
+unfolding fieldOf wordsOf textOf text-field field-number
+text-opens c f k ok = by (eqb (getD f 0 0) 34) refl
+  where
+    by : (b : Bool) → eqb (getD f 0 0) 34 ≡ b → getD f 0 0 ≡ 34
+    by true e = eqb-true (getD f 0 0) 34 e
+    by false e = absurd (let z : _≡_ {A = ℕ} 11 0 = rw (k, e) at ok in omega arith)
+
+-- a text that no space ends is written as it stands, with its quotes
+
+unpadded-whole : (f u : Bytes) → textOf f ≡ some u → (getD f (length f - 2) 0 ≡ 32 → ⊥) → f ≡ quoted (unpadded u)
+unfolding quoted
+unpadded-whole f u e n =
+    let l = text-long f u e in
+    let k : length f - 1 - 1 ≡ length f - 2 = omega arith in
+    let a : keep space (take (length f - 1) f) ≡ length f - 1 =
+    keep-stop space f (length f - 1) (omega arith) (omega arith) (ne-eqb (getD f (length f - 1 - 1) 0) 32 (rw k n)) in
+    let m : length (doubled (unpadded u)) ≡ length f - 2 = omega (arith, text-kept f u e) in
+    let d : doubled (unpadded u) ≡ doubled u = sym (unpadded-there f u e) ∙ (rw m (text-between f u e)) in
+    text-quoted f u e ∙ ap (λ (x : Bytes). 34 ∷ (x ++ 34 ∷ [])) (sym d)
+
+pub text-whole : (c : Column) (f : Bytes) → c .text ≡ true → field-number (fieldOf c f) ≡ 0 → (getD f (length f - 2) 0 ≡ 32 → ⊥) → f ≡ quoted (own-bytes (record-text f))
 unfolding fieldOf wordsOf text-field field-number
-text-whole c f k ok = by (textOf f) refl
+text-whole c f k ok n = by (textOf f) refl
   where
     by : (o : Option Bytes) → textOf f ≡ o → f ≡ quoted (own-bytes (record-text f))
     by none e = absurd (let z : _≡_ {A = ℕ} 11 0 = rw (k, e) at ok in omega arith)
-    by (some u) e = text-quoted f u e ∙ sym (ap (λ (o : Option Bytes). quoted (own-bytes o)) (record-text-is f ∙ e))
+    by (some u) e = unpadded-whole f u e n ∙ sym (ap (λ (o : Option Bytes). quoted (own-bytes o)) (record-text-is f ∙ ap unpadded-in e))
 
 -- the field at a place of w
 

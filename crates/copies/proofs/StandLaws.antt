@@ -29,7 +29,7 @@ use Rattle.copies.specs.Changed.{changed-values}
 use Rattle.copies.specs.Parts.{marked-by, mark-by, marks-form, datum-by, fields-form, stands, all-stand, Spaced, Ends, Whole}
 use Rattle.copies.proofs.PartLaws.{record-is}
 use Rattle.copies.proofs.FieldLaws.{datum-kept}
-use Rattle.copies.proofs.ReadLaws.{text-whole}
+use Rattle.copies.proofs.ReadLaws.{text-opens, text-whole}
 
 -- digits without a leading zero are what is written of their value
 
@@ -117,13 +117,22 @@ number-stands lo hi w z s = by (digits w) refl
     by true e = let a = digits-are w e in rw (x, e) (digits-written w (a .0) (a .1) (a .2) s)
     by false e = absurd (let q : _≡_ {A = ℕ} 12 0 = rw (x, e) at z in omega arith)
 
+-- no space stands before a text's closing quote
+text-bare : (c : Column) (w : Bytes) → c .text ≡ true → field-number (fieldOf c w) ≡ 0 → stands w ≡ true → getD w (length w - 2) 0 ≡ 32 → ⊥
+unfolding stands
+text-bare c w x ok s e =
+    let q : getD w 0 0 ≡ 34 = text-opens c w x ok in
+    let a : eqb (getD w 0 0) 45 ≡ false = ne-eqb (getD w 0 0) 45 (λ (z : getD w 0 0 ≡ 45). omega arith) in
+    let b : eqb (getD w 0 0) 48 ≡ false = ne-eqb (getD w 0 0) 48 (λ (z : getD w 0 0 ≡ 48). omega arith) in
+    false≢true (rw (a, b, eq-eqb (getD w 0 0) 34 q, eq-eqb (getD w (length w - 2) 0) 32 e) at s)
+
 module _ (c : Column) (w : Bytes) (ok : field-number (fieldOf c w) ≡ 0) (s : stands w ≡ true) where
   field-stands : (o : Owner) → w ≡ datum-text (datumOf o c w)
   unfolding fieldOf datum-text datumOf
   field-stands o = by (c .text) refl
     where
       by : (q : Bool) → c .text ≡ q → w ≡ datum-text (datumOf o c w)
-      by true x = rw x (text-whole c w x ok)
+      by true x = rw x (text-whole c w x ok (text-bare c w x ok s))
       by false x = rw x (number-stands (c .lo) (c .hi) w (rw x at ok) s)
 
 -- nothing is marked where no mark waits and no field is filled
@@ -168,9 +177,9 @@ spaced-of g n a b z s =
 
 -- a number that begins with no zero
 
-stands-first : (w : Bytes) → (getD w 0 0 ≡ 45 → ⊥) → (getD w 0 0 ≡ 48 → ⊥) → stands w ≡ true
+stands-first : (w : Bytes) → (getD w 0 0 ≡ 45 → ⊥) → (getD w 0 0 ≡ 48 → ⊥) → (getD w 0 0 ≡ 34 → ⊥) → stands w ≡ true
 unfolding stands
-stands-first w x y = rw (ne-eqb (getD w 0 0) 45 x, ne-eqb (getD w 0 0) 48 y)
+stands-first w x y z = rw (ne-eqb (getD w 0 0) 45 x, ne-eqb (getD w 0 0) 48 y, ne-eqb (getD w 0 0) 34 z)
 
 -- a byte that is neither a quote nor a `;`
 pub plain-more : (w : Bytes) (i : ℕ) → i < length w → (getD w i 0 ≡ 59 → ⊥) → (getD w i 0 ≡ 34 → ⊥)
@@ -226,7 +235,8 @@ module _ (w : Bytes) (p r : ℕ) (h : p + 2 ≤ length w) (a : getD w p 0 ≡ 32
             (λ (e : getD (take (r - p) (drop p w)) (length (take (r - p) (drop p w)) - 1) 0 ≡ 32). omega arith)
             (stands-first (drop 1 (take (r - p) (drop p w)))
             (λ (e : getD (drop 1 (take (r - p) (drop p w))) 0 0 ≡ 45). omega arith)
-            (λ (e : getD (drop 1 (take (r - p) (drop p w))) 0 0 ≡ 48). z (sym first ∙ e)));
+            (λ (e : getD (drop 1 (take (r - p) (drop p w))) 0 0 ≡ 48). z (sym first ∙ e))
+            (λ (e : getD (drop 1 (take (r - p) (drop p w))) 0 0 ≡ 34). omega arith));
       }
 
 -- the field that begins at p, with the space before it

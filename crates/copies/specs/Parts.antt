@@ -36,9 +36,12 @@ fields-form strip f t m i (c ∷ cs) [] = []
 fields-form strip f t m i (c ∷ cs) (w ∷ ws) =
     (bytes "; " ++ datum-text (datum-by strip f t m i (c .column) w)) ++ fields-form strip f t m (suc i) cs ws
 
--- does a field that passed its column's rules stand as it is written? A text does, and a number without a minus or a leading zero
+-- does a field that passed its column's rules stand as it is written? A text does that has no space before its closing quote, and a number
+-- without a minus or a leading zero
 unfoldable pub stands : Bytes → Bool
-stands w = pick (eqb (getD w 0 0) 45) false (pick (eqb (getD w 0 0) 48) (eqb (length w) 1) true)
+stands w =
+    pick (eqb (getD w 0 0) 45) false
+    (pick (eqb (getD w 0 0) 48) (eqb (length w) 1) (pick (eqb (getD w 0 0) 34) (not (eqb (getD w (length w - 2) 0) 32)) true))
 
 unfoldable pub all-stand : List Bytes → Bool
 all-stand [] = true

@@ -6,7 +6,7 @@ ghost use lib.ListN.{length, getD, drop};
 ghost use Rattle.page.specs.Fields.{field-size};
 ghost use Rattle.copies.specs.Parts.{stands, Spaced, Ends, Whole};
 
-// "Numbers without leading zeros": one with a minus is a zero.
+// "Numbers without leading zeros": one with a minus is a zero. A text has no space before its closing quote.
 fn is_written(f: &[u8]) -> bool
     ensures { λ r. ⌜ r ≡ stands (now (f .entry)) ⌝ }
 {
@@ -17,10 +17,17 @@ fn is_written(f: &[u8]) -> bool
     if b == 45 {
         return false;
     }
-    if b != 48 {
+    if b == 48 {
+        return f.len() == 1;
+    }
+    if b != 34 {
         return true;
     }
-    f.len() == 1
+    if f.len() == 1 {
+        return true;
+    }
+    let last = f.len() - 2;
+    f[last] != 32
 }
 
 // What stands between two `;`: "One space after each separating `;`, none elsewhere outside texts".

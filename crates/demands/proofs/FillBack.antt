@@ -7,7 +7,7 @@ use native.Mathlib.Omega.{arith}
 use lib.Dec.{eqb, leb, ltb}
 use lib.ListN.{length, getD, length-map}
 use borrow.Author.Tests.{eqb-true, eqb-false, ltb-false, leb-true, not-false}
-use Rattle.page.specs.Bytes.{Bytes, all}
+use Rattle.page.specs.Bytes.{Bytes, all, unpadded}
 use Rattle.page.specs.Lines.{allowed}
 use Rattle.page.specs.Tables.{Named, no-column, columns, column-at, width}
 use Rattle.page.specs.Cut.{sections}
@@ -32,6 +32,7 @@ use Rattle.round.proofs.RoundForm.{form-model, form-sound}
 use Rattle.demands.proofs.RoundAlike.{only-texts, settled, keys-alike, sound-alike, alike-self}
 use Rattle.round.proofs.Round.{accepted-model, accepted-keys}
 use Rattle.demands.proofs.Fill.{no-content, fill-here, fill-other-section, fill-other-record, fill-other-field}
+use Rattle.page.proofs.ScanLaws.{unpadded-once}
 use Rattle.page.proofs.TestLaws.{and-left, and-right, neither}
 use Rattle.laws.proofs.Earlier.{earlier-none}
 
@@ -91,7 +92,7 @@ pairs-change g f (one-more {x} q qs) (suc k) d h p = a-pair (f x q) (pairs-chang
 
 -- one record
 
-module _ (latin : Bool) (t : Bytes) (some : 0 < length t) (small : length t ≤ 40) (ok : all (allowed latin) t ≡ true) where
+module _ (latin : Bool) (t : Bytes) (some : 0 < length t) (small : length t ≤ 40) (ok : all (allowed latin) t ≡ true) (own : unpadded t ≡ t) where
   abbrev given : Datum → Datum
   given v = words O.Suggestion t
 
@@ -103,7 +104,7 @@ module _ (latin : Bool) (t : Bytes) (some : 0 < length t) (small : length t ≤ 
       let x : (c .column .text && leb 40 (c .column .hi)) ≡ true =
       filled (c .column .fillable) (c .column .text && leb 40 (c .column .hi)) e (and-left (not (c .column .fillable) || (c .column .text && leb 40 (c .column .hi))) (only-texts cs) h) in
       let z : length t ≤ c .column .hi = omega (arith, leb-true 40 (c .column .hi) (and-right (c .column .text) (leb 40 (c .column .hi)) x)) in
-      a-value (a-suggestion (and-left (c .column .text) (leb 40 (c .column .hi)) x) e some z ok) fs
+      a-value (a-suggestion (and-left (c .column .text) (leb 40 (c .column .hi)) x) e some z ok own) fs
   fill-fit (a-value {c} {cs} f fs) h (suc k) e =
       a-value f (fill-fit fs (and-right (not (c .column .fillable) || (c .column .text && leb 40 (c .column .hi))) (only-texts cs) h) k e)
 
@@ -142,8 +143,11 @@ module _ (latin : Bool) (t : Bytes) (some : 0 < length t) (small : length t ≤ 
 content-self : (latin : Bool) (c : Content) → SoundContent latin c → AlikeContent c c
 content-self latin c s = record { table = refl; records = pairs-self (λ x q. alike-self latin (q .fit)) (s .records) }
 
--- a fill that nothing refuses
-module _ (s : Bytes) (i r f : ℕ) (t : Bytes) (h : fill-refusal s i r f t .number ≡ 0) where
+-- a fill that nothing refuses, of a text without the spaces at its end
+module _ (s : Bytes) (i r f : ℕ) (sent : Bytes) (h : fill-refusal s i r f (unpadded sent) .number ≡ 0) where
+  abbrev t : Bytes
+  t = unpadded sent
+
   abbrev the-table : ℕ
   the-table = table-of (section-at s i .lines)
 
@@ -229,7 +233,7 @@ module _ (s : Bytes) (i r f : ℕ) (t : Bytes) (h : fill-refusal s i r f t .numb
   filled-model = fill-model i r f t (modelOf s)
 
   filled-content : SoundContent (latinOf s) (fill-content r f t content-here)
-  filled-content = fill-content-sound (latinOf s) t (all-open .some) (all-open .small) (all-open .ok) content-here content-sound r f (places .2) r-within may-here
+  filled-content = fill-content-sound (latinOf s) t (all-open .some) (all-open .small) (all-open .ok) (unpadded-once sent) content-here content-sound r f (places .2) r-within may-here
 
   pub filled-sound : SoundModel filled-model
   unfolding fill-model
@@ -244,7 +248,7 @@ module _ (s : Bytes) (i r f : ℕ) (t : Bytes) (h : fill-refusal s i r f t .numb
   filled-keys =
       keys-alike
       (pairs-change (fill-content r f t) (content-self (latinOf s)) (rw latin-is at (sound-model .tables)) (i - 1) no-content i-within
-      (fill-content-alike (latinOf s) t (all-open .some) (all-open .small) (all-open .ok) content-here content-sound r f (places .2) r-within may-here))
+      (fill-content-alike (latinOf s) t (all-open .some) (all-open .small) (all-open .ok) (unpadded-once sent) content-here content-sound r f (places .2) r-within may-here))
       (accepted-keys s (all-open .file))
 
   -- how many values the record has

@@ -11,3 +11,4 @@ pub mod Samples
 pub mod Viable
 pub mod WrittenMarks
 pub mod Lexical
+pub mod PaddedTexts

@@ -3,7 +3,7 @@ use mathlib.Core.Path.{_≡_}
 use Prim.Native.Nat.{ℕ}
 use lib.ListN.{length, take, drop}
 use lib.Seq.{take-append-seam}
-use Rattle.page.specs.Bytes.{Bytes}
+use Rattle.page.specs.Bytes.{Bytes, unpadded}
 use Rattle.page.specs.Answers.{sound, checked}
 use Rattle.page.specs.File.{file-refusal, checkOf}
 use Rattle.page.specs.Model.{Model, modelOf, fill-model, strip-model}
@@ -46,8 +46,9 @@ strip-output s out n e =
     put-form (file-refusal s) (strip-form s) out n (strip-model (modelOf s)) d (strip-accepted s (d .accepted) (d .small)) (strip-model-back s (d .accepted) (d .small))
 
 pub fill-output : (s : Bytes) (i j f : ℕ) (t out : Bytes) (n : ℕ) → fillOf s i j f t (length out) ≡ W.Length n →
-    Put (fill-after s i j f t out) n (fill-model i j f t (modelOf s))
+    Put (fill-after s i j f t out) n (fill-model i j f (unpadded t) (modelOf s))
 unfolding fillOf fill-after
 fill-output s i j f t out n e =
-    let d = done-put (fill-refusal s i j f t) (fill-form s i j f t) out n e in
-    put-form (fill-refusal s i j f t) (fill-form s i j f t) out n (fill-model i j f t (modelOf s)) d (fill-accepted s i j f t (d .accepted) (d .small)) (fill-model-back s i j f t (d .accepted) (d .small))
+    let u : Bytes = unpadded t in
+    let d = done-put (fill-refusal s i j f u) (fill-form s i j f u) out n e in
+    put-form (fill-refusal s i j f u) (fill-form s i j f u) out n (fill-model i j f u (modelOf s)) d (fill-accepted s i j f t (d .accepted) (d .small)) (fill-model-back s i j f t (d .accepted) (d .small))

@@ -5,7 +5,7 @@ use mathlib.Core.List.{List, map}
 use Prim.Native.Nat.{ℕ, _≤_}
 use native.Mathlib.Omega.{arith}
 use lib.ListN.{length}
-use Rattle.page.specs.Bytes.{Bytes, all}
+use Rattle.page.specs.Bytes.{Bytes, all, keep, unpadded}
 use Rattle.page.specs.Tables.{Named, columns}
 use Rattle.page.specs.Records.{Record}
 use Rattle.page.specs.Model.{Content, Model, modelOf, strip-datum, strip-content, strip-model, changed, kept}
@@ -26,18 +26,18 @@ use Rattle.demands.proofs.Strip.{strip-twice}
 
 module _ (latin : Bool) where
   strip-fit : {cs : List Named} {vs : Record} → FitAll latin cs vs → FitAll latin cs (map strip-datum vs)
-  unfolding strip-datum all
+  unfolding strip-datum all keep unpadded
   strip-fit no-value = no-value
   strip-fit (a-value (a-number k l h) g) = a-value (a-number k l h) (strip-fit g)
-  strip-fit (a-value (a-text k l a) g) = a-value (a-text k l a) (strip-fit g)
-  strip-fit (a-value {c} (a-suggestion k f p l a) g) = a-value (a-text k (let z : 0 ≤ c .column .hi = omega arith in z) refl) (strip-fit g)
+  strip-fit (a-value (a-text k l a e) g) = a-value (a-text k l a e) (strip-fit g)
+  strip-fit (a-value {c} (a-suggestion k f p l a e) g) = a-value (a-text k (let z : 0 ≤ c .column .hi = omega arith in z) refl refl) (strip-fit g)
 
   strip-alike : {cs : List Named} {vs : Record} → FitAll latin cs vs → Alike cs vs (map strip-datum vs)
   unfolding strip-datum
   strip-alike no-value = alike-none
   strip-alike (a-value (a-number k l h) g) = alike-same (strip-alike g)
-  strip-alike (a-value (a-text k l a) g) = alike-same (strip-alike g)
-  strip-alike (a-value (a-suggestion k f p l a) g) = alike-text f (strip-alike g)
+  strip-alike (a-value (a-text k l a e) g) = alike-same (strip-alike g)
+  strip-alike (a-value (a-suggestion k f p l a e) g) = alike-text f (strip-alike g)
 
   records-sound : (t : ℕ) {rs : List Record} → Every (SoundRecord latin t) rs → Every (SoundRecord latin t) (map (map strip-datum) rs)
   records-sound t none-left = none-left

@@ -9,7 +9,7 @@ use native.Mathlib.Omega.{arith}
 use lib.Dec.{eqb}
 use lib.ListN.{length, getD}
 use borrow.Author.Tests.{eqb-true, eqb-false}
-use Rattle.page.specs.Bytes.{Bytes, all}
+use Rattle.page.specs.Bytes.{Bytes, all, unpadded}
 use Rattle.page.specs.Lines.{lines, content, command, Com}
 use Rattle.page.specs.Fields.{digit, textOf}
 use Rattle.page.specs.Tables.{columns, table-at, TABLES}
@@ -153,7 +153,7 @@ module _ (ends : LineEnd) (latin : Bool) (t : ℕ) (known : t < TABLES) where
     where
       by : (m : ℕ) × Marked ends 1 (columns t) vs m → mark-lines ends 1 vs ++ (rec-line ends vs ∷ []) ≡ mark-line ends f ∷ rec-line ends vs ∷ []
       by (m, unmarked h o) = let z : 0 ≡ 1 + (f - 1) = owned-suggests o (f - 1) u e in absurd (let w : ⊥ = omega arith in w)
-      by (m, marked j b w l y q h o) =
+      by (m, marked j b w l y q d h o) =
           let z : 1 + j ≡ 1 + (f - 1) = owned-suggests o (f - 1) u e in
           let k : 1 + j ≡ f = omega arith in
           rw (h, k)
@@ -166,7 +166,7 @@ module _ (ends : LineEnd) (latin : Bool) (t : ℕ) (known : t < TABLES) where
       where
         by : (k : ℕ) × Marked ends 1 (columns t) (v ∷ vs) k → Only (MarkAndRecord ends m) (mark-lines ends 1 (v ∷ vs) ++ (rec-line ends (v ∷ vs) ∷ []))
         by (k, unmarked h o) = rw h (plain (no-comment (rec-seen ends latin t v vs r) refl) over)
-        by (k, marked j b u l y q h o) =
+        by (k, marked j b u l y q d h o) =
             let less : 1 + j - 1 ≡ j = omega arith in
             rw h
             (two (no-comment (rec-seen ends latin t v vs r) refl)
@@ -261,20 +261,23 @@ module _ (s : Bytes) (ok : file-refusal s .number ≡ 0) where
 
 -- and of a fill that succeeded: the new mark, and all others
 
-module _ (s : Bytes) (i r f : ℕ) (t : Bytes) (ok : fill-refusal s i r f t .number ≡ 0) where
+module _ (s : Bytes) (i r f : ℕ) (sent : Bytes) (ok : fill-refusal s i r f (unpadded sent) .number ≡ 0) where
+  abbrev t : Bytes
+  t = unpadded sent
+
   pub fill-mark : Directly (lines (fill-form s i r f t)) (mark-line E.Lf f) (rec-line E.Lf (record-at i r (fill-model i r f t (modelOf s))))
   unfolding fill-form form-by changed kept
-  fill-mark = mark-stands E.Lf (fill-model i r f t (modelOf s)) (filled-sound s i r f t ok) i r f t (fill-field s i r f t ok) (fill-put s i r f t ok)
+  fill-mark = mark-stands E.Lf (fill-model i r f t (modelOf s)) (filled-sound s i r f sent ok) i r f t (fill-field s i r f sent ok) (fill-put s i r f sent ok)
 
   pub fill-marks : (j q g : ℕ) (u : Bytes) → 0 < g → datum-at j q g (fill-model i r f t (modelOf s)) ≡ words O.Suggestion u →
       Directly (lines (fill-form s i r f t)) (mark-line E.Lf g) (rec-line E.Lf (record-at j q (fill-model i r f t (modelOf s))))
   unfolding fill-form form-by changed kept
-  fill-marks j q g u p e = mark-stands E.Lf (fill-model i r f t (modelOf s)) (filled-sound s i r f t ok) j q g u p e
+  fill-marks j q g u p e = mark-stands E.Lf (fill-model i r f t (modelOf s)) (filled-sound s i r f sent ok) j q g u p e
 
   pub fill-only-marks : (before after : List Bytes) (x : Bytes) → lines (fill-form s i r f t) ≡ before ++ (x ∷ after) → command (content x) ≡ Com →
       Behind (MarkAndRecord E.Lf (fill-model i r f t (modelOf s))) x after
   unfolding fill-form form-by changed kept
-  fill-only-marks before after x e k = only-marks E.Lf (fill-model i r f t (modelOf s)) (filled-sound s i r f t ok) before after x e k
+  fill-only-marks before after x e k = only-marks E.Lf (fill-model i r f t (modelOf s)) (filled-sound s i r f sent ok) before after x e k
 
 -- a stripped file has no `com` line at all
 

@@ -1,9 +1,10 @@
--- What the smallest pieces of a file are, with no algorithm: digits, numbers, formats, mark texts.
+-- What the smallest pieces of a file are, with no algorithm: digits, numbers, formats, mark texts, texts of a record.
 use mathlib.Core.Path.{_≡_}
 use mathlib.Core.List.{[], _∷_, _++_}
-use Prim.Native.Nat.{ℕ, _+_, _*_, _≤_, _<_}
+use Prim.Native.Nat.{ℕ, zero, suc, _+_, _-_, _*_, _≤_, _<_}
 use lib.ListN.{length, getD}
 use Rattle.page.specs.Bytes.{Bytes, bytes}
+use Rattle.page.specs.Form.{quoted}
 use Rattle.page.specs.declared.Number.{Number}
 use Rattle.page.specs.declared.Number.the-variants as N
 
@@ -43,3 +44,15 @@ pub record MarkText (t : Bytes) (i : ℕ) : Type 0 where
   pub digits : Bytes
   pub whole : t ≡ bytes "SUGGESTED " ++ digits
   pub reads : Shortest digits i
+
+-- n spaces
+unfoldable pub blanks : ℕ → Bytes
+blanks zero = []
+blanks (suc n) = 32 ∷ blanks n
+
+-- "Spaces at the end of a text in a record no longer belong to it": a field holds t exactly if it is t with any number of spaces behind it,
+-- quoted, and the last byte of t is none
+pub record PaddedText (f t : Bytes) : Type 0 where
+  pub spaces : ℕ
+  pub whole : f ≡ quoted (t ++ blanks spaces)
+  pub bare : ¬ (getD t (length t - 1) 0 ≡ 32)

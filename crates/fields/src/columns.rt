@@ -22,19 +22,23 @@ pub struct Reading {
     pub end: usize,
 }
 
-// 11, then 13: the field is the part of w from one place to another.
+// 11, then 13: the field is the part of w from one place to another. "Spaces at the end of a text in a record no longer belong to it": its
+// size and its span are without those that stand before the closing quote.
 fn read_text_field(w: &[u8], from: usize, to: usize, size: u64) -> Field
     requires { ⌜ (from ≤ to) × (to ≤ length (now w)) ⌝ }
     ensures { λ r. ⌜ r ≡ later-field from (text-field size (wordsOf (take (to - from) (drop from (now (w .entry)))))) ⌝ }
 {
     match text_size(&w[from..to]) {
         Size::Is(n) => {
-            if size < n as u64 {
+            let close = to - 1;
+            let e = from + lines::kept(&w[from..close]);
+            let own = n - (close - e);
+            if size < own as u64 {
                 return Field::Refused(13);
             }
             Field::Text(Span {
                 from: from + 1,
-                to: to - 1,
+                to: e,
             })
         }
         Size::Nothing => Field::Refused(11),

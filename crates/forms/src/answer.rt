@@ -46,7 +46,8 @@ fn refuse_fill(s: &[u8], section: usize, record: usize, field: usize, text: &[u8
     }
 }
 
-// "Filling names section, record and field (from 1) and a text; the result is the written form with that text and its mark."
+// "Filling names section, record and field (from 1) and a text; the result is the written form with that text and its mark." "A text of
+// spaces only is empty, and a fill's text is trimmed likewise."
 pub fn fill(
     s: &[u8],
     section: usize,
@@ -59,6 +60,7 @@ pub fn fill(
         ⌜ (r ≡ fillOf (now (s .entry)) section «record» field (now (text .entry)) (length (now (out .entry))))
         × (now (out .exit) ≡ fill-after (now (s .entry)) section «record» field (now (text .entry)) (now (out .entry))) ⌝ }
 {
-    let refusal = refuse_fill(s, section, record, field, text);
-    fill_checked(s, refusal, section, record, field, text, out)
+    let own = lines::unpadded(text);
+    let refusal = refuse_fill(s, section, record, field, own);
+    fill_checked(s, refusal, section, record, field, own, out)
 }

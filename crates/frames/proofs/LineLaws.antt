@@ -3,12 +3,11 @@ use mathlib.Core.Path.{_≡_, refl, ap, _∙_}
 use mathlib.Core.Bool.{Bool, true, false}
 use mathlib.Core.List.{List, [], _∷_, _++_, append-nil, append-assoc}
 use mathlib.Core.Option.{Option, none, some}
-use Prim.Native.Nat.{ℕ, _+_, _*_, _-_, _≤_}
+use Prim.Native.Nat.{ℕ, _+_, _*_, _≤_}
 use Prim.Native.String.{String}
 use native.Mathlib.Omega.{arith}
-use lib.ListN.{length, take, drop, length-append}
+use lib.ListN.{length, length-append}
 use Rattle.page.specs.Bytes.{Bytes, bytes, part}
-use Rattle.page.specs.Fields.{textOf}
 use Rattle.page.specs.Head.{Head}
 use Rattle.page.specs.Form.{line-end, separated, line, decimal, doubled, quoted, date-text, time-text, charset-name, line-if, head-form, mark-line}
 use Rattle.page.specs.declared.LineEnd.{LineEnd}
@@ -19,9 +18,8 @@ use Rattle.page.specs.declared.Stated.{Stated}
 use Rattle.page.specs.declared.Stated.the-variants as St
 use Rattle.page.specs.declared.Header.{Header}
 use Rattle.page.proofs.LineEndLaws.{line-end-length}
-use Rattle.page.proofs.TextLaws.{text-between}
-use Rattle.output.specs.Raw.{undoubled, raw-text, line-with, mod-line, text-line, src-line, chs-line, stated-line, head-raw}
-use Rattle.output.proofs.FormLaws.{undoubled-doubled, decimal-length, date-length, time-length, raw-length, part-length, Plain, plain-append, plain-byte, plain-decimal, plain-padded, plain-quoted}
+use Rattle.output.specs.Raw.{raw-text, line-with, mod-line, text-line, src-line, chs-line, stated-line, head-raw}
+use Rattle.output.proofs.FormLaws.{decimal-length, date-length, time-length, raw-length, part-length, Plain, plain-append, plain-byte, plain-decimal, plain-padded, plain-quoted}
 
 pub separator-length : length (bytes "; ") ≡ 2
 unfolding bytes
@@ -142,9 +140,6 @@ head-raw-length ends s h =
 pub raw-quoted : (t : Bytes) → raw-text (doubled t) ≡ quoted t
 unfolding raw-text quoted
 raw-quoted t = refl
-
-pub own-is : (f t : Bytes) → textOf f ≡ some t → undoubled false (take (length f - 2) (drop 1 f)) ≡ t
-own-is f t e = ap (undoubled false) (text-between f t e) ∙ undoubled-doubled t
 
 -- A header by places says what a header by values says, where each text's bytes in the file are the text with its quotes doubled.
 pub data Same-stated (s : Bytes) : Stated → Option Bytes → Type 0 where

@@ -4,7 +4,7 @@ use mathlib.Core.Bool.{Bool, true, false, _&&_, false≢true}
 use mathlib.Core.List.{List, [], _∷_, _++_, List·Memᴰ, List·Memᴰ·head, List·Memᴰ·tail, List·Memᴰ·not-nil, List·Memᴰ·cases-cons}
 use mathlib.Core.Logic.{_⊎_, inl, inr, _↔_}
 use mathlib.Core.Option.{Option, none, some}
-use Prim.Native.Nat.{ℕ, zero, suc, _-_, _≤_}
+use Prim.Native.Nat.{ℕ, zero, suc, _≤_}
 use native.Mathlib.Omega.{arith}
 use native.Mathlib.Numerals.{add-one}
 use borrow.Author.Tests.{ne-eqb}
@@ -138,7 +138,7 @@ module _ {G : Phase → Type 0} (q : Phase) (c : Column) (f : Bytes) (y : ℕ) (
       inv (number m) (a-number u h a b) = absurd (false≢true (cc))
       inv (words p x) (a-text u h a) = let z : x ≡ w = cc in rw z at a
 
-      by : (b : Bool) → Decides (length w ≤ c .hi) b → Agrees G (field-step (pick b (F.Text (record { from = 1; to = length f - 1 })) (F.Refused 13))) (holds-law ∷ more)
+      by : (b : Bool) → Decides (length w ≤ c .hi) b → Agrees G (field-step (pick b (F.Text (Section.own-span f)) (F.Refused 13))) (holds-law ∷ more)
       by true (holds p) = miss (λ x. x (words O.Operator w, a-text t e p)) (next (field-right {o = O.Operator} (a-text t e p)))
       by false (fails x) = hit (λ z. x (inv (z .0) (z .1)))
 

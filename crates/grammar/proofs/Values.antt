@@ -13,7 +13,7 @@ use Rattle.page.specs.Bytes.{Bytes, pick, all}
 use Rattle.page.specs.Fields.{textOf, bodyOf, numberOf, digit, digits, value}
 use Rattle.page.specs.Tables.{Named, Rule, points-differ, no-column, columns, rules}
 use Rattle.page.specs.Marks.{owner-of}
-use Rattle.page.specs.Section.{wordsOf, record-text, text-field, number-field, fieldOf, field-number, first-wrong, amount-at, broken, first-broken, no-bytes, empty-marked}
+use Rattle.page.specs.Section.{own-span, wordsOf, record-text, text-field, number-field, fieldOf, field-number, first-wrong, amount-at, broken, first-broken, no-bytes, empty-marked}
 use Rattle.page.specs.Records.{Datum, number, words, Record, datumOf, valuesOf}
 use Rattle.page.specs.Grammar.{Holds, a-number, a-text, marked, owner-by, Values, no-field, a-field, Breaks, same-points}
 use Rattle.page.specs.Refusals.{marks-of}
@@ -24,7 +24,7 @@ use Rattle.page.specs.declared.Field.the-variants as F
 use Rattle.page.specs.declared.Owner.{Owner}
 use Rattle.page.specs.declared.Owner.the-variants as O
 use Rattle.page.proofs.TableLaws.{points-there}
-use Rattle.page.proofs.TextLaws.{record-text-is, worded-none, worded-some}
+use Rattle.page.proofs.TextLaws.{unpadded-in, record-text-is, worded-none, worded-some}
 use Rattle.laws.proofs.Decides.{Decides, holds, fails, tested, untested, when, both, one-of, equal, at-most}
 
 and-false : (b : Bool) → (b && false) ≡ false
@@ -86,7 +86,7 @@ right-field o c f = by (c .text) refl
     of-text none t e z = let y = rw (worded-none f e) at z in absurd (let y : ⊥ = omega arith in y)
     of-text (some w) t e z = within (leb (length w) (c .hi)) (at-most (length w) (c .hi)) (rw (worded-some f w e) at z)
       where
-        within : (b : Bool) → Decides (length w ≤ c .hi) b → field-number (pick b (F.Text (record { from = 1; to = length f - 1 })) (F.Refused 13)) ≡ 0 → (v : Datum) × Holds o c f v
+        within : (b : Bool) → Decides (length w ≤ c .hi) b → field-number (pick b (F.Text (own-span f)) (F.Refused 13)) ≡ 0 → (v : Datum) × Holds o c f v
         within true (holds p) z = (words o w, a-text t e p)
         within false d z = absurd (let y : ⊥ = omega arith in y)
 
@@ -174,7 +174,7 @@ unfolding textOf
 number-no-text [] n e = rw (record-text-is [])
 number-no-text (b ∷ f) n e = rw (record-text-is (b ∷ f)) (by (eqb b 34) (equal b 34))
   where
-    by : (d : Bool) → Decides (b ≡ 34) d → no-bytes (pick d (bodyOf false f) none) ≡ false
+    by : (d : Bool) → Decides (b ≡ 34) d → no-bytes (unpadded-in (pick d (bodyOf false f) none)) ≡ false
     by true (holds q) = let z : numberOf (34 ∷ f) ≡ N.Plus n = rw q at e in let y = quoted-no-number f in absurd (false≢true (cc))
     by false (fails q) = refl
 

@@ -2,19 +2,19 @@
 use mathlib.Core.Path.{_≡_, refl, ap, sym, _∙_}
 use mathlib.Core.Bool.{Bool, true, false, not, _||_}
 use mathlib.Core.List.{[]}
-use mathlib.Core.Option.{Option, none, some}
+use mathlib.Core.Option.{some}
 use Prim.Native.Nat.{ℕ, _+_, _-_, _<_, _≤_}
 use native.Mathlib.Omega.{arith}
 use borrow.Author.Tests.{eqb-true, eqb-false, ne-eqb}
 use lib.Dec.{eqb}
 use lib.ListN.{length, getD, take, drop}
 use Rattle.page.specs.Bytes.{Bytes, pick, part, moved}
-use Rattle.page.specs.Fields.{fields, textOf}
+use Rattle.page.specs.Fields.{fields}
 use Rattle.page.specs.Tables.{column-at, width}
 use Rattle.page.specs.Order.{arranged}
 use Rattle.page.specs.Cut.{Section, sections}
 use Rattle.page.specs.Head.{latinOf}
-use Rattle.page.specs.Section.{Wording, worded, wordsOf, record-text, fieldOf, field-number, rec-verdict, outcome}
+use Rattle.page.specs.Section.{Wording, wordsOf, record-text, fieldOf, field-number, rec-verdict, outcome}
 use Rattle.page.specs.Records.{table-of, order-in}
 use Rattle.page.specs.Places.{Standing, field-span}
 use Rattle.page.specs.Answers.{refusal, earlier, refuse-if, got, written, handed}
@@ -42,12 +42,13 @@ use Rattle.laws.proofs.Sections.{sections-begin}
 use Rattle.values.proofs.ReadLaws.{Read, a-text, a-number, no-value, read-of, wording-in}
 use Rattle.values.proofs.ValueLaws.{inside}
 use Rattle.output.specs.Raw.{undoubled}
-use Rattle.frames.proofs.LineLaws.{own-is}
+use Rattle.output.proofs.FormLaws.{undoubled-doubled}
 use Rattle.output.proofs.WriteLaws.{refused}
 use Rattle.handing.specs.Own.{Lies, Spans, owned, Gave}
 use Rattle.handing.proofs.PassLaws.{passed-there, passed-right, section-passed, every-at}
 use Rattle.handing.proofs.StandLaws.{Lain, record-lain}
 use Rattle.page.proofs.TestLaws.{neither}
+use Rattle.page.proofs.TextLaws.{words-there}
 use Rattle.laws.proofs.Earlier.{earlier-none}
 
 -- what an answer tells of its refusal
@@ -119,15 +120,7 @@ sound-of s i f v =
 
 -- the text of a field is what stands there with its doubled quotes undone
 wording-own : (f : Bytes) (y : Wording) → wordsOf f ≡ some y → undoubled false (part (y .span) f) ≡ y .own
-unfolding wordsOf
-wording-own f y e = by (textOf f) refl e
-  where
-    by : (o : Option Bytes) → textOf f ≡ o → worded f o ≡ some y → undoubled false (part (y .span) f) ≡ y .own
-    by none q z = absurd (let x : _≡_ {A = ℕ} 0 1 = cc in omega arith)
-    by (some u) q z =
-        let x : record { own = u; span = record { from = 1; to = length f - 1 } } ≡ y = cc in
-        let n : length f - 1 - 1 ≡ length f - 2 = omega arith in
-        rw (sym x, n) (own-is f u q)
+wording-own f y e = ap (undoubled false) (words-there f y e .stands) ∙ undoubled-doubled (y .own)
 
 -- a record's text, of what lies in the file
 module _ (s : Bytes) (x : Standing) (p : ℕ) (y : Wording) (l : Lain s x) (short : length s ≤ limit) (h : p < length (fields (x .rest)))

@@ -1,14 +1,14 @@
 -- What a sound section's verdict tells: its table, that each column stands once, and that each value fits its column. Assumes nothing.
-use mathlib.Core.Path.{_≡_, refl, ap, sym, _∙_}
+use mathlib.Core.Path.{_≡_, refl, ap, _∙_}
 use mathlib.Core.Bool.{Bool, true, false, false≢true, _&&_, _||_}
 use mathlib.Core.List.{List, [], _∷_, map}
 use mathlib.Core.Option.{Option, none, some}
 use Prim.Native.Nat.{ℕ, zero, suc, _+_, _-_, _<_, _≤_}
 use native.Mathlib.Omega.{arith}
 use lib.Dec.{eqb, leb}
-use lib.ListN.{length, getD, take, drop}
+use lib.ListN.{length, getD, drop}
 use borrow.Author.Tests.{leb-true, lt-ltb}
-use Rattle.page.specs.Bytes.{Bytes, pick, all, until, trimOf, trim}
+use Rattle.page.specs.Bytes.{Bytes, pick, all, until, trimOf, trim, keep, space, unpadded}
 use Rattle.page.specs.Lines.{content, command, rest, semicolon, allowed, clean, Rec}
 use Rattle.page.specs.Fields.{parts-here, inside-after, into, split, fields, quote, with-byte, bodyOf, textOf}
 use Rattle.page.specs.Tables.{Named, number-at, TABLES, columns, width}
@@ -21,8 +21,9 @@ use Rattle.page.specs.declared.Outcome.{Outcome}
 use Rattle.page.specs.declared.Owner.{Owner}
 use Rattle.page.specs.declared.Column.{Column}
 use Rattle.page.proofs.TestLaws.{and-left, and-right}
+use Rattle.page.proofs.ScanLaws.{all-take}
 use Rattle.page.proofs.TableLaws.{each, each-at}
-use Rattle.page.proofs.TextLaws.{record-text-is}
+use Rattle.page.proofs.TextLaws.{padded-of}
 use Rattle.laws.specs.Begins.{begins}
 use Rattle.grammar.proofs.Accepts.{denotes-accepted}
 use Rattle.grammar.proofs.Readings.{handed-denoted, denoted-known, sound-arranged}
@@ -44,12 +45,6 @@ allowed-byte wide b e = by (leb 32 b) (leb b 126) refl e
     by false y q e = high (leb 161 b) (leb b 255) refl e
 
 module _ (p : ℕ → Bool) where
-  all-take : (n : ℕ) (s : Bytes) → all p s ≡ true → all p (take n s) ≡ true
-  unfolding all
-  all-take zero s e = refl
-  all-take (suc n) [] e = refl
-  all-take (suc n) (b ∷ s) e = rw (and-left (p b) (all p s) e) (all-take n s (and-right (p b) (all p s) e))
-
   all-drop : (n : ℕ) (s : Bytes) → all p s ≡ true → all p (drop n s) ≡ true
   unfolding all
   all-drop zero s e = e
@@ -69,7 +64,7 @@ module _ (p : ℕ → Bool) where
 
   all-trim : (w : Bytes) → all p w ≡ true → all p (trim w) ≡ true
   unfolding trim
-  all-trim w e = all-take (trimOf w .to - trimOf w .from) (drop (trimOf w .from) w) (all-drop (trimOf w .from) w e)
+  all-trim w e = all-take p (trimOf w .to - trimOf w .from) (drop (trimOf w .from) w) (all-drop (trimOf w .from) w e)
 
   all-fields : (w : Bytes) → all p w ≡ true → each (all p) (fields w) ≡ true
   unfolding fields each
@@ -101,12 +96,12 @@ module _ (p : ℕ → Bool) where
       by false e g = absurd (false≢true (cc))
 
   all-text : (f t : Bytes) → all p f ≡ true → record-text f ≡ some t → all p t ≡ true
-  unfolding textOf
-  all-text f t h e = by (quote (getD f 0 0)) (sym (record-text-is f) ∙ e)
+  unfolding textOf unpadded
+  all-text f t h e = let x = padded-of f t e in rw (x .own) (all-take p (keep space (x .whole)) (x .whole) (by (x .whole) (quote (getD f 0 0)) (x .is)))
     where
-      by : (x : Bool) → pick x (bodyOf false (drop 1 f)) none ≡ some t → all p t ≡ true
-      by true e = all-body false (drop 1 f) t (all-drop 1 f h) e
-      by false e = absurd (false≢true (cc))
+      by : (u : Bytes) (x : Bool) → pick x (bodyOf false (drop 1 f)) none ≡ some u → all p u ≡ true
+      by u true e = all-body false (drop 1 f) u (all-drop 1 f h) e
+      by u false e = absurd (false≢true (cc))
 
 clean-bytes : (latin : Bool) (c : Bytes) → clean latin c ≡ true → all byte c ≡ true
 unfolding clean all

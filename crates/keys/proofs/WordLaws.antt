@@ -9,8 +9,8 @@ use borrow.Author.Tests.{le-leb}
 use lib.Dec.{leb}
 use lib.ListN.{length, take, drop}
 use Rattle.page.specs.Bytes.{Bytes, part, moved, trimOf, trim}
-use Rattle.page.specs.Fields.{field-size, textOf}
-use Rattle.page.specs.Section.{Wording, own-of, worded, wordsOf, record-text, text-field, fieldOf}
+use Rattle.page.specs.Fields.{field-size}
+use Rattle.page.specs.Section.{Wording, own-of, wordsOf, record-text, text-field, fieldOf}
 use Rattle.page.specs.Records.{own-bytes}
 use Rattle.page.specs.Places.{span-from}
 use Rattle.page.specs.Reading.{later-field}
@@ -19,7 +19,7 @@ use Rattle.page.specs.declared.Column.{Column}
 use Rattle.page.specs.declared.Field.{Field}
 use Rattle.page.specs.declared.Field.the-variants as F
 use Rattle.page.proofs.ScanLaws.{part-length, part-moved}
-use Rattle.page.proofs.TextLaws.{text-long, text-between}
+use Rattle.page.proofs.TextLaws.{words-there}
 use Rattle.page.proofs.FieldLaws.{span-in, span-part, end-in}
 use Rattle.output.specs.Raw.{undoubled}
 use Rattle.output.proofs.FormLaws.{undoubled-doubled, undoubled-length}
@@ -32,21 +32,13 @@ record Spanned (f : Bytes) (x : Wording) : Type 0 where
   own : undoubled false (part (x .span) f) ≡ x .own
 
 spanned : (f : Bytes) (x : Wording) → wordsOf f ≡ some x → Spanned f x
-unfolding wordsOf
-spanned f x e = by (textOf f) refl e
-  where
-    by : (o : Option Bytes) → textOf f ≡ o → worded f o ≡ some x → Spanned f x
-    by none q r = absurd (let z : _≡_ {A = ℕ} 0 1 = cc in omega arith)
-    by (some t) q r =
-        let y : record { own = t; span = record { from = 1; to = length f - 1 } } ≡ x = cc in
-        let l = text-long f t q in
-        let n : length f - 1 - 1 ≡ length f - 2 = omega arith in
-        rw (sym y)
-        (record {
-          ordered = omega arith;
-          within = omega arith;
-          own = ap (λ (k : ℕ). undoubled false (take k (drop 1 f))) n ∙ ap (undoubled false) (text-between f t q) ∙ undoubled-doubled t;
-        })
+spanned f x e =
+    let a = words-there f x e in
+    record {
+      ordered = omega (arith, a .begins, a .ends);
+      within = omega (arith, a .within);
+      own = ap (undoubled false) (a .stands) ∙ undoubled-doubled (x .own);
+    }
 
 -- it has no more bytes than the field
 short : (f : Bytes) (x : Wording) → wordsOf f ≡ some x → length (x .own) ≤ length f

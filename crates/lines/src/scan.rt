@@ -2,7 +2,7 @@
 ghost use mathlib.Core.Path.{_≡_};
 ghost use Prim.Native.Nat.{_-_, _<_, _≤_};
 ghost use lib.ListN.{length, take, drop};
-ghost use Rattle.page.specs.Bytes.{same, until, keep, space, no-space, moved, trimOf, trim};
+ghost use Rattle.page.specs.Bytes.{same, until, keep, space, no-space, moved, trimOf, trim, unpadded};
 use page::Span;
 
 pub fn equal(a: &[u8], b: &[u8]) -> bool
@@ -48,6 +48,14 @@ pub fn kept(s: &[u8]) -> usize
         t = last;
     }
     0
+}
+
+// "Spaces at the end of a text in a record no longer belong to it."
+pub fn unpadded(t: &[u8]) -> &[u8]
+    ensures { λ r. ⌜ now r ≡ unpadded (now (t .entry)) ⌝ }
+{
+    let n = kept(t);
+    &t[..n]
 }
 
 pub fn trim(s: &[u8]) -> Span

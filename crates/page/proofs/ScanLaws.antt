@@ -11,7 +11,7 @@ use lib.Dec.{eqb}
 use lib.ListN.{length, getD, take, drop, drop-of-length-le, length-take, length-drop}
 use lib.Seq.{drop-cons, take-suc, length-take-le, take-take, drop-drop}
 use Rattle.page.specs.declared.Span.{Span}
-use Rattle.page.specs.Bytes.{Bytes, pick, same, all, until, keep, kept-after, part, moved, space, no-space, trimOf, trim}
+use Rattle.page.specs.Bytes.{Bytes, pick, same, all, until, keep, kept-after, part, moved, space, no-space, trimOf, trim, unpadded}
 use Rattle.page.proofs.TestLaws.{and-left, and-right}
 
 -- what closes the answers of a function that goes by tests, where its definition goes by `pick`
@@ -56,6 +56,12 @@ unfolding all
 all-at p [] i h l = absurd (omega arith)
 all-at p (b ∷ s) zero h l = and-left (p b) (all p s) h
 all-at p (b ∷ s) (suc i) h l = all-at p s i (and-right (p b) (all p s) h) (omega arith)
+
+pub all-take : (p : ℕ → Bool) (n : ℕ) (s : Bytes) → all p s ≡ true → all p (take n s) ≡ true
+unfolding all
+all-take p zero s h = refl
+all-take p (suc n) [] h = refl
+all-take p (suc n) (b ∷ s) h = rw (and-left (p b) (all p s) h) (all-take p n s (and-right (p b) (all p s) h))
 
 -- the same bytes
 
@@ -127,6 +133,29 @@ pub keep-le : (p : ℕ → Bool) (s : Bytes) → keep p s ≤ length s
 unfolding keep
 keep-le p [] = omega arith
 keep-le p (b ∷ bs) = kept-le (p b) (keep p bs) (length bs) (keep-le p bs)
+
+kept-more : (p : ℕ → Bool) (b : ℕ) (s : Bytes) (n : ℕ) → keep p (take n s) ≡ n → keep p (take (kept-after (p b) n) (b ∷ s)) ≡ kept-after (p b) n
+unfolding keep
+kept-more p b s n h = by (p b) refl n h
+  where
+    by : (q : Bool) → p b ≡ q → (n : ℕ) → keep p (take n s) ≡ n → keep p (take (kept-after q n) (b ∷ s)) ≡ kept-after q n
+    by true e zero h = refl
+    by true e (suc n) h = rw (e, h)
+    by false e n h = rw (e, h)
+
+-- what is kept is kept again
+pub keep-kept : (p : ℕ → Bool) (s : Bytes) → keep p (take (keep p s) s) ≡ keep p s
+unfolding keep
+keep-kept p [] = refl
+keep-kept p (b ∷ s) = kept-more p b s (keep p s) (keep-kept p s)
+
+pub unpadded-length : (t : Bytes) → length (unpadded t) ≡ keep space t
+unfolding unpadded
+unpadded-length t = length-take-le (keep space t) t (keep-le space t)
+
+pub unpadded-once : (t : Bytes) → unpadded (unpadded t) ≡ unpadded t
+unfolding unpadded
+unpadded-once t = rw (keep-kept space t) (take-take (keep space t) (keep space t) t (omega arith))
 
 -- spans and parts
 

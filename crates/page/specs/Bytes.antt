@@ -65,3 +65,7 @@ trimOf w = record { from = until no-space (take (keep space w) w); to = keep spa
 
 unfoldable pub trim : Bytes → Bytes
 trim w = part (trimOf w) w
+
+-- "Spaces at the end of a text in a record no longer belong to it."
+unfoldable pub unpadded : Bytes → Bytes
+unpadded t = take (keep space t) t

@@ -9,19 +9,21 @@ use Rattle.page.specs.Lines.{lines, command}
 use Rattle.page.specs.Fields.{textOf}
 use Rattle.page.specs.Header.{headOf}
 use Rattle.page.specs.Section.{outcome}
-use Rattle.page.specs.File.{file-refusal}
+use Rattle.page.specs.File.{limit, file-refusal}
 use Rattle.page.specs.Reading.{valueOf}
-use Rattle.page.specs.Writing.{write-form}
+use Rattle.page.specs.Writing.{write-form, fillOf}
 use Rattle.page.specs.declared.Outcome.{Outcome}
 use Rattle.page.specs.declared.Finding.{Finding}
 use Rattle.page.specs.declared.Refusal.{Refusal}
 use Rattle.page.specs.declared.Got.{Got}
+use Rattle.page.specs.declared.Written.{Written}
 
--- a line's content, a field, a header, a section under ASCII (false) or ISO8859-1 (true), a file, its written form, a value of it
+-- a line's content, a field, a header, a section under ASCII (false) or ISO8859-1 (true), a file, its written form, a value of it, a fill
 pub data Case : Type 0 where
   content-case field-case header-case file-case form-case : Bytes → Case
   section-case : Bool → Bytes → Case
   value-case : Bytes → (i r f : ℕ) → Case
+  fill-case : Bytes → (i r f : ℕ) → Bytes → Case
 
 pub data Answer : Type 0 where
   a-command : ℕ → Answer
@@ -31,6 +33,7 @@ pub data Answer : Type 0 where
   a-file : Refusal → Answer
   a-form : Bytes → Answer
   a-value : Got → Answer
+  a-fill : Written → Answer
 
 unfoldable pub answer : Case → Answer
 answer (content-case c) = a-command (command c)
@@ -40,6 +43,7 @@ answer (section-case latin s) = a-section (outcome latin (lines s))
 answer (file-case s) = a-file (file-refusal s)
 answer (form-case s) = a-form (write-form s)
 answer (value-case s i r f) = a-value (valueOf s i r f)
+answer (fill-case s i r f t) = a-fill (fillOf s i r f t limit)
 
 -- table, records, verdict, line
 abbrev pub says : ℕ → ℕ → ℕ → ℕ → Answer

@@ -1,4 +1,4 @@
--- The fourteen rows of document 01, computed as one table.
+-- The fourteen rows of document 01, row 14 turned round by document 02 (E2), computed as one table.
 use mathlib.Core.Path.{_≡_, refl}
 use mathlib.Core.Bool.{true, false}
 use mathlib.Core.List.{List, [], _∷_, _++_, map}
@@ -45,7 +45,7 @@ rows =
     section-case true (day-types "com; \"SUGGESTED 2\"\nrec; 7; 1; \"x\"\nend; 1\n") ∷
     section-case true (day-types "com; \"SUGGESTED 3\"\nrec; 7; 1; \"\"\nend; 1\n") ∷ []) ∷
     (file-case (three-tables (bytes "eof; 3\n")) ∷ file-case (three-tables (bytes "eof; 2\n")) ∷ []) ∷
-    (file-case (short-names (bytes "\"HP\"") (bytes "\"HP \"")) ∷ file-case (short-names (bytes "\"HP\"") (bytes "\"HP\"")) ∷ []) ∷
+    (file-case (short-names (bytes "\"HP\"") (bytes "\"HP \"")) ∷ file-case (short-names (bytes "\"HP\"") (bytes "\" HP\"")) ∷ []) ∷
     []
 
 unfoldable pub answers : List (List Answer)
@@ -63,7 +63,7 @@ answers =
     (says 225 1 0 0 ∷ says 225 0 14 4 ∷ []) ∷
     (says 290 1 0 0 ∷ says 290 0 15 4 ∷ says 290 0 15 5 ∷ []) ∷
     (files 0 0 0 ∷ files 3 0 1 ∷ []) ∷
-    (files 0 0 0 ∷ files 19 2 5 ∷ []) ∷
+    (files 19 2 5 ∷ files 0 0 0 ∷ []) ∷
     []
 
 fourteen : map (map answer) rows ≡ answers

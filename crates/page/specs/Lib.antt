@@ -29,3 +29,4 @@ pub mod Rules
 pub mod Refusals
 pub mod Settled
 pub mod Arranged
+pub mod Padded

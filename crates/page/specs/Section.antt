@@ -5,7 +5,7 @@ use mathlib.Core.Option.{Option, none, some}
 use Prim.Native.Nat.{ℕ, suc, _+_, _-_}
 use lib.Dec.{eqb, leb, ltb}
 use lib.ListN.{length, getD, take, drop}
-use Rattle.page.specs.Bytes.{Bytes, bytes, pick, same, until}
+use Rattle.page.specs.Bytes.{Bytes, bytes, pick, same, until, keep, space, unpadded}
 use Rattle.page.specs.Lines.{content, blank, command, rest, clean, Tbl, Atr, Frm, Rec, End, Com, Unknown}
 use Rattle.page.specs.Fields.{fields, textOf, numberOf, digit, digits, value}
 use Rattle.page.specs.Tables.{Named, Rule, points-differ, rule-number, TABLES, number-at, width, rules, table-named}
@@ -76,9 +76,13 @@ pub record Wording : Type 0 where
   pub own : Bytes
   pub span : Span
 
+-- "Spaces at the end of a text in a record no longer belong to it": it ends before those that stand before the closing quote
+abbrev pub own-span : Bytes → Span
+own-span f = record { from = 1; to = keep space (take (length f - 1) f) }
+
 abbrev pub worded : Bytes → Option Bytes → Option Wording
 worded f none = none
-worded f (some t) = some (record { own = t; span = record { from = 1; to = length f - 1 } })
+worded f (some t) = some (record { own = unpadded t; span = own-span f })
 
 unfoldable pub wordsOf : Bytes → Option Wording
 wordsOf f = worded f (textOf f)
@@ -90,7 +94,7 @@ own-of (some x) = some (x .own)
 unfoldable pub record-text : Bytes → Option Bytes
 record-text f = own-of (wordsOf f)
 
--- "11 or 12, then 13": 13 is a number out of range, or a text over its size, a doubled quote counting once
+-- "11 or 12, then 13": 13 is a number out of range, or a text over its size, a doubled quote counting once; "13 measures the trimmed text"
 unfoldable pub text-field : ℕ → Option Wording → Field
 text-field size none = F.Refused 11
 text-field size (some x) = pick (leb (length (x .own)) size) (F.Text (x .span)) (F.Refused 13)

@@ -4,7 +4,7 @@ use mathlib.Core.List.{_++_}
 use Prim.Native.Nat.{ℕ, _-_}
 use lib.Dec.{eqb, ltb}
 use lib.ListN.{length, drop}
-use Rattle.page.specs.Bytes.{Bytes, pick, all}
+use Rattle.page.specs.Bytes.{Bytes, pick, all, unpadded}
 use Rattle.page.specs.Lines.{allowed}
 use Rattle.page.specs.Tables.{column-at, width}
 use Rattle.page.specs.Cut.{sections}
@@ -86,8 +86,9 @@ fill-refusal s i r f t =
 unfoldable pub fill-form : Bytes → ℕ → ℕ → ℕ → Bytes → Bytes
 fill-form s i r f t = form-by (plan (fill i r f t)) s
 
+-- "a fill's text is trimmed likewise": what is left of it is judged and put in
 unfoldable pub fillOf : Bytes → ℕ → ℕ → ℕ → Bytes → ℕ → Written
-fillOf s i r f t room = putOf (fill-refusal s i r f t) (fill-form s i r f t) room
+fillOf s i r f t room = putOf (fill-refusal s i r f (unpadded t)) (fill-form s i r f (unpadded t)) room
 
 unfoldable pub fill-after : Bytes → ℕ → ℕ → ℕ → Bytes → Bytes → Bytes
-fill-after s i r f t out = put-after (fill-refusal s i r f t) (fill-form s i r f t) out
+fill-after s i r f t out = put-after (fill-refusal s i r f (unpadded t)) (fill-form s i r f (unpadded t)) out

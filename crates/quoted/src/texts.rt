@@ -51,8 +51,15 @@ pub fn text_size(f: &[u8]) -> Size
     body_size(&f[1..])
 }
 
+// "A text of spaces only is empty": nothing but the opening quote is left before the closing one.
 pub fn is_empty_text(f: &[u8]) -> bool
     ensures { λ r. ⌜ r ≡ no-bytes (record-text (now (f .entry))) ⌝ }
 {
-    lines::equal(f, b"\"\"")
+    match text_size(f) {
+        Size::Is(_) => {
+            let e = f.len() - 1;
+            lines::kept(&f[..e]) == 1
+        }
+        Size::Nothing => false,
+    }
 }

@@ -1,18 +1,20 @@
 -- What an accepted record says may be said: values in range and of their size, of allowed bytes. Assumes nothing.
-use mathlib.Core.Path.{_≡_, refl, sym, _∙_}
+use mathlib.Core.Path.{_≡_, refl, sym}
 use mathlib.Core.Bool.{Bool, true, false, _&&_, _||_, false≢true}
 use mathlib.Core.List.{List, [], _∷_, map, List·Memᴰ, List·Memᴰ·head, List·Memᴰ·tail}
+use mathlib.Core.Option.{some}
 use Prim.Native.Nat.{ℕ, zero, suc, _+_, _-_, _<_, _≤_}
 use native.Mathlib.Omega.{arith}
 use lib.Dec.{eqb, leb}
-use lib.ListN.{length, getD, take, drop}
+use lib.ListN.{length, getD, drop}
 use borrow.Author.Tests.{eqb-true}
-use Rattle.page.specs.Bytes.{Bytes, pick, all, until, trimOf, trim}
+use Rattle.page.specs.Bytes.{Bytes, pick, all, until, keep, space, trimOf, trim, unpadded}
 use Rattle.page.specs.Lines.{content, semicolon, rest, allowed, clean, Rec}
 use Rattle.page.specs.Fields.{parts-here, inside-after, into, split, fields}
 use Rattle.page.specs.Tables.{Named, no-column, columns}
 use Rattle.page.specs.Order.{Order, upto, standing, place, by-column, column-in}
 use Rattle.page.specs.Marks.{may-mark}
+use Rattle.page.specs.Section.{record-text}
 use Rattle.page.specs.Records.{words, Record}
 use Rattle.page.specs.Grammar as Grammar
 use Rattle.page.specs.Grammar.{Says, marked, owner-by, Values, no-field, a-field, RecLine, Then, found, skip, Records, pause, a-mark, a-record, the-end, Denotes}
@@ -21,16 +23,11 @@ use Rattle.page.specs.declared.Column.{Column}
 use Rattle.page.specs.declared.Owner.the-variants as O
 use Rattle.round.specs.Round.{Fits, a-number, a-text, a-suggestion, FitAll, no-value, a-value, SoundRecord}
 use Rattle.round.proofs.WrittenTexts.{text-exactly, all-quoted}
+use Rattle.page.proofs.ScanLaws.{all-take}
 use Rattle.page.proofs.TestLaws.{and-left, and-right}
-use Rattle.page.proofs.TextLaws.{record-text-is}
+use Rattle.page.proofs.TextLaws.{padded-of, record-trimmed}
 
 -- a test that all bytes of a line pass, each field passes
-
-all-take : (p : ℕ → Bool) (n : ℕ) (w : Bytes) → all p w ≡ true → all p (take n w) ≡ true
-unfolding all
-all-take p zero w h = refl
-all-take p (suc n) [] h = refl
-all-take p (suc n) (b ∷ w) h = rw (and-left (p b) (all p w) h) (all-take p n w (and-right (p b) (all p w) h))
 
 pub all-drop : (p : ℕ → Bool) (n : ℕ) (w : Bytes) → all p w ≡ true → all p (drop n w) ≡ true
 unfolding all
@@ -79,6 +76,13 @@ by-column-all p o {fs} e = each (upto 0 (length o))
     each [] = none-left
     each (c ∷ cs) = one-more (field-every {P = Passing p} refl e (place c o)) (each cs)
 
+-- and so does a record's text
+own-all : (p : ℕ → Bool) (w t : Bytes) → all p w ≡ true → record-text w ≡ some t → all p t ≡ true
+unfolding unpadded
+own-all p w t h e =
+    let x = padded-of w t e in
+    rw (x .own) (all-take p (keep space (x .whole)) (x .whole) (all-quoted p (x .whole) (rw (text-exactly w (x .whole) .0 (x .is)) at h)))
+
 -- a field that may be marked is of a column that may be
 
 may-at : (t : ℕ) (o : Order) (k d : ℕ) → getD (standing t o) k no-column .column .fillable ≡ true → getD (columns t) (getD o k d) no-column .column .fillable ≡ true
@@ -116,18 +120,18 @@ module _ (latin : Bool) (ms : List ℕ) where
   next-fit : (i : ℕ) (c : Named) (cs : List Named) → MarksFit i (c ∷ cs) → MarksFit (suc i) cs
   next-fit i c cs f j h = f (suc j) (let z : suc i + j ≡ i + suc j = omega arith in rw z at h)
 
-  text-fits : (i : ℕ) (c : Column) (t : Bytes) → c .text ≡ true → length t ≤ c .hi → all (allowed latin) t ≡ true → (marked i ms ≡ true → c .fillable ≡ true) →
+  text-fits : (i : ℕ) (c : Column) (t : Bytes) → c .text ≡ true → length t ≤ c .hi → all (allowed latin) t ≡ true → unpadded t ≡ t → (marked i ms ≡ true → c .fillable ≡ true) →
       (words (owner-by ms i) t ≡ words O.Suggestion [] → ⊥) → Fits latin c (words (owner-by ms i) t)
   unfolding owner-by
-  text-fits i c t k l a f n = by (marked i ms) refl
+  text-fits i c t k l a u f n = by (marked i ms) refl
     where
       some-bytes : (t : Bytes) → (words O.Suggestion t ≡ words O.Suggestion [] → ⊥) → 0 < length t
       some-bytes [] n = absurd (n refl)
       some-bytes (b ∷ t) n = omega arith
 
       by : (b : Bool) → marked i ms ≡ b → Fits latin c (words (pick (marked i ms) O.Suggestion O.Operator) t)
-      by true e = rw e (a-suggestion k (f e) (some-bytes t (λ (q : words O.Suggestion t ≡ words O.Suggestion []). n (rw e q))) l a)
-      by false e = rw e (a-text k l a)
+      by true e = rw e (a-suggestion k (f e) (some-bytes t (λ (q : words O.Suggestion t ≡ words O.Suggestion []). n (rw e q))) l a u)
+      by false e = rw e (a-text k l a u)
 
   values-fit : {i : ℕ} {cs : List Named} {fs : List Bytes} {vs : Record} → Values ms i cs fs vs → Every (Passing (allowed latin)) fs → MarksFit i cs →
       ¬ List·Memᴰ (words O.Suggestion []) vs → FitAll latin cs vs
@@ -136,7 +140,7 @@ module _ (latin : Bool) (ms : List ℕ) where
       a-value (a-number k l h) (values-fit g qs (next-fit i c cs f) (λ (m : List·Memᴰ (words O.Suggestion []) vs). n (List·Memᴰ·tail m)))
   values-fit (a-field {i} {c} {cs} {f = w} {vs} (Grammar.a-text {t} k r l) g) (one-more q qs) f n =
       a-value
-      (text-fits i (c .column) t k l (all-quoted (allowed latin) t (rw (text-exactly w t .0 (sym (record-text-is w) ∙ r)) at q))
+      (text-fits i (c .column) t k l (own-all (allowed latin) w t q r) (record-trimmed w t r)
       (λ (h : marked i ms ≡ true). f 0 (let z : i + 0 ≡ i = omega arith in rw z h))
       (λ (e : words (owner-by ms i) t ≡ words O.Suggestion []). n (List·Memᴰ·head (sym e))))
       (values-fit g qs (next-fit i c cs f) (λ (m : List·Memᴰ (words O.Suggestion []) vs). n (List·Memᴰ·tail m)))

@@ -12,7 +12,7 @@ use Rattle.page.specs.Lines.{allowed}
 use Rattle.page.specs.Fields.{digit, digits, numberOf}
 use Rattle.page.specs.Tables.{Named, Table, all-tables, WIDEST, no-column, columns, width}
 use Rattle.page.specs.Marks.{owner-of}
-use Rattle.page.specs.Section.{wordsOf, record-text, text-field, number-field, fieldOf, field-number, first-wrong, amount, amount-at}
+use Rattle.page.specs.Section.{wordsOf, text-field, number-field, fieldOf, field-number, first-wrong, amount, amount-at}
 use Rattle.page.specs.Records.{Datum, number, words, Record, datumOf, valuesOf}
 use Rattle.page.specs.Form.{separated, decimal, datum-text}
 use Rattle.page.specs.declared.Column.{Column}
@@ -25,7 +25,7 @@ use Rattle.round.proofs.WrittenTexts.{quoted-all}
 use Rattle.round.proofs.WrittenFields.{Field, Fields, no-field, a-field, quoted-field, decimal-field}
 use Rattle.page.proofs.TestLaws.{and-left, and-right}
 use Rattle.page.proofs.TableLaws.{each, table-test, width-le}
-use Rattle.page.proofs.TextLaws.{quoted-text}
+use Rattle.page.proofs.TextLaws.{quoted-text, quoted-own}
 
 -- columns of the tables: their bounds are small, and at most one of them may be marked
 
@@ -69,8 +69,8 @@ module _ (latin : Bool) (c : Column) where
   field-back (number n) (a-number k l h) s =
       let z : n < 10 ^ 18 = omega arith in
       rw (k, number-decimal n z, le-leb (c .lo) n l, le-leb n (c .hi) h)
-  field-back (words O.Operator t) (a-text k h a) s = rw (k, quoted-text t, le-leb (length t) (c .hi) h)
-  field-back (words O.Suggestion t) (a-suggestion k f p h a) s = rw (k, quoted-text t, le-leb (length t) (c .hi) h)
+  field-back (words O.Operator t) (a-text k h a e) s = rw (k, quoted-text t, e, le-leb (length t) (c .hi) h)
+  field-back (words O.Suggestion t) (a-suggestion k f p h a e) s = rw (k, quoted-text t, e, le-leb (length t) (c .hi) h)
 
   -- whose the text is, is the owner's to say
   abbrev Owns : Owner → Datum → Type 0
@@ -78,18 +78,18 @@ module _ (latin : Bool) (c : Column) where
   Owns o (words p t) = p ≡ o
 
   datum-back : (o : Owner) (v : Datum) → Fits latin c v → c .hi < 10 ^ 18 → Owns o v → datumOf o c (datum-text v) ≡ v
-  unfolding datumOf record-text wordsOf datum-text
+  unfolding datumOf datum-text
   datum-back o (number n) (a-number k l h) s w =
       let z : n < 10 ^ 18 = omega arith in
       rw (k, number-decimal n z)
-  datum-back o (words O.Operator t) (a-text k h a) s w = rw (k, quoted-text t, w)
-  datum-back o (words O.Suggestion t) (a-suggestion k f p h a) s w = rw (k, quoted-text t, w)
+  datum-back o (words O.Operator t) (a-text k h a e) s w = rw (k, quoted-own t e, w)
+  datum-back o (words O.Suggestion t) (a-suggestion k f p h a e) s w = rw (k, quoted-own t e, w)
 
   datum-allowed : (v : Datum) → Fits latin c v → all (allowed latin) (datum-text v) ≡ true
   unfolding datum-text allowed
   datum-allowed (number n) (a-number k l h) = all-mono digit (allowed latin) (digit-allowed latin) (decimal n) (decimal-all n)
-  datum-allowed (words O.Operator t) (a-text k h a) = quoted-all (allowed latin) t refl a
-  datum-allowed (words O.Suggestion t) (a-suggestion k f p h a) = quoted-all (allowed latin) t refl a
+  datum-allowed (words O.Operator t) (a-text k h a e) = quoted-all (allowed latin) t refl a
+  datum-allowed (words O.Suggestion t) (a-suggestion k f p h a e) = quoted-all (allowed latin) t refl a
 
 pub datum-field : (v : Datum) → Field (datum-text v)
 unfolding datum-text
@@ -152,6 +152,6 @@ module _ (latin : Bool) where
   number-back (a-value {c} {cs} {v = number n} {vs} (a-number x l h) g) s zero e =
       let z : n < 10 ^ 18 = omega (arith, ltb-true (c .column .hi) (10 ^ 18) (and-left (ltb (c .column .hi) (10 ^ 18)) (small cs) s)) in
       rw (number-decimal n z)
-  number-back (a-value (a-text x l h) g) s zero e = absurd (false≢true (sym e ∙ x))
-  number-back (a-value (a-suggestion x f p l h) g) s zero e = absurd (false≢true (sym e ∙ x))
+  number-back (a-value (a-text x l h q) g) s zero e = absurd (false≢true (sym e ∙ x))
+  number-back (a-value (a-suggestion x f p l h q) g) s zero e = absurd (false≢true (sym e ∙ x))
   number-back (a-value {c} {cs} f g) s (suc k) e = number-back g (and-right (ltb (c .column .hi) (10 ^ 18)) (small cs) s) k e

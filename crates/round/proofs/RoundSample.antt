@@ -6,11 +6,11 @@ use Rattle.page.specs.File.{file-refusal}
 use Rattle.page.specs.Writing.{write-form, strip-form, fill-refusal, fill-form}
 use Rattle.page.specs.Open.{open-all}
 
--- another mode and date, comments, blank lines, spaces, leading zeros, small formats, a mark
+-- another mode and date, comments, blank lines, spaces, leading zeros, small formats, a mark, padded texts
 pub habits : Bytes
 habits =
     bytes
-    "mod; YYYY/MM/DD; HH:MM:SS; aligned\r\ncom; \"SUGGESTED 9\"\nsrc; \"Desk \"\"A\"\"\"; \"2024/02/29\"; \"06:00:00\"\nchs; \"ISO-8859-1\"\nifv;\"1.0\"\n\nver ; \"1\"\ntbl; MENGE_BASIS_VERSIONEN\natr; BASIS_VERSION; BASIS_VERSION_TEXT\nfrm; num[1.0]; char[9]\ncom; \"SUGGESTED 2\"\n\nrec ;007; \"Wint;er\"\nend; 1\ntbl; MENGE_TAGESART\natr; BASIS_VERSION; TAGESART_NR; TAGESART_TEXT\nfrm; num[9.0]; num[3.0]; char[40]\ncom; a comment\nrec; 7; 1; \"\"\nrec;7;02;\"Séance\"\nend; 0002\neof; 2\n  \n"
+    "mod; YYYY/MM/DD; HH:MM:SS; aligned\r\ncom; \"SUGGESTED 9\"\nsrc; \"Desk \"\"A\"\"\"; \"2024/02/29\"; \"06:00:00\"\nchs; \"ISO-8859-1\"\nifv;\"1.0\"\n\nver ; \"1\"\ntbl; MENGE_BASIS_VERSIONEN\natr; BASIS_VERSION; BASIS_VERSION_TEXT\nfrm; num[1.0]; char[9]\ncom; \"SUGGESTED 2\"\n\nrec ;007; \"Wint;er  \"\nend; 1\ntbl; MENGE_TAGESART\natr; BASIS_VERSION; TAGESART_NR; TAGESART_TEXT\nfrm; num[9.0]; num[3.0]; char[40]\ncom; a comment\nrec; 7; 1; \"   \"\nrec;7;02;\"Séance\"\nend; 0002\neof; 2\n  \n"
 
 accepted : file-refusal habits ≡ sound
 unfolding open-all habits

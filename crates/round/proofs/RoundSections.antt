@@ -6,12 +6,12 @@ use Prim.Native.Nat.{ℕ, suc, _+_, _-_, _<_, _≤_, _^_}
 use native.Mathlib.Omega.{arith}
 use lib.ListN.{length, getD}
 use borrow.Author.Tests.{le-leb}
-use Rattle.page.specs.Bytes.{Bytes}
+use Rattle.page.specs.Bytes.{Bytes, unpadded}
 use Rattle.page.specs.Lines.{joined, content, rest}
 use Rattle.page.specs.Tables.{no-column, number-at, table-at, columns, TABLES}
 use Rattle.page.specs.Order.{listed-order}
 use Rattle.page.specs.Marks.{may-mark}
-use Rattle.page.specs.Section.{wordsOf, record-text, empty-marked, order-after, finish, continue, run, outcome}
+use Rattle.page.specs.Section.{empty-marked, order-after, finish, continue, run, outcome}
 use Rattle.page.specs.Records.{Datum, number, words, Record, Entry, waits, record-in, entries, table-of, atr-in, order-in, entriesOf, recordsOf}
 use Rattle.page.specs.Model.{Content}
 use Rattle.page.specs.Form.{line, decimal, quoted, datum-text, mark-line, mark-of, marks, record-form, records-form, table-head, content-form}
@@ -25,7 +25,7 @@ use Rattle.round.proofs.RoundRecords.{tame, Owned, values-back, width-b
 use Rattle.round.proofs.RoundSteps.{mark-lines-of, mark-lines, Marked, unmarked, marked, marks-back, mark-seen, mark-reads, mark-step-back, end-seen, end-step-back, rec-seen, fields-back, rec-step-back}
 use Rattle.round.proofs.RoundHeads.{Heads, heads, tbl-line, atr-line, frm-line}
 use Rattle.page.proofs.OrderLaws.{listed-standing, listed-mark}
-use Rattle.page.proofs.TextLaws.{quoted-text}
+use Rattle.page.proofs.TextLaws.{quoted-own}
 
 -- the written lines
 
@@ -71,11 +71,11 @@ may-of t j f =
     let less : 1 + j - 1 ≡ j = omega arith in
     rw (le-leb 1 (1 + j) (omega arith), less, listed-standing t) f
 
-full-of : (j b : ℕ) (u : Bytes) (fs : List Bytes) → getD fs j [] ≡ quoted (b ∷ u) → empty-marked (1 + j) fs ≡ false
-unfolding empty-marked record-text wordsOf
-full-of j b u fs q =
+full-of : (j b : ℕ) (u : Bytes) (fs : List Bytes) → getD fs j [] ≡ quoted (b ∷ u) → unpadded (b ∷ u) ≡ b ∷ u → empty-marked (1 + j) fs ≡ false
+unfolding empty-marked
+full-of j b u fs q d =
     let less : 1 + j - 1 ≡ j = omega arith in
-    rw (le-leb 1 (1 + j) (omega arith), less, q, quoted-text (b ∷ u))
+    rw (le-leb 1 (1 + j) (omega arith), less, q, quoted-own (b ∷ u) d)
 
 -- the machine over a record's lines, and the record
 
@@ -121,7 +121,7 @@ module _ (ends : LineEnd) (latin : Bool) (t : ℕ) (known : t < TABLES) where
       by : (m : ℕ) × Marked ends 1 (columns t) (v ∷ vs) m → Read (v ∷ vs) k n ls
       by (m, unmarked e o) =
           record { at = suc n; runs = rw e (rec-runs v vs r k n ls 0 refl); reads = rw e (rec-reads v vs r k n ls 0 o) }
-      by (m, marked j b u h f q e o) =
+      by (m, marked j b u h f q d e o) =
           record {
             at = suc (suc n);
             runs = rw e (mark-runs v vs r k n ls (1 + j) (omega arith) (omega (arith, tame t .narrow)) may more ∙ rec-runs v vs r k (suc n) ls (1 + j) full);
@@ -135,7 +135,7 @@ module _ (ends : LineEnd) (latin : Bool) (t : ℕ) (known : t < TABLES) where
           may = may-of t j f
 
           full : empty-marked (1 + j) (map datum-text (v ∷ vs)) ≡ false
-          full = full-of j b u (map datum-text (v ∷ vs)) q
+          full = full-of j b u (map datum-text (v ∷ vs)) q d
 
   pub rows-back : {rs : List Record} → Every (SoundRecord latin t) rs → (k n c : ℕ) → k + length rs ≡ c → c < 10 ^ 18 →
       run latin (P.Rows t 0 k) (listed-order t) n (body-lines ends c rs) ≡ record { table = number-at t; records = c; verdict = 0; line = 0 }

@@ -6,7 +6,7 @@ use Prim.Native.Nat.{ℕ, suc, _+_, _<_, _≤_, _^_}
 use native.Mathlib.Omega.{arith}
 use lib.ListN.{length, getD, length-map}
 use borrow.Author.Tests.{eq-eqb, ne-eqb, lt-ltb, not-true}
-use Rattle.page.specs.Bytes.{Bytes, bytes, all}
+use Rattle.page.specs.Bytes.{Bytes, bytes, all, unpadded}
 use Rattle.page.specs.Lines.{content, rest, allowed, Rec, End, Com}
 use Rattle.page.specs.Fields.{digit}
 use Rattle.page.specs.Tables.{Named, no-column, width, rules}
@@ -46,7 +46,7 @@ mark-lines ends i (v ∷ vs) = mark-lines-of ends i v ++ mark-lines ends (suc i)
 pub data Marked (ends : LineEnd) (i : ℕ) (cs : List Named) (vs : Record) : ℕ → Type 0 where
   unmarked : mark-lines ends i vs ≡ [] → Owned 0 i vs → Marked ends i cs vs 0
   marked : (j : ℕ) (b : ℕ) (u : Bytes) → j < length cs → getD cs j no-column .column .fillable ≡ true → getD (map datum-text vs) j [] ≡ quoted (b ∷ u) →
-      mark-lines ends i vs ≡ mark-line ends (i + j) ∷ [] → Owned (i + j) i vs → Marked ends i cs vs (i + j)
+      unpadded (b ∷ u) ≡ b ∷ u → mark-lines ends i vs ≡ mark-line ends (i + j) ∷ [] → Owned (i + j) i vs → Marked ends i cs vs (i + j)
 
 owner-other : (m i : ℕ) → ¬ (m ≡ i) → owner-of m i ≡ O.Operator
 unfolding owner-of
@@ -62,25 +62,25 @@ module _ (ends : LineEnd) (latin : Bool) where
   unfolding mark-lines mark-lines-of fillable-in
   none-marked i no-value e = refl
   none-marked i (a-value {c} {cs} (a-number x l h) g) e = none-marked (suc i) g (neither (c .column .fillable) (fillable-in cs) e .1)
-  none-marked i (a-value {c} {cs} (a-text x h a) g) e = none-marked (suc i) g (neither (c .column .fillable) (fillable-in cs) e .1)
-  none-marked i (a-value {c} {cs} (a-suggestion x f p h a) g) e = absurd (false≢true (sym (neither (c .column .fillable) (fillable-in cs) e .0) ∙ f))
+  none-marked i (a-value {c} {cs} (a-text x h a d) g) e = none-marked (suc i) g (neither (c .column .fillable) (fillable-in cs) e .1)
+  none-marked i (a-value {c} {cs} (a-suggestion x f p h a d) g) e = absurd (false≢true (sym (neither (c .column .fillable) (fillable-in cs) e .0) ∙ f))
 
   none-owned : (m i : ℕ) {cs : List Named} {vs : Record} → FitAll latin cs vs → fillable-in cs ≡ false → m < i → Owned m i vs
   unfolding fillable-in
   none-owned m i no-value e h = no-owner
   none-owned m i (a-value {c} {cs} (a-number x l q) g) e h = of-number (none-owned m (suc i) g (neither (c .column .fillable) (fillable-in cs) e .1) (omega arith))
-  none-owned m i (a-value {c} {cs} (a-text x q a) g) e h =
+  none-owned m i (a-value {c} {cs} (a-text x q a d) g) e h =
       of-words (sym (owner-other m i (λ (z : m ≡ i). omega arith))) (none-owned m (suc i) g (neither (c .column .fillable) (fillable-in cs) e .1) (omega arith))
-  none-owned m i (a-value {c} {cs} (a-suggestion x f p q a) g) e h = absurd (false≢true (sym (neither (c .column .fillable) (fillable-in cs) e .0) ∙ f))
+  none-owned m i (a-value {c} {cs} (a-suggestion x f p q a d) g) e h = absurd (false≢true (sym (neither (c .column .fillable) (fillable-in cs) e .0) ∙ f))
 
   -- a value of the operator's, or a number, in front
   onto : (i m : ℕ) (c : Named) {cs : List Named} {v : Datum} {vs : Record} → mark-lines-of ends i v ≡ [] →
       ((k : ℕ) → ¬ (k ≡ i) → Owned k (suc i) vs → Owned k i (v ∷ vs)) → 0 < i → Marked ends (suc i) cs vs m → Marked ends i (c ∷ cs) (v ∷ vs) m
   unfolding mark-lines
   onto i m c q w p (unmarked e o) = unmarked (rw (q, e)) (w 0 (λ (z : 0 ≡ i). omega arith) o)
-  onto i m c q w p (marked j b u h f t e o) =
+  onto i m c q w p (marked j b u h f t d e o) =
       let z : suc i + j ≡ i + suc j = omega arith in
-      rw z (marked (suc j) b u (omega arith) f t (rw (q, e, z)) (w (i + suc j) (λ (y : i + suc j ≡ i). omega arith) (rw z at o)))
+      rw z (marked (suc j) b u (omega arith) f t d (rw (q, e, z)) (w (i + suc j) (λ (y : i + suc j ≡ i). omega arith) (rw z at o)))
 
   pub marks-back : (i : ℕ) {cs : List Named} {vs : Record} → 0 < i → FitAll latin cs vs → one-fillable cs ≡ true → (m : ℕ) × Marked ends i cs vs m
   unfolding one-fillable mark-lines mark-lines-of datum-text
@@ -88,14 +88,14 @@ module _ (ends : LineEnd) (latin : Bool) where
   marks-back i p (a-value {c} {cs} (a-number x l q) g) e =
       let k = marks-back (suc i) (omega arith) g (and-right (not (c .column .fillable && fillable-in cs)) (one-fillable cs) e) in
       (k .0, onto i (k .0) c refl (λ n d o. of-number o) p (k .1))
-  marks-back i p (a-value {c} {cs} (a-text x q a) g) e =
+  marks-back i p (a-value {c} {cs} (a-text x q a d) g) e =
       let k = marks-back (suc i) (omega arith) g (and-right (not (c .column .fillable && fillable-in cs)) (one-fillable cs) e) in
       (k .0, onto i (k .0) c refl (λ n d o. of-words (sym (owner-other n i d)) o) p (k .1))
-  marks-back i p (a-value {c} {cs} {vs} (a-suggestion {t = []} x f l q a) g) e = absurd (omega arith)
-  marks-back i p (a-value {c} {cs} {vs} (a-suggestion {t = b ∷ u} x f l q a) g) e =
+  marks-back i p (a-value {c} {cs} {vs} (a-suggestion {t = []} x f l q a d) g) e = absurd (omega arith)
+  marks-back i p (a-value {c} {cs} {vs} (a-suggestion {t = b ∷ u} x f l q a d) g) e =
       let n : fillable-in cs ≡ false = rw f at (not-true (c .column .fillable && fillable-in cs) (and-left (not (c .column .fillable && fillable-in cs)) (one-fillable cs) e)) in
       let z : i + 0 ≡ i = omega arith in
-      (i + 0, marked 0 b u (omega arith) f refl (rw (none-marked (suc i) g n, z)) (of-words {i = i} (let y : O.Suggestion ≡ owner-of (i + 0) i = rw z (sym (owner-same i)) in y) (none-owned (i + 0) (suc i) g n (omega arith))))
+      (i + 0, marked 0 b u (omega arith) f refl d (rw (none-marked (suc i) g n, z)) (of-words {i = i} (let y : O.Suggestion ≡ owner-of (i + 0) i = rw z (sym (owner-same i)) in y) (none-owned (i + 0) (suc i) g n (omega arith))))
 
 -- one line
 

@@ -5,7 +5,7 @@ use mathlib.Core.List.{List, [], _∷_, List·Memᴰ}
 use mathlib.Core.Option.{Option, none, some}
 use Prim.Native.Nat.{ℕ, _≤_, _<_}
 use lib.ListN.{length}
-use Rattle.page.specs.Bytes.{Bytes, all}
+use Rattle.page.specs.Bytes.{Bytes, all, unpadded}
 use Rattle.page.specs.Lines.{allowed}
 use Rattle.page.specs.Tables.{Named, Rule, TABLES, columns, rules}
 use Rattle.page.specs.Dates.{real-date, real-time}
@@ -17,11 +17,12 @@ use Rattle.page.specs.Rules.{Every}
 use Rattle.page.specs.declared.Column.{Column}
 use Rattle.page.specs.declared.Owner.the-variants as O
 
--- a value of a column: a number in its range, a text of its size; a suggestion only where it may be marked, and not empty
+-- a value of a column: a number in its range, a text of its size without a space at its end; a suggestion only where it may be marked, and
+-- not empty
 pub data Fits (latin : Bool) (c : Column) : Datum → Type 0 where
   a-number : {n : ℕ} → c .text ≡ false → c .lo ≤ n → n ≤ c .hi → Fits latin c (number n)
-  a-text : {t : Bytes} → c .text ≡ true → length t ≤ c .hi → all (allowed latin) t ≡ true → Fits latin c (words O.Operator t)
-  a-suggestion : {t : Bytes} → c .text ≡ true → c .fillable ≡ true → 0 < length t → length t ≤ c .hi → all (allowed latin) t ≡ true →
+  a-text : {t : Bytes} → c .text ≡ true → length t ≤ c .hi → all (allowed latin) t ≡ true → unpadded t ≡ t → Fits latin c (words O.Operator t)
+  a-suggestion : {t : Bytes} → c .text ≡ true → c .fillable ≡ true → 0 < length t → length t ≤ c .hi → all (allowed latin) t ≡ true → unpadded t ≡ t →
       Fits latin c (words O.Suggestion t)
 
 -- one value a column

@@ -1,20 +1,20 @@
 -- What a field is read as, and where the text of a field stands in it. Assumes nothing.
-use mathlib.Core.Path.{_≡_, refl, sym}
+use mathlib.Core.Path.{_≡_, refl}
 use mathlib.Core.Bool.{Bool, true, false, _&&_}
 use mathlib.Core.Option.{Option, none, some}
-use Prim.Native.Nat.{ℕ, _-_, _≤_}
+use Prim.Native.Nat.{ℕ, _≤_}
 use native.Mathlib.Omega.{arith}
 use lib.Dec.{leb}
 use lib.ListN.{length}
 use Rattle.page.specs.Bytes.{Bytes, pick}
-use Rattle.page.specs.Fields.{textOf, numberOf}
-use Rattle.page.specs.Section.{Wording, worded, wordsOf, text-field, number-field, fieldOf}
+use Rattle.page.specs.Fields.{numberOf}
+use Rattle.page.specs.Section.{Wording, wordsOf, text-field, number-field, fieldOf}
 use Rattle.page.specs.declared.Column.{Column}
 use Rattle.page.specs.declared.Field.{Field}
 use Rattle.page.specs.declared.Field.the-variants as F
 use Rattle.page.specs.declared.Number.{Number}
 use Rattle.page.specs.declared.Number.the-variants as N
-use Rattle.page.proofs.TextLaws.{text-long}
+use Rattle.page.proofs.TextLaws.{words-there}
 
 -- of a text column a text, with the place that its wording says; of another a number; or a refusal
 pub data Read (c : Column) (f : Bytes) : Field → Type 0 where
@@ -52,12 +52,4 @@ read-of c f = by (c .text) refl
 
 -- the text of a field lies within it
 pub wording-in : (f : Bytes) (x : Wording) → wordsOf f ≡ some x → (x .span .from ≤ x .span .to) × (x .span .to ≤ length f)
-unfolding wordsOf
-wording-in f x e = by (textOf f) refl e
-  where
-    by : (o : Option Bytes) → textOf f ≡ o → worded f o ≡ some x → (x .span .from ≤ x .span .to) × (x .span .to ≤ length f)
-    by none q y = absurd (let z : _≡_ {A = ℕ} 0 1 = cc in omega arith)
-    by (some t) q y =
-        let z : record { own = t; span = record { from = 1; to = length f - 1 } } ≡ x = cc in
-        let n = text-long f t q in
-        rw (sym z) (omega arith)
+wording-in f x e = let a = words-there f x e in (omega (arith, a .begins, a .ends), omega (arith, a .within))

@@ -17,7 +17,7 @@ use Rattle.page.specs.Answers.{earlier, refuse-if}
 use Rattle.page.specs.Reading.{outside, section-at, row-at}
 use Rattle.page.specs.File.{file-refusal}
 use Rattle.page.specs.Form.{formOf}
-use Rattle.page.specs.Writing.{empty-datum, fill-place, fill-refusal, fill-form, fillOf, fill-after}
+use Rattle.page.specs.Writing.{putOf, put-after, empty-datum, fill-place, fill-refusal, fill-form}
 use Rattle.page.specs.declared.LineEnd.the-variants as E
 use Rattle.page.specs.declared.Refusal.{Refusal}
 use Rattle.page.specs.declared.Stays.the-variants as St
@@ -95,8 +95,8 @@ module _ (s : Bytes) (i r f : ℕ) (t : Bytes) (q : Refusal) (e : q ≡ fill-ref
       (refl, k .section, k .entry, k .field)
 
   pub fill-done : (before after : Bytes) (w : Written) → Wrote q (formOf E.Lf (changed-model (coded E.Lf St.All (fill i r f t)) t (modelOf s))) before after w
-      → (w ≡ fillOf s i r f t (length before)) × (after ≡ fill-after s i r f t before)
-  unfolding fillOf fill-after fill-form
+      → (w ≡ putOf (fill-refusal s i r f t) (fill-form s i r f t) (length before)) × (after ≡ put-after (fill-refusal s i r f t) (fill-form s i r f t) before)
+  unfolding fill-form
   fill-done before after w x =
       let y = wrote-by s t E.Lf St.All (fill i r f t) filled x in
       (rw (sym e) (y .answer), rw (sym e) (y .left))

@@ -51,8 +51,8 @@ Short v = length (datum-text v) ≤ 84
 fits-short : (latin : Bool) (c : Column) (v : Datum) → (c .text ≡ true → c .hi ≤ 40) → Fits latin c v → Short v
 unfolding datum-text
 fits-short latin c (number n) f (a-number x lo hi) = omega (arith, decimal-length n)
-fits-short latin c (words O.Operator t) f (a-text x h a) = omega (arith, quoted-length t, f x)
-fits-short latin c (words O.Suggestion t) f (a-suggestion x y p h a) = omega (arith, quoted-length t, f x)
+fits-short latin c (words O.Operator t) f (a-text x h a e) = omega (arith, quoted-length t, f x)
+fits-short latin c (words O.Suggestion t) f (a-suggestion x y p h a e) = omega (arith, quoted-length t, f x)
 
 fit-short : (latin : Bool) (cs : List Named) (vs : Record) → ((k : ℕ) → getD cs k no-column .column .text ≡ true → getD cs k no-column .column .hi ≤ 40) → FitAll latin cs vs
     → Every Short vs

@@ -5,7 +5,7 @@ ghost use lib.ListN.{length};
 ghost use Rattle.page.specs.File.{file-refusal};
 ghost use Rattle.page.specs.Model.{modelOf};
 ghost use Rattle.page.specs.Form.{formOf};
-ghost use Rattle.page.specs.Writing.{writeOf, write-after, stripOf, strip-after, fill-refusal, fillOf, fill-after};
+ghost use Rattle.page.specs.Writing.{putOf, put-after, writeOf, write-after, stripOf, strip-after, fill-refusal, fill-form};
 ghost use Rattle.output.specs.Put.{Wrote};
 ghost use Rattle.copies.specs.Changed.{changed-model};
 use crate::file::put_form;
@@ -69,6 +69,7 @@ pub fn strip_checked(s: &[u8], refusal: Refusal, out: &mut [u8]) -> Written
     hand_form(out, refusal, s, plan, &s[..0])
 }
 
+// The text is put in as it is: who calls has taken the spaces at its end off.
 pub fn fill_checked(
     s: &[u8],
     refusal: Refusal,
@@ -80,8 +81,8 @@ pub fn fill_checked(
 ) -> Written
     requires { ⌜ refusal ≡ fill-refusal (now s) section entry field (now text) ⌝ }
     ensures { λ r.
-        ⌜ (r ≡ fillOf (now (s .entry)) section entry field (now (text .entry)) (length (now (out .entry))))
-        × (now (out .exit) ≡ fill-after (now (s .entry)) section entry field (now (text .entry)) (now (out .entry))) ⌝ }
+        ⌜ (r ≡ putOf (fill-refusal (now (s .entry)) section entry field (now (text .entry))) (fill-form (now (s .entry)) section entry field (now (text .entry))) (length (now (out .entry))))
+        × (now (out .exit) ≡ put-after (fill-refusal (now (s .entry)) section entry field (now (text .entry))) (fill-form (now (s .entry)) section entry field (now (text .entry))) (now (out .entry))) ⌝ }
 {
     let plan = Plan {
         ends: LineEnd::Lf,

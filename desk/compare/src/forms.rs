@@ -18,9 +18,14 @@ use crate::{Library, Pair};
 const TAKEN: usize = 3;
 const OTHERS: usize = 4;
 
-/// Bytes never allowed, allowed under ISO8859-1 only, and at the edges.
-const TEXTS: [&[u8]; 8] = [
+/// Bytes never allowed, allowed under ISO8859-1 only, at the edges, and padded.
+const TEXTS: [&[u8]; 13] = [
     b"",
+    b"   ",
+    b"x  ",
+    b" x\"  ",
+    b"0123456789012345678901234567890123456789  ",
+    b"\x1b  ",
     b"\x1b[1m",
     b"\xa0",
     b"\xa1",
@@ -143,14 +148,15 @@ impl Forms<'_> {
     fn fill_places(&mut self, model: &Model) -> Result<(), Difference> {
         let mut first = true;
         for at in self.places(model) {
-            let text = texts::any(self.random, false, 12);
+            let text = self.draw_text();
+            let own = texts::unpadded(text.clone());
             let filled = self.fill(at, &text)?;
             law(
-                filled.is_ok() == model.fillable().contains(&at),
+                filled.is_ok() == (model.fillable().contains(&at) && !own.is_empty()),
                 &format_args!("{}: just the empty texts can be filled", Call("fill", at)),
             )?;
             if filled.is_ok() {
-                let model = model.filled(at, &text);
+                let model = model.filled(at, &own);
                 self.is_form_of(&Call("fill", at).to_string(), &filled, &model)?;
                 if first {
                     self.fill_odd(at)?;
@@ -159,6 +165,15 @@ impl Forms<'_> {
             }
         }
         Ok(())
+    }
+
+    /// "a fill's text is trimmed likewise": some are padded.
+    fn draw_text(&mut self) -> Vec<u8> {
+        let mut text = texts::any(self.random, false, 12);
+        if self.random.percent(40) {
+            text.resize(12 + self.random.below(40), b' ');
+        }
+        text
     }
 
     /// Every text that can be filled, a draw of the other fields, and places

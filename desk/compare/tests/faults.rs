@@ -2,6 +2,7 @@
 //! otherwise right implementation a difference is reported soon.
 
 mod arranged;
+mod padded;
 
 use std::borrow::Cow;
 use std::path::Path;
@@ -76,6 +77,13 @@ faults! {
     FormInFileOrder,
     MarksKeepNumbers,
     FillByPlace,
+    PaddingMeasured,
+    PaddingInKeys,
+    SpacesMarked,
+    PaddingInSpan,
+    PaddingWritten,
+    SpacesNotEmpty,
+    FillUntrimmed,
 }
 
 /// Faults that show only in files whose columns are arranged.
@@ -113,6 +121,16 @@ impl Bent {
             FieldsByColumn => Plain.check(&arranged::straightened(file)),
             PointsByPlace => arranged::judge_points_by_place(file, right),
             KeysByPlace => arranged::judge_keys_by_place(file, right),
+            _ => right,
+        }
+    }
+
+    /// The right answer with a rule judged as if padding belonged to a text.
+    fn padded(&self, file: &[u8], right: Refusal) -> Refusal {
+        let kept = || Plain.check(&padded::with_padding_kept(file));
+        match (self.0, right.number) {
+            (PaddingMeasured, _) if kept().number == number::RANGE => kept(),
+            (PaddingInKeys, number::SECOND_KEY) | (SpacesMarked, number::MARK) => kept(),
             _ => right,
         }
     }
@@ -167,7 +185,7 @@ impl Library for Bent {
 
     fn check(&self, file: &[u8]) -> Refusal {
         let right = Plain.check(&self.taken(file));
-        self.answer(self.unarranged(file, right))
+        self.answer(self.padded(file, self.unarranged(file, right)))
     }
 
     fn header(&self, file: &[u8]) -> Result<Header, Refusal> {
@@ -227,6 +245,11 @@ impl Library for Bent {
             ValueByPlace => arranged::by_place(file, at),
             _ => at,
         };
+        let kept = padded::with_padding_kept(file);
+        let file = match self.0 {
+            PaddingInSpan => &kept[..],
+            _ => file,
+        };
         Ok(match Plain.value(&self.taken(file), at)? {
             Value::Text { span, .. } if self.is(AllOperator) => Value::Text {
                 span,
@@ -280,7 +303,11 @@ impl Library for Bent {
     }
 
     fn write(&self, file: &[u8], out: &mut [u8]) -> Result<usize, Refusal> {
-        let answer = Plain.write(&self.taken(file), out);
+        let kept = padded::with_padding_kept(file);
+        let answer = match self.0 {
+            PaddingWritten if Plain.check(file).is_sound() => Plain.write(&kept, out),
+            _ => Plain.write(&self.taken(file), out),
+        };
         match (self.0, answer) {
             (FormInFileOrder, Ok(length)) => arranged::rearrange(&mut out[..length], file),
             (MarksKeepNumbers, Ok(length)) => arranged::number_as_before(&mut out[..length], file),
@@ -294,6 +321,12 @@ impl Library for Bent {
             FillByPlace => arranged::by_place(file, at),
             _ => at,
         };
+        let mut untrimmed = text.to_vec();
+        padded::fill_end(&mut untrimmed);
+        let text = match self.0 {
+            FillUntrimmed => &untrimmed[..],
+            _ => text,
+        };
         let file = &*self.taken(file);
         if self.is(FortyTooLong) && text.len() == 40 && Plain.fill(file, at, text, out).is_ok() {
             return Err(Refusal::placeless(number::RANGE));
@@ -304,6 +337,14 @@ impl Library for Bent {
                 Err(Refusal::placeless(number::RANGE))
             }
             (FillOverwrites, Err(number::NOT_EMPTY)) => Plain.write(file, out),
+            (SpacesNotEmpty, Ok(_)) => {
+                let kept = padded::with_padding_kept(file);
+                let refused = Plain.fill(&kept, at, text, &mut [0; 1]);
+                match refused.map_err(|refusal| refusal.number) {
+                    Err(number::NOT_EMPTY) => Err(Refusal::placeless(number::NOT_EMPTY)),
+                    _ => answer,
+                }
+            }
             (FillWithoutMark, Ok(length)) => {
                 let form = out[..length].to_vec();
                 Plain.strip(&form, out)

@@ -163,9 +163,10 @@ mark and is none is told of on standard error, and counted.
 
 const WRITE: &str = "\
 Puts out the written form: header lines in their order, columns in document
-01's, one space after each separating `;`, numbers without leading zeros, no
-comments but marks, renumbered as the columns stand, LF. A comment that looks
-like a mark and is none is warned of before it goes.
+01's, one space after each separating `;`, numbers without leading zeros, texts
+without spaces at their end, no comments but marks, renumbered as the columns
+stand, LF. A comment that looks like a mark and is none is warned of before it
+goes.
 
   -o OUT      into this file instead of standard output
   --in-place  into the file itself
@@ -184,7 +185,8 @@ Puts out the written form with TEXT in an empty field, marked as a suggestion.
 Section, record and field count from 1; `nhachudep show` counts them. FIELD is
 the column's number in document 01's table, wherever the file has the column,
 and whatever number a mark in the file gives it. TEXT is given in UTF-8 and put
-out in ISO 8859-1. One that begins with `-` stands after `--`.
+out in ISO 8859-1, without spaces at its end. One that begins with `-` stands
+after `--`.
 
   -o OUT      into this file instead of standard output
   --in-place  into the file itself; many fills at once wait for each other

@@ -159,10 +159,12 @@ pub fn is_text(field: &[u8]) -> bool {
     own_size(field).is_some()
 }
 
-/// A closed text's own bytes, doubled quotes counted once.
+/// A closed text's own bytes, doubled quotes counted once and the spaces at
+/// its end not at all.
 fn own_size(field: &[u8]) -> Option<usize> {
     let inner = field.strip_prefix(b"\"")?.strip_suffix(b"\"")?;
-    let (mut size, mut bytes) = (0, inner.iter());
+    let last = inner.iter().rposition(|byte| *byte != b' ');
+    let (mut size, mut bytes) = (0, inner[..last.map_or(0, |last| last + 1)].iter());
     while let Some(byte) = bytes.next() {
         if *byte == b'"' && bytes.next() != Some(&b'"') {
             return None;
@@ -241,6 +243,13 @@ mod tests {
             (b"rec; 7; x; \"a\"", 12, 290, &[b"x"]),
             (b"rec; 7; 1000; \"a\"", 13, 290, &[b"1000"]),
             (b"rec; 7; 1; \"1234567\"; \"\"", 13, 998, &[b"\"1234567\""]),
+            (b"rec; 7; 8; \"HP      \"; \"\"", 13, 998, &[b"8"]),
+            (
+                b"rec; 7; 1; \"1234567 \"; \"\"",
+                13,
+                998,
+                &[b"\"1234567 \""],
+            ),
             (b"end; x", 12, 290, &[b"x"]),
             (b"end; 3", 16, 290, &[b"3"]),
             (b"rec; 7; -1; 1; 2; 1; 3; 4", 13, 225, &[b"-1"]),

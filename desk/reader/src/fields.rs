@@ -85,6 +85,12 @@ impl<'a> Text<'a> {
         Some(Text { inner, doubled })
     }
 
+    /// "Spaces at the end of a text in a record no longer belong to it."
+    pub(crate) fn unpadded(self) -> Text<'a> {
+        let inner = self.inner.slice(0..unpadded(self.inner.bytes).len());
+        Text { inner, ..self }
+    }
+
     /// As it stands between the quotes, doubled quotes still doubled.
     pub fn stored(&self) -> &'a [u8] {
         self.inner.bytes
@@ -121,6 +127,12 @@ impl<'a> Text<'a> {
             Cow::Owned(self.own_bytes().collect())
         }
     }
+}
+
+/// A text without the spaces at its end.
+pub(crate) fn unpadded(text: &[u8]) -> &[u8] {
+    let end = text.iter().rposition(|&byte| byte != b' ');
+    &text[..end.map_or(0, |last| last + 1)]
 }
 
 /// "A number is an optional `-` and 1 to 18 digits, leading zeros allowed".
@@ -186,6 +198,22 @@ mod tests {
         assert_eq!(undone(b"\"\"").as_deref(), Some(&b""[..]));
         assert_eq!(undone(b"\"\"\"\"").as_deref(), Some(&b"\""[..]));
         assert_eq!(undone(b"\"a\"\"\"\"b\"").as_deref(), Some(&b"a\"\"b"[..]));
+    }
+
+    #[test]
+    fn padding_does_not_belong_to_a_records_text() {
+        for (field, own, span) in [
+            (&b"\"HP \""[..], &b"HP"[..], 1..3),
+            (b"\" HP\"", b" HP", 1..4),
+            (b"\"   \"", b"", 1..1),
+            (b"\"\"", b"", 1..1),
+            (b"\"a\"\"  \"", b"a\"", 1..4),
+        ] {
+            let text = Text::read(part(field)).unwrap().unpadded();
+            assert_eq!(text.undone().as_ref(), own);
+            assert_eq!(text.span(), span);
+            assert_eq!(text.size(), own.len());
+        }
     }
 
     #[test]

@@ -1,7 +1,7 @@
 //! The written file, filling and stripping.
 
 use crate::answer::{number, Answer, LIMIT};
-use crate::fields::Text;
+use crate::fields::{unpadded, Text};
 use crate::file::Opened;
 use crate::header::{Charset, Header};
 use crate::lines::{is_latin, is_plain};
@@ -42,6 +42,7 @@ pub fn strip(file: &[u8], out: &mut [u8]) -> Result<usize, Answer> {
 
 /// The written form with this text and its mark. "Order: verdict, 24, 23, 22,
 /// text empty 11, text byte not allowed in a `rec` 4, over 40 bytes 13, 21."
+/// "a fill's text is trimmed likewise".
 pub fn fill(
     file: &[u8],
     section: usize,
@@ -55,7 +56,7 @@ pub fn fill(
         section,
         record,
         field,
-        text,
+        text: unpadded(text),
     };
     may_fill(&opened, &filling).map_err(Answer::placeless)?;
     hand_out(&form(&opened, &Change::Fill(filling)), out)

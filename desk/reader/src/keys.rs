@@ -106,7 +106,7 @@ fn extend(key: Key, field: Field<'_>, kind: Kind) -> Key {
         (Field::Number(value), Kind::Number { low, high }) => {
             key * (high - low + 1) as Key + (value - low) as Key
         }
-        // Bytes count from 1 and absent ones as 0, so that "HP" and "HP "
+        // Bytes count from 1 and absent ones as 0, so that "HP" and "HP1"
         // differ. A second key's text has at most six bytes.
         (Field::Text(text), Kind::Text { size }) => {
             let mut bytes = text.own_bytes();

@@ -319,7 +319,7 @@ fn read_field(part: Part<'_>, kind: Kind) -> Result<Field<'_>, u8> {
             Ok(Field::Number(value))
         }
         Kind::Text { size } => {
-            let text = Text::read(part).ok_or(number::NOT_A_TEXT)?;
+            let text = Text::read(part).ok_or(number::NOT_A_TEXT)?.unpadded();
             if text.size() > size {
                 return Err(number::RANGE);
             }

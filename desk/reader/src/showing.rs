@@ -6,8 +6,8 @@ use std::io::{Result, Write};
 use crate::answer::Answer;
 use crate::{check, fill, section, strip, write};
 
-/// The text that is filled in: a quote to double, and a `;`.
-const TEXT: &[u8] = b"Tag \"neu\"; 1";
+/// The text that is filled in: a quote to double, a `;`, and spaces at its end.
+const TEXT: &[u8] = b"Tag \"neu\"; 1  ";
 
 /// As many fields as the widest table has.
 const WIDEST: usize = 8;

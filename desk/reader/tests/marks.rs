@@ -117,7 +117,7 @@ fn the_same_mark_twice() {
 fn on_an_empty_text_after_all_else() {
     assert_eq!(days(&[MARK, "rec; 7; 1; \"\"", "end; 1"]), (15, 5));
     assert_eq!(days(&[MARK, "rec; 7; 0; \"\"", "end; 1"]), (13, 5));
-    assert_eq!(days(&[MARK, "rec; 7; 1; \" \"", "end; 1"]), (0, 0));
+    assert_eq!(days(&[MARK, "rec; 7; 1; \" \"", "end; 1"]), (15, 5));
 }
 
 #[test]

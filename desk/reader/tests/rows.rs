@@ -130,14 +130,16 @@ fn row_13_counted_tables() {
     assert_eq!(answer(&[&body[..], b"eof; 2\n"].concat()), (3, 0, 1));
 }
 
+/// As document 02 has it: "the two are one second key, and 19 follows".
 #[test]
-fn row_14_a_space_makes_another_second_key() {
-    let types = point_types(&[
-        b"rec; 7; 1; \"HP\"; \"\"",
-        b"rec; 7; 2; \"HP \"; \"\"",
-        b"end; 2",
-    ]);
-    assert_eq!(answer(&file(&[VERSIONS, &types])), (0, 0, 0));
+fn row_14_padding_makes_no_other_second_key() {
+    let with = |text: &str| {
+        let second = format!("rec; 7; 2; \"{text}\"; \"\"");
+        let types = point_types(&[b"rec; 7; 1; \"HP\"; \"\"", second.as_bytes(), b"end; 2"]);
+        answer(&file(&[VERSIONS, &types]))
+    };
+    assert_eq!(with("HP "), (19, 2, 5));
+    assert_eq!(with(" HP"), (0, 0, 0));
 }
 
 #[test]

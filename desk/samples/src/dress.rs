@@ -1,6 +1,6 @@
 //! A model put into lines, in one of the many dresses document 01 allows:
-//! spaces, blank lines, comments, line ends, zeros, forms of the date, and
-//! arrangements of the columns.
+//! spaces, blank lines, comments, line ends, zeros, forms of the date,
+//! arrangements of the columns, and texts padded inside their quotes.
 
 use vdv::tables::Table;
 use vdv::Owner;
@@ -55,6 +55,7 @@ struct Style {
     zeros: usize,
     sizes: usize,
     arranged: usize,
+    padded: usize,
 }
 
 impl Style {
@@ -73,6 +74,7 @@ impl Style {
             zeros: random.pick(&[0, 0, 10, 60]),
             sizes: random.pick(&[0, 0, 100]),
             arranged: random.pick(&[0, 0, 50, 100]),
+            padded: random.pick(&[0, 0, 30, 100]),
         }
     }
 }
@@ -202,8 +204,18 @@ impl Dresser<'_> {
     fn datum(&mut self, datum: &Datum) -> Vec<u8> {
         match datum {
             Datum::Number(number) => self.number(*number),
-            Datum::Text(text, Owner::Operator | Owner::Suggestion) => quoted(text),
+            Datum::Text(text, Owner::Operator | Owner::Suggestion) => self.text(text),
         }
+    }
+
+    /// "Senders pad inside the quotes to line up columns".
+    fn text(&mut self, text: &[u8]) -> Vec<u8> {
+        let padding = if self.random.percent(self.style.padded) {
+            1 + self.random.pick(&[0, 1, 5, 45])
+        } else {
+            0
+        };
+        quoted(&[text, &vec![b' '; padding]].concat())
     }
 
     /// "1 to 18 digits, leading zeros allowed, `-0` being 0".

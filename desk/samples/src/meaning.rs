@@ -253,7 +253,7 @@ impl Records<'_> {
             }),
             Kind::Text { size } => {
                 let text = texts::draw(self.random, self.latin, size);
-                Datum::Text(text, Owner::Operator)
+                Datum::Text(texts::unpadded(text), Owner::Operator)
             }
         }
     }

@@ -51,6 +51,14 @@ pub fn draw(random: &mut Random, latin: bool, size: usize) -> Vec<u8> {
     }
 }
 
+/// A text without the spaces at its end, as a record has it.
+pub fn unpadded(mut text: Vec<u8>) -> Vec<u8> {
+    while text.last() == Some(&b' ') {
+        text.pop();
+    }
+    text
+}
+
 /// So many bytes of those a `rec` line may hold.
 pub fn any(random: &mut Random, latin: bool, length: usize) -> Vec<u8> {
     (0..length).map(|_| byte(random, latin)).collect()

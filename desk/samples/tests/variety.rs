@@ -50,6 +50,16 @@ fn every_dress_is_drawn() {
     assert!(share(|sample, _| !sample.model.fillable().is_empty()) >= 200);
 }
 
+/// Behind a text, alone, and behind a doubled quote.
+#[test]
+fn texts_are_padded() {
+    let parts: [&[u8]; 3] = [b"n      \"", b"; \"      \"", b"\"\"      \""];
+    for part in parts {
+        let found = share(|_, file| holds(file, part));
+        assert!(found >= 5, "{}: {found}", part.escape_ascii());
+    }
+}
+
 fn lone_feed(pair: &[u8]) -> bool {
     pair[1] == b'\n' && pair[0] != b'\r'
 }

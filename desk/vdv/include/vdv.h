@@ -108,7 +108,7 @@ typedef struct vdv_row_answer {
 enum vdv_kind { VDV_NUMBER = 0, VDV_OPERATOR = 1, VDV_SUGGESTION = 2 };
 
 /* `kind` is one of enum vdv_kind: a number has its amount, a text its bytes
- * between the quotes, doubled quotes still doubled. */
+ * between the quotes, doubled quotes still doubled, up to the spaces at its end. */
 typedef struct vdv_value_answer {
     uint32_t number;
     size_t section;
@@ -154,9 +154,9 @@ vdv_refusal vdv_list(const uint8_t *file, size_t length, vdv_row *rows, size_t r
  * verdict, 24 for the record or field. */
 vdv_value_answer vdv_value(const uint8_t *file, size_t length, size_t section, size_t record, size_t field);
 
-/* A text's own bytes, doubled quotes undone, and whose it is: refused as its
- * value is, then 11 for a number, then 21. A refused call leaves what is lent as
- * it was; so it is for every call below. */
+/* A text's own bytes, doubled quotes undone and the spaces at its end off, and
+ * whose it is: refused as its value is, then 11 for a number, then 21. A refused
+ * call leaves what is lent as it was; so it is for every call below. */
 vdv_text_answer vdv_text(const uint8_t *file, size_t length, size_t section, size_t record, size_t field,
                          uint8_t *out, size_t room);
 
@@ -172,7 +172,8 @@ vdv_length_answer vdv_table(const uint8_t *file, size_t length, size_t section, 
 vdv_length_answer vdv_write(const uint8_t *file, size_t length, uint8_t *out, size_t room);
 
 /* The written form with one more suggestion: the file's verdict, 24, 23, 22, for
- * the text 11 if it is empty, 4, 13 if it is over 40 bytes, then 21. */
+ * the text, the spaces at its end off, 11 if it is empty, 4, 13 if it is over 40
+ * bytes, then 21. */
 vdv_length_answer vdv_fill(const uint8_t *file, size_t length, size_t section, size_t record, size_t field,
                            const uint8_t *text, size_t size, uint8_t *out, size_t room);
 

@@ -170,7 +170,8 @@ pub enum Owner {
 #[derive(Clone, Copy, Debug, PartialEq, Eq)]
 pub enum Value {
     Number(u64),
-    /// What stands between the quotes, doubled quotes still doubled.
+    /// What stands between the quotes, doubled quotes still doubled, up to
+    /// the spaces at its end.
     Text {
         span: Span,
         owner: Owner,

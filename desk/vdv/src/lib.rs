@@ -135,9 +135,10 @@ pub fn value(file: &[u8], at: At) -> Result<Value, Refusal> {
     unless_refused(value_of(&answer), answer.refusal)
 }
 
-/// A text's own bytes into lent room, doubled quotes undone, and whose it is:
-/// refused as its value is, then 11 for a number, then 21. A refused call
-/// leaves lent room as it was; so it is for every call below.
+/// A text's own bytes into lent room, doubled quotes undone and the spaces at
+/// its end off, and whose it is: refused as its value is, then 11 for a number,
+/// then 21. A refused call leaves lent room as it was; so it is for every call
+/// below.
 ///
 /// ```
 /// let file = b"mod; DD.MM.YYYY; HH:MM:SS; free\n\
@@ -147,7 +148,7 @@ pub fn value(file: &[u8], at: At) -> Result<Value, Refusal> {
 ///     atr; BASIS_VERSION; BASIS_VERSION_TEXT\n\
 ///     frm; num[9.0]; char[40]\n\
 ///     com; \"SUGGESTED 2\"\n\
-///     rec; 7; \"Bake \"\"1\"\"\"\n\
+///     rec; 7; \"Bake \"\"1\"\"  \"\n\
 ///     end; 1\n";
 /// let mut out = [0; 40];
 /// let text = vdv::text(file, vdv::At::new(1, 1, 2), &mut out).unwrap();
@@ -244,8 +245,9 @@ pub fn write(file: &[u8], out: &mut [u8]) -> Result<usize, Refusal> {
 }
 
 /// The written form with one more suggestion into lent room: the file's
-/// verdict, 24, 23, 22, for the text 11 if it is empty, 4, 13 if it is over 40
-/// bytes, then 21. The field is named as for [`value`].
+/// verdict, 24, 23, 22, for the text, the spaces at its end off, 11 if it is
+/// empty, 4, 13 if it is over 40 bytes, then 21. The field is named as for
+/// [`value`].
 ///
 /// ```
 /// let file = b"mod; DD.MM.YYYY; HH:MM:SS; free\n\
@@ -259,7 +261,7 @@ pub fn write(file: &[u8], out: &mut [u8]) -> Result<usize, Refusal> {
 ///     eof; 1\n";
 /// let at = vdv::At::new(1, 1, 2);
 /// let mut form = vec![0; 1024];
-/// let length = vdv::fill(file, at, b"Winter", &mut form).unwrap();
+/// let length = vdv::fill(file, at, b"Winter  ", &mut form).unwrap();
 /// let form = &form[..length];
 /// let lines = b"com; \"SUGGESTED 2\"\nrec; 7; \"Winter\"\n";
 /// assert!(form.windows(lines.len()).any(|part| part == lines));

@@ -1,5 +1,6 @@
 use borrow.Author.Needs.{needs}
-use Prim.Native.Nat.{_≤_}
+use Prim.Native.Nat.{_-_, _≤_}
+use mathlib.Core.Path.{_≡_}
 use native.Mathlib.Omega.{arith}
 use borrow.Author.Tests.{eq-eqb, ne-eqb}
 use lib.ListN.{length, getD, List·getD-eq-default}
@@ -25,13 +26,34 @@ returns-3 : tie.Need-returns-3
 unfolding stands
 returns-3 c =
     let f = c .before .before .before .before .args .f .now in
-    rw (ne-eqb (getD f 0 0) 45 (c .before .if2 .left), ne-eqb (getD f 0 0) 48 (c .if3 .taken))
+    rw (ne-eqb (getD f 0 0) 45 (c .before .if2 .left), eq-eqb (getD f 0 0) 48 (c .if3 .taken))
 
 returns-4 : tie.Need-returns-4
 unfolding stands
 returns-4 c =
-    let f = c .before .before .before .before .args .f .now in
-    rw (ne-eqb (getD f 0 0) 45 (c .before .if2 .left), eq-eqb (getD f 0 0) 48 (c .if3 .left))
+    let f = c .before .before .before .before .before .args .f .now in
+    rw (ne-eqb (getD f 0 0) 45 (c .before .before .if2 .left), ne-eqb (getD f 0 0) 48 (c .before .if3 .left), ne-eqb (getD f 0 0) 34 (c .if4 .taken))
+
+returns-5 : tie.Need-returns-5
+unfolding stands
+returns-5 c =
+    let f = c .before .before .before .before .before .before .args .f .now in
+    let q : getD f 0 0 ≡ 34 = c .before .if4 .left in
+    let n : length f - 2 ≡ 0 = omega arith in
+    rw (n, q)
+
+sub-last : tie.Need-sub-last
+sub-last c = search needs
+
+shared-slice-read-result : tie.Need-shared-slice-read-result
+shared-slice-read-result c = search needs
+
+returns-6 : tie.Need-returns-6
+unfolding stands
+returns-6 c =
+    let f = c .before .before .before .before .before .before .before .args .f .now in
+    let q : getD f 0 0 ≡ 34 = c .before .before .if4 .left in
+    rw q
 
 pub is-written-spec : {M : Type 1} → statement M
 is-written-spec =
@@ -41,4 +63,8 @@ is-written-spec =
     shared-slice-read-b
     returns-2
     returns-3
-    returns-4)
+    returns-4
+    returns-5
+    sub-last
+    shared-slice-read-result
+    returns-6)
