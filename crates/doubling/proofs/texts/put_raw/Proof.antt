@@ -1,8 +1,8 @@
 use borrow.Author.Needs.{needs}
-use Rattle.output.specs.Raw.{raw-text}
+use Rattle.doubling.specs.Raw.{raw-text}
 use Rattle.output.proofs.PutLaws.{puts}
-use Rattle.output.proofs.texts.put_raw.Statement.{statement}
-use Rattle.output.proofs.texts.put_raw.Tie as tie
+use Rattle.doubling.proofs.texts.put_raw.Statement.{statement}
+use Rattle.doubling.proofs.texts.put_raw.Tie as tie
 
 put-byte-requires : tie.Need-put-byte-requires
 put-byte-requires c κs = search needs

@@ -1,10 +1,10 @@
 use native.Mathlib.Omega.{arith}
 use borrow.Author.Needs.{needs}
 use Rattle.page.specs.Form.{quoted}
-use Rattle.output.proofs.FormLaws.{doubled-length}
+use Rattle.doubling.proofs.TextLaws.{doubled-length}
 use Rattle.output.proofs.PutLaws.{puts}
-use Rattle.output.proofs.texts.put_quoted.Statement.{statement}
-use Rattle.output.proofs.texts.put_quoted.Tie as tie
+use Rattle.doubling.proofs.texts.put_quoted.Statement.{statement}
+use Rattle.doubling.proofs.texts.put_quoted.Tie as tie
 
 put-byte-requires : tie.Need-put-byte-requires
 put-byte-requires c κs = search needs

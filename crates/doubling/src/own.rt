@@ -3,10 +3,10 @@ ghost use mathlib.Core.Bool.{false};
 ghost use Prim.Native.Nat.{_+_, _<_, _≤_, _^_};
 ghost use lib.ListN.{length};
 ghost use Rattle.page.specs.File.{limit};
 ghost use Rattle.output.specs.Put.{Put, Wrote};
-ghost use Rattle.output.specs.Raw.{undoubled};
-use crate::bytes::put_byte;
-use crate::room::refuse_room;
+ghost use Rattle.doubling.specs.Raw.{undoubled};
+use output::put_byte;
+use output::refuse_room;
 use page::Refusal;
 use page::Written;
 

@@ -1,7 +1,7 @@
 use Rattle.output.proofs.WriteLaws.{refused, no-room, fits}
 use borrow.Author.Needs.{needs}
-use Rattle.output.proofs.own.hand_own.Statement.{statement}
-use Rattle.output.proofs.own.hand_own.Tie as tie
+use Rattle.doubling.proofs.own.hand_own.Statement.{statement}
+use Rattle.doubling.proofs.own.hand_own.Tie as tie
 
 returns : tie.Need-returns
 returns c = refused _ _ _ (c .if1 .taken)

@@ -1,8 +1,8 @@
 use borrow.Author.Needs.{needs}
-use Rattle.output.proofs.FormLaws.{doubled-quote, doubled-other}
+use Rattle.doubling.proofs.TextLaws.{doubled-quote, doubled-other}
 use Rattle.output.proofs.PutLaws.{put-as, puts}
-use Rattle.output.proofs.texts.put_doubled_byte.Statement.{statement}
-use Rattle.output.proofs.texts.put_doubled_byte.Tie as tie
+use Rattle.doubling.proofs.texts.put_doubled_byte.Statement.{statement}
+use Rattle.doubling.proofs.texts.put_doubled_byte.Tie as tie
 
 put-byte-requires : tie.Need-put-byte-requires
 put-byte-requires c κs = search needs

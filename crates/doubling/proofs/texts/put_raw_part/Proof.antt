@@ -1,10 +1,10 @@
 use mathlib.Core.Path.{ap}
 use borrow.Author.Needs.{needs}
-use Rattle.output.specs.Raw.{raw-text}
-use Rattle.output.proofs.FormLaws.{part-same}
+use Rattle.doubling.specs.Raw.{raw-text}
+use Rattle.doubling.proofs.TextLaws.{part-same}
 use Rattle.output.proofs.PutLaws.{put-as}
-use Rattle.output.proofs.texts.put_raw_part.Statement.{statement}
-use Rattle.output.proofs.texts.put_raw_part.Tie as tie
+use Rattle.doubling.proofs.texts.put_raw_part.Statement.{statement}
+use Rattle.doubling.proofs.texts.put_raw_part.Tie as tie
 
 least-requires : tie.Need-least-requires
 least-requires c κs = search needs

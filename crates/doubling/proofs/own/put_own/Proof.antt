@@ -1,13 +1,13 @@
-use Rattle.output.proofs.FormLaws.{undoubled-second, undoubled-first, undoubled-end, undoubled-length}
+use Rattle.doubling.proofs.TextLaws.{undoubled-second, undoubled-first, undoubled-end, undoubled-length}
 use Rattle.output.proofs.PutLaws.{Todo, begin, left-is, next-by, at-end, same}
-use Rattle.output.specs.Raw.{undoubled}
+use Rattle.doubling.specs.Raw.{undoubled}
 use borrow.Author.Needs.{needs}
 use Prim.Native.Nat.{_-_, _≤_}
 use mathlib.Core.Bool.{false}
 use native.Mathlib.Omega.{arith}
 use lib.ListN.{length, drop}
-use Rattle.output.proofs.own.put_own.Statement.{statement}
-use Rattle.output.proofs.own.put_own.Tie as tie
+use Rattle.doubling.proofs.own.put_own.Statement.{statement}
+use Rattle.doubling.proofs.own.put_own.Tie as tie
 
 abbrev Inv-loop : tie.InvT-loop
 Inv-loop out₀ at raw met₀ o₀ i₀ out met o i = (i ≤ length raw) × Todo out₀ at (undoubled false raw) out o (undoubled met (drop i raw))

@@ -4,10 +4,10 @@ ghost use Prim.Native.Nat.{_+_, _*_, _<_, _^_};
 ghost use lib.ListN.{length};
 ghost use Rattle.page.specs.Bytes.{part};
 ghost use Rattle.page.specs.Form.{doubled, quoted};
 ghost use Rattle.output.specs.Put.{Put};
-ghost use Rattle.output.specs.Raw.{raw-text};
-use crate::bytes::put_byte;
-use crate::bytes::put_bytes;
+ghost use Rattle.doubling.specs.Raw.{raw-text};
+use output::put_byte;
+use output::put_bytes;
 use page::Span;
 
 fn put_doubled_byte(out: &mut [u8], at: usize, b: u8) -> usize

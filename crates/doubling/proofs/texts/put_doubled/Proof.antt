@@ -4,10 +4,10 @@ use native.Mathlib.Omega.{arith}
 use borrow.Author.Needs.{needs}
 use lib.ListN.{drop-of-length-le, length, drop}
 use Rattle.page.specs.Form.{doubled}
-use Rattle.output.proofs.FormLaws.{doubled-cons, doubled-none, doubled-length}
+use Rattle.doubling.proofs.TextLaws.{doubled-cons, doubled-none, doubled-length}
 use Rattle.output.proofs.PutLaws.{Todo, begin, next-by, at-end, first-of, same}
-use Rattle.output.proofs.texts.put_doubled.Statement.{statement}
-use Rattle.output.proofs.texts.put_doubled.Tie as tie
+use Rattle.doubling.proofs.texts.put_doubled.Statement.{statement}
+use Rattle.doubling.proofs.texts.put_doubled.Tie as tie
 
 abbrev Inv-loop : tie.InvT-loop
 Inv-loop out₀ at s o₀ i₀ out o i = (i ≤ length s) × Todo out₀ at (doubled s) out o (doubled (drop i s))
