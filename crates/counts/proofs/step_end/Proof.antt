@@ -1,11 +1,10 @@
--- `machine::machine::step_end` meets its contract. Assumes nothing.
-use Prim.Native.Nat.{_-_}
+-- `counts::step_end` meets its contract. Assumes nothing.
 use mathlib.Core.Path.{sym}
 use borrow.Author.Tests.{eq-eqb, ne-eqb}
 use borrow.Author.Needs.{needs}
 use Rattle.page.specs.Section.{end-step, choose}
-use Rattle.machine.proofs.machine.step_end.Statement.{statement}
-use Rattle.machine.proofs.machine.step_end.Tie as tie
+use Rattle.counts.proofs.step_end.Statement.{statement}
+use Rattle.counts.proofs.step_end.Tie as tie
 
 returns : tie.Need-returns
 unfolding end-step choose

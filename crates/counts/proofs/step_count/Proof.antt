@@ -1,11 +1,10 @@
--- `machine::machine::step_count` meets its contract. Assumes nothing.
-use Prim.Native.Nat.{_-_}
+-- `counts::step_count` meets its contract. Assumes nothing.
 use mathlib.Core.Path.{sym, _∙_}
 use borrow.Author.Tests.{eq-eqb, ne-eqb}
 use borrow.Author.Needs.{needs}
 use Rattle.page.specs.Section.{count-step, choose}
-use Rattle.machine.proofs.machine.step_count.Statement.{statement}
-use Rattle.machine.proofs.machine.step_count.Tie as tie
+use Rattle.counts.proofs.step_count.Statement.{statement}
+use Rattle.counts.proofs.step_count.Tie as tie
 
 read-number-requires : tie.Need-read-number-requires
 read-number-requires c κs = search needs
