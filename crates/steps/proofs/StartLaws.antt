@@ -12,7 +12,7 @@ use Rattle.page.specs.File.{header-refusal}
 use Rattle.page.specs.Reading.{list-refusal}
 use Rattle.page.specs.declared.Refusal.{Refusal}
 use Rattle.page.proofs.CutLaws.{sections-from, sections-all}
-use Rattle.rows.specs.Walk.{first-place, accepts, atOf, refused, startOf}
+use Rattle.steps.specs.Steps.{first-place, accepts, atOf, refused, startOf}
 
 module _ (s : Bytes) (room : ℕ) (r : Refusal) (q : r ≡ header-refusal s) where
   -- 1, 2

@@ -1,19 +1,16 @@
 use mathlib.Core.Path.{_∙_}
 use borrow.Author.Needs.{needs}
-use Rattle.rows.proofs.begin_list.Statement.{statement}
-use Rattle.rows.proofs.begin_list.Tie as tie
-use Rattle.rows.proofs.SectionLaws.{first-next}
-use Rattle.rows.proofs.StartLaws.{start-header, start-small, start-all}
+use Rattle.steps.proofs.begin_list.Statement.{statement}
+use Rattle.steps.proofs.begin_list.Tie as tie
+use Rattle.steps.proofs.PlaceLaws.{first-next}
+use Rattle.steps.proofs.StartLaws.{start-header, start-small, start-all}
 
--- src/lib.rt:40:9
 refuse-header-requires : tie.Need-refuse-header-requires
 refuse-header-requires c κs = search needs
 
--- src/lib.rt:42:9
 refuse-list-requires : tie.Need-refuse-list-requires
 refuse-list-requires c κs = search needs
 
--- src/lib.rt:42:9
 returns : tie.Need-returns
 returns c =
     let s = c .before .before .before .before .before .args .file .now in
@@ -21,15 +18,12 @@ returns c =
     let r = c .before .before .before .refuse-header in
     c .refuse-list .ensures ∙ start-header s room (r .result) (r .ensures) (c .before .if1 .taken)
 
--- src/lib.rt:44:9
 count-sections-requires : tie.Need-count-sections-requires
 count-sections-requires c κs = search needs
 
--- src/lib.rt:46:9
 refuse-list-requires-2 : tie.Need-refuse-list-requires-2
 refuse-list-requires-2 c κs = search needs
 
--- src/lib.rt:46:9
 returns-2 : tie.Need-returns-2
 returns-2 c =
     let s = c .before .before .before .before .before .before .before .args .file .now in
@@ -38,15 +32,12 @@ returns-2 c =
     let n = c .before .before .count-sections in
     c .refuse-list2 .ensures ∙ start-small s room (r .result) (r .ensures) (c .before .before .before .if1 .left) (n .result) (n .ensures) (c .before .if2 .taken)
 
--- src/lib.rt:52:9
 find-section-requires : tie.Need-find-section-requires
 find-section-requires c κs = search needs
 
--- src/lib.rt:53:9
 read-charset-requires : tie.Need-read-charset-requires
 read-charset-requires c κs = search needs
 
--- src/lib.rt:37:1
 returns-3 : tie.Need-returns-3
 returns-3 c =
     let s = c .before .before .before .before .before .before .before .before .args .file .now in

@@ -1,7 +1,7 @@
 use borrow.Author.Tests.{eq-eqb, ne-eqb}
-use Rattle.rows.specs.Walk.{stays}
-use Rattle.rows.proofs.stay_sound.Statement.{statement}
-use Rattle.rows.proofs.stay_sound.Tie as tie
+use Rattle.steps.specs.Steps.{stays}
+use Rattle.steps.proofs.stay_sound.Statement.{statement}
+use Rattle.steps.proofs.stay_sound.Tie as tie
 
 returns : tie.Need-returns
 unfolding stays
