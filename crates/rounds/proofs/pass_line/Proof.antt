@@ -1,8 +1,8 @@
--- `repeats::rounds::pass_line` meets its contract. Assumes nothing.
+-- `rounds::pass_line` meets its contract. Assumes nothing.
 use Rattle.lines.proofs.CursorLaws.{handed}
 use borrow.Author.Needs.{needs}
-use Rattle.repeats.proofs.rounds.pass_line.Statement.{statement}
-use Rattle.repeats.proofs.rounds.pass_line.Tie as tie
+use Rattle.rounds.proofs.pass_line.Statement.{statement}
+use Rattle.rounds.proofs.pass_line.Tie as tie
 
 line-requires : tie.Need-line-requires
 line-requires c κs = search needs

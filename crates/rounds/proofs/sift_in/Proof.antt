@@ -1,8 +1,8 @@
--- `repeats::rounds::sift_in` meets its contract. Assumes nothing.
-use Rattle.repeats.proofs.RoundLaws.{round-none, round-done}
+-- `rounds::sift_in` meets its contract. Assumes nothing.
+use Rattle.rounds.proofs.RoundLaws.{round-none, round-done}
 use borrow.Author.Needs.{needs}
-use Rattle.repeats.proofs.rounds.sift_in.Statement.{statement}
-use Rattle.repeats.proofs.rounds.sift_in.Tie as tie
+use Rattle.rounds.proofs.sift_in.Statement.{statement}
+use Rattle.rounds.proofs.sift_in.Tie as tie
 
 mark-doubts-requires : tie.Need-mark-doubts-requires
 mark-doubts-requires c κs = search needs

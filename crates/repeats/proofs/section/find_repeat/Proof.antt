@@ -1,12 +1,11 @@
--- `repeats::rounds::find_repeat` meets its contract. Assumes nothing.
-use Rattle.repeats.proofs.NumberLaws.{lines-few}
-use Rattle.repeats.proofs.RoundLaws.{Done, done-more, done-at, done-none}
+-- `repeats::section::find_repeat` meets its contract. Assumes nothing.
+use Rattle.repeats.proofs.FirstLaws.{lines-few, Done, done-more, done-at, done-none}
 use Rattle.page.specs.Lines.{lines}
 use borrow.Author.Needs.{needs}
 use Prim.Native.Nat.{_-_, _≤_}
 use native.Mathlib.Omega.{arith}
-use Rattle.repeats.proofs.rounds.find_repeat.Statement.{statement}
-use Rattle.repeats.proofs.rounds.find_repeat.Tie as tie
+use Rattle.repeats.proofs.section.find_repeat.Statement.{statement}
+use Rattle.repeats.proofs.section.find_repeat.Tie as tie
 
 abbrev Inv-loop : tie.InvT-loop
 Inv-loop w choice size rounds last₀ r₀ last r =

@@ -1,14 +1,14 @@
--- `repeats::rounds::settle_doubts` meets its contract. Assumes nothing.
-use Rattle.repeats.proofs.NumberLaws.{Stands, stands-first, stands-in, stands-next, stands-end, again-here}
-use Rattle.repeats.proofs.RoundLaws.{Told, told-met, told-new}
+-- `rounds::settle_doubts` meets its contract. Assumes nothing.
+use Rattle.rounds.proofs.NumberLaws.{Stands, stands-first, stands-in, stands-next, stands-end, again-here}
+use Rattle.rounds.proofs.RoundLaws.{Told, told-met, told-new}
 use Rattle.page.specs.Lines.{lines}
 use borrow.Author.Needs.{needs}
 use Prim.Native.Nat.{_-_, _≤_}
 use mathlib.Core.Path.{_≡_, refl, _∙_}
 use native.Mathlib.Omega.{arith}
 use lib.ListN.{length}
-use Rattle.repeats.proofs.rounds.settle_doubts.Statement.{statement}
-use Rattle.repeats.proofs.rounds.settle_doubts.Tie as tie
+use Rattle.rounds.proofs.settle_doubts.Statement.{statement}
+use Rattle.rounds.proofs.settle_doubts.Tie as tie
 
 abbrev Inv-loop : tie.InvT-loop
 Inv-loop w choice last doubts t₀ at₀ i₀ t at i =

@@ -1,10 +1,10 @@
--- `repeats::rounds::put_in_round` meets its contract. Assumes nothing.
-use Rattle.repeats.proofs.RoundLaws.{not-both}
+-- `rounds::put_in_round` meets its contract. Assumes nothing.
+use Rattle.rounds.proofs.RoundLaws.{not-both}
 use borrow.Author.Needs.{needs}
 use mathlib.Core.Path.{_∙_}
 use native.Mathlib.Omega.{arith}
-use Rattle.repeats.proofs.rounds.put_in_round.Statement.{statement}
-use Rattle.repeats.proofs.rounds.put_in_round.Tie as tie
+use Rattle.rounds.proofs.put_in_round.Statement.{statement}
+use Rattle.rounds.proofs.put_in_round.Tie as tie
 
 find-lane-requires : tie.Need-find-lane-requires
 find-lane-requires c κs = c .before .before .pre .0

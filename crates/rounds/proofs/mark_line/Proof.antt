@@ -1,10 +1,10 @@
--- `repeats::rounds::mark_line` meets its contract. Assumes nothing.
-use Rattle.repeats.proofs.RoundLaws.{line-doubtful, line-new}
+-- `rounds::mark_line` meets its contract. Assumes nothing.
+use Rattle.rounds.proofs.RoundLaws.{line-doubtful, line-new}
 use borrow.Author.Needs.{needs}
 use mathlib.Core.Path.{sym}
 use native.Mathlib.Omega.{arith}
-use Rattle.repeats.proofs.rounds.mark_line.Statement.{statement}
-use Rattle.repeats.proofs.rounds.mark_line.Tie as tie
+use Rattle.rounds.proofs.mark_line.Statement.{statement}
+use Rattle.rounds.proofs.mark_line.Tie as tie
 
 hash-line-requires : tie.Need-hash-line-requires
 hash-line-requires c κs = search needs

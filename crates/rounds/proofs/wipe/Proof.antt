@@ -1,11 +1,11 @@
--- `repeats::rounds::wipe` meets its contract. Assumes nothing.
+-- `rounds::wipe` meets its contract. Assumes nothing.
 use lib.ListN.{length, length-set}
 use mathlib.Core.Path.{_≡_}
 use Prim.Native.Nat.{_-_, _≤_}
 use native.Mathlib.Omega.{arith}
 use borrow.Author.Needs.{needs}
-use Rattle.repeats.proofs.rounds.wipe.Statement.{statement}
-use Rattle.repeats.proofs.rounds.wipe.Tie as tie
+use Rattle.rounds.proofs.wipe.Statement.{statement}
+use Rattle.rounds.proofs.wipe.Tie as tie
 
 abbrev Inv-loop : tie.InvT-loop
 Inv-loop t₀ i₀ t i =

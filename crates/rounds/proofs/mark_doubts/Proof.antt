@@ -1,14 +1,14 @@
--- `repeats::rounds::mark_doubts` meets its contract. Assumes nothing.
-use Rattle.repeats.proofs.NumberLaws.{Stands, stands-first, stands-next, stands-end}
-use Rattle.repeats.proofs.RoundLaws.{Marked, marked-doubt, marked-new}
+-- `rounds::mark_doubts` meets its contract. Assumes nothing.
+use Rattle.rounds.proofs.NumberLaws.{Stands, stands-first, stands-next, stands-end}
+use Rattle.rounds.proofs.RoundLaws.{Marked, marked-doubt, marked-new}
 use Rattle.page.specs.Lines.{lines}
 use borrow.Author.Needs.{needs}
 use Prim.Native.Nat.{_-_, _≤_}
 use mathlib.Core.Path.{_≡_, refl, _∙_}
 use native.Mathlib.Omega.{arith}
 use lib.ListN.{length}
-use Rattle.repeats.proofs.rounds.mark_doubts.Statement.{statement}
-use Rattle.repeats.proofs.rounds.mark_doubts.Tie as tie
+use Rattle.rounds.proofs.mark_doubts.Statement.{statement}
+use Rattle.rounds.proofs.mark_doubts.Tie as tie
 
 abbrev Inv-loop : tie.InvT-loop
 Inv-loop w choice r n last t₀ doubts₀ at₀ i₀ some₀ t doubts at i some =

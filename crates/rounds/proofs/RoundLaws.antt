@@ -3,23 +3,19 @@ use mathlib.Core.Path.{_≡_, refl, ap, sym, _∙_}
 use mathlib.Core.Bool.{Bool, true, false, not, false≢true}
 use mathlib.Core.List.{List, []}
 use mathlib.Core.Logic.{_⊎_, inl, inr, ⊎-elim}
-use Prim.Native.Nat.{ℕ, _+_, _-_, _<_, _≤_}
-use native.Mathlib.Numerals.{add-one}
+use Prim.Native.Nat.{ℕ, _+_, _-_, _<_}
 use native.Mathlib.Omega.{arith}
 use borrow.Author.Count.{below-more}
-use borrow.Author.Tests.{ltb-true, ltb-false}
-use lib.Dec.{ltb}
 use lib.ListN.{length, getD, take, drop}
 use Rattle.page.specs.Bytes.{Bytes}
 use Rattle.page.specs.Lines.{lines}
 use Rattle.page.proofs.LineLaws.{line-size}
 use Rattle.keys.specs.Orders.{hashed}
 use Rattle.choices.specs.declared.Choice.{Choice}
-use Rattle.scans.specs.Scan.{is-record, line-key, again, first-line}
+use Rattle.scans.specs.Scan.{is-record, line-key, again}
 use Rattle.bits.specs.Bits.{Has, Added, two-of, four-of, lane-of}
-use Rattle.repeats.specs.Rounds.{again-at, hash-of, hash-at, Round, Crowded, Doubtful, Sieved, MarkedLine, Doubted, SettledLine, Settled}
-use Rattle.bits.proofs.BitLaws.{lane-lt}
-use Rattle.repeats.proofs.NumberLaws.{Stands, stands-in, stands-line, again-here, repeat-none, repeat-at, again-other, again-new}
+use Rattle.rounds.specs.Rounds.{again-at, hash-of, hash-at, Round, Crowded, Doubtful, Sieved, MarkedLine, Doubted, SettledLine, Settled}
+use Rattle.rounds.proofs.NumberLaws.{Stands, stands-in, stands-line, again-here, again-other, again-new}
 
 pub not-true : (b : Bool) → not b ≡ true → b ≡ false
 not-true true e = sym e
@@ -131,37 +127,3 @@ round-done q ls r n last na nb a o e b d s =
       hit = s .hit;
       clear = λ m k x l. ⊎-elim (λ f. f) (λ g. s .clear m k x (rw b (g .1))) (d .each m (omega (arith, s .within)) x l);
     }
-
--- ---- all rounds
-
--- the lines before `last` of the rounds before r are new, and line `last` is not, if there is one
-abbrev pub Done : Choice → List Bytes → ℕ → ℕ → ℕ → ℕ → Type 0
-Done q ls size n last r =
-    (last ≤ size) × (last < size → (last < length ls) × (again-at q ls last ≡ true))
-    × ((m : ℕ) → m < last → m < length ls → lane-of (hash-at q ls m) n < r → again-at q ls m ≡ false)
-
-by-less : {G : Type 0} (a b : ℕ) → (a < b → G) → (b ≤ a → G) → G
-by-less {G} a b f g = go (ltb a b) refl
-  where
-    go : (x : Bool) → ltb a b ≡ x → G
-    go true e = f (ltb-true a b e)
-    go false e = g (ltb-false a b e)
-
-module _ (q : Choice) (ls : List Bytes) (size n : ℕ) where
-  pub done-more : (last r e : ℕ) → Done q ls size n last r → Round q ls r n last e → Done q ls size n e (r + 1)
-  done-more last r e d p = (
-    omega (arith, p .within),
-    (λ l. by-less e last (p .hit) (λ g. let x : e ≡ last = omega (arith, p .within) in rw x (d .1 (rw x at l)))),
-    λ m k l o.
-        by-less (lane-of (hash-at q ls m) n) r (λ u. d .2 m (omega (arith, p .within)) l u) (λ u. p .clear m k l (omega arith)),
-  )
-
-  module _ (last r : ℕ) (p : 0 < n) (g : n ≤ r) (d : Done q ls size n last r) where
-    all : (m : ℕ) → m < last → m < length ls → again-at q ls m ≡ false
-    all m k l = d .2 m k l (omega (arith, lane-lt (hash-of q (getD ls m [])) n p))
-
-    pub done-at : last < size → last + 1 ≡ first-line (again q) [] 0 ls
-    done-at l = let h = d .1 l in add-one last ∙ sym (repeat-at q ls last (h .0) (λ m k. all m k (omega arith)) (h .1))
-
-    pub done-none : length ls ≤ size → size ≤ last → 0 ≡ first-line (again q) [] 0 ls
-    done-none f l = sym (repeat-none q ls (λ m k. all m (omega arith) k))

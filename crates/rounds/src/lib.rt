@@ -1,14 +1,13 @@
-// The first line of a section whose key stands before it, where keys do not rise.
+// One round over the lines of a section: the first, of those whose hash falls into the round, whose key stands before it.
 ghost use mathlib.Core.Path.{_≡_};
 ghost use mathlib.Core.Bool.{true};
-ghost use mathlib.Core.List.{[]};
 ghost use Prim.Native.Nat.{_+_, _<_, _≤_, _^_};
 ghost use lib.ListN.{length, drop};
 ghost use Rattle.page.specs.Lines.{lines};
 ghost use Rattle.page.proofs.LineLaws.{line-size};
 ghost use Rattle.bits.specs.Bits.{two-of, lane-of};
-ghost use Rattle.scans.specs.Scan.{is-record, again, first-line};
-ghost use Rattle.repeats.specs.Rounds.{hash-of, Round, Sieved, MarkedLine, Doubted, SettledLine, Settled};
+ghost use Rattle.scans.specs.Scan.{is-record};
+ghost use Rattle.rounds.specs.Rounds.{hash-of, Round, Sieved, MarkedLine, Doubted, SettledLine, Settled};
 use bits::find_lane;
 use bits::has_four;
 use bits::put_four;
@@ -190,7 +189,8 @@ fn sift_many(w: &[u8], choice: Choice, r: u64, n: u64, last: usize) -> usize
     sift_in(w, choice, r, n, last, &mut t, &mut doubts)
 }
 
-fn sift_round(w: &[u8], choice: Choice, r: u64, n: u64, last: usize) -> usize
+// The same, in tables of the size that the section needs.
+pub fn sift_round(w: &[u8], choice: Choice, r: u64, n: u64, last: usize) -> usize
     requires { ⌜ n < 2 ^ 32 ⌝ }
     ensures { λ e. ⌜ Round choice (lines (now (w .entry))) r n last e ⌝ }
 {
@@ -211,7 +211,7 @@ fn count_lines(w: &[u8]) -> usize {
 }
 
 // Of 400,000 records about 30,000 are doubtful, and hardly one of these is searched for.
-fn count_rounds(w: &[u8]) -> u64
+pub fn count_rounds(w: &[u8]) -> u64
     ensures { λ r. ⌜ (0 < r) × (r < 2 ^ 32) ⌝ }
 {
     if w.len() < FEW {
@@ -222,22 +222,4 @@ fn count_rounds(w: &[u8]) -> u64
         return (n / 400000) as u64 + 1;
     }
     256
-}
-
-// The number of the first line whose key stands before it, from 1; 0 if there is none. Each round looks only before the line found.
-pub fn find_repeat(w: &[u8], choice: Choice) -> usize
-    ensures { λ r. ⌜ r ≡ first-line (again choice) [] 0 (lines (now (w .entry))) ⌝ }
-{
-    let size = w.len();
-    let rounds = count_rounds(w);
-    let mut last = size;
-    let mut r: u64 = 0;
-    while r < rounds {
-        last = sift_round(w, choice, r, rounds, last);
-        r += 1;
-    }
-    if last < size {
-        return last + 1;
-    }
-    0
 }

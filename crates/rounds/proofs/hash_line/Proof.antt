@@ -1,9 +1,9 @@
--- `repeats::rounds::hash_line` meets its contract. Assumes nothing.
+-- `rounds::hash_line` meets its contract. Assumes nothing.
 use Rattle.scans.specs.Scan.{line-key}
-use Rattle.repeats.specs.Rounds.{hash-of}
+use Rattle.rounds.specs.Rounds.{hash-of}
 use borrow.Author.Needs.{needs}
-use Rattle.repeats.proofs.rounds.hash_line.Statement.{statement}
-use Rattle.repeats.proofs.rounds.hash_line.Tie as tie
+use Rattle.rounds.proofs.hash_line.Statement.{statement}
+use Rattle.rounds.proofs.hash_line.Tie as tie
 
 content-of-requires : tie.Need-content-of-requires
 content-of-requires c κs = search needs

@@ -1,10 +1,10 @@
--- `repeats::rounds::put_doubtful` meets its contract. Assumes nothing.
-use Rattle.repeats.proofs.RoundLaws.{not-true}
+-- `rounds::put_doubtful` meets its contract. Assumes nothing.
+use Rattle.rounds.proofs.RoundLaws.{not-true}
 use borrow.Author.Needs.{needs}
 use mathlib.Core.Path.{sym}
 use native.Mathlib.Omega.{arith}
-use Rattle.repeats.proofs.rounds.put_doubtful.Statement.{statement}
-use Rattle.repeats.proofs.rounds.put_doubtful.Tie as tie
+use Rattle.rounds.proofs.put_doubtful.Statement.{statement}
+use Rattle.rounds.proofs.put_doubtful.Tie as tie
 
 hash-line-requires : tie.Need-hash-line-requires
 hash-line-requires c κs = search needs

@@ -1,10 +1,10 @@
--- `repeats::rounds::count_lines` meets its contract. Assumes nothing.
+-- `rounds::count_lines` meets its contract. Assumes nothing.
 use lib.ListN.{length}
 use Prim.Native.Nat.{_-_, _≤_}
 use native.Mathlib.Omega.{arith}
 use borrow.Author.Needs.{needs}
-use Rattle.repeats.proofs.rounds.count_lines.Statement.{statement}
-use Rattle.repeats.proofs.rounds.count_lines.Tie as tie
+use Rattle.rounds.proofs.count_lines.Statement.{statement}
+use Rattle.rounds.proofs.count_lines.Tie as tie
 
 abbrev Inv-loop : tie.InvT-loop
 Inv-loop w at₀ n₀ at n =
