@@ -80,9 +80,11 @@ optional-plain t k e =
     let a : (not (c .optional) || plain) ≡ true =
     column-test (λ (x : Column). not (x .optional) || (not (x .text) && (not (x .primary) && not (x .second)))) refl refl t k in
     let b : plain ≡ true = rw e at a in
-    let d = and-right (not (c .text)) (not (c .primary) && not (c .second)) b in
-    (not-true _ (and-left (not (c .text)) (not (c .primary) && not (c .second)) b), not-true _ (and-left (not (c .primary)) (not (c .second)) d),
-    not-true _ (and-right (not (c .primary)) (not (c .second)) d))
+    let d = and-right (not (c .text)) (not (c .primary) && not (c .second)) b in (
+      not-true _ (and-left (not (c .text)) (not (c .primary) && not (c .second)) b),
+      not-true _ (and-left (not (c .primary)) (not (c .second)) d),
+      not-true _ (and-right (not (c .primary)) (not (c .second)) d),
+    )
 
 -- the fields that may be marked
 
@@ -242,10 +244,10 @@ worded cs k e =
     }
 
 abbrev four : ℕ → List ℕ
-four p = p ∷ p + 1 ∷ p + 2 ∷ p + 3 ∷ []
+four p = p ∷ (p + 1) ∷ (p + 2) ∷ (p + 3) ∷ []
 
 abbrev three : ℕ → List ℕ
-three x = x ∷ x + 1 ∷ x + 2 ∷ []
+three x = x ∷ (x + 1) ∷ (x + 2) ∷ []
 
 abbrev rule-stands : List Named → Rule → Bool
 rule-stands cs (points-differ p) = each (counts cs) (four p)
