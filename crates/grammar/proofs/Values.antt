@@ -68,10 +68,10 @@ number-some e q = let z = empty-no-number in false≢true (cc)
 pub text-some : {f t : Bytes} → record-text f ≡ some t → ¬ (f ≡ [])
 text-some e q = let z = empty-no-text in false≢true (cc)
 
-number-there : (optional : Bool) (f : Bytes) {n : ℕ} → numberOf f ≡ N.Plus n → left-out optional f ≡ false
+pub number-there : (optional : Bool) (f : Bytes) {n : ℕ} → numberOf f ≡ N.Plus n → left-out optional f ≡ false
 number-there optional f e = untested (left-out-d optional f) (λ p. number-some e (p .1))
 
-holds-datum : {o : Owner} {c : Column} {f : Bytes} {v : Datum} → Holds o c f v → v ≡ datumOf o c f
+pub holds-datum : {o : Owner} {c : Column} {f : Bytes} {v : Datum} → Holds o c f v → v ≡ datumOf o c f
 unfolding datumOf
 holds-datum {c = c} {f = f} (a-number t e g h) = rw (t, number-there (c .optional) f e, e)
 holds-datum {c = c} {f = f} (no-number t p q) = rw (t, tested (left-out-d (c .optional) f) (p, q))
