@@ -8,6 +8,6 @@ atr; BASIS_VERSION; BASIS_VERSION_TEXT
 frm; num[9.0]; char[40]
 rec; 7; "Winter"
 end; 1
-tbl; EINZELANSCHLUSS
+tbl; REC_LID
 end; 0
 eof; 2
