@@ -138,10 +138,12 @@ With --json: one object with header, sections, and the file's answer.
 
 const SHOW: &str = "\
 Shows the records of every table, or of one, given by number or name, in
-aligned columns; these stand in VDV 452's order, whatever the file's. A missing
-number is left blank, and a suggestion has a `*` before it. Of a refused section
-no records are shown; those of the others are. A comment that looks like a mark
-and is none is told of on standard error.
+aligned columns; these stand in VDV 452's order, whatever the file's. Columns
+that the terminal has no room for, or 120 characters where there is none, stand
+below, behind the records' numbers again. A missing number is left blank, and a
+suggestion has a `*` before it. Of a refused section no records are shown; those
+of the others are. A comment that looks like a mark and is none is told of on
+standard error.
 
   --strict  end with 1 if there is such a comment
   --json    one object with the tables, each text with its owner, a missing

@@ -141,7 +141,7 @@ fn print_section(work: &mut Work<'_, '_>, file: &[u8], section: &Section) -> Res
             .print(&format_args!("{title}: refused, {words}\n"));
     };
     work.outlets.print(&format_args!("{title}\n"))?;
-    sheet(file, section, table).print(work.outlets)
+    sheet(file, section, table).print_in_blocks(work.outlets)
 }
 
 fn sheet(file: &[u8], section: &Section, table: &Table) -> Sheet {
