@@ -2,11 +2,12 @@
 use mathlib.Core.Path.{_≡_, refl, ap}
 use mathlib.Core.List.{List, [], _∷_, _++_, map}
 use Prim.Native.Nat.{ℕ, _<_}
+use Prim.Native.String.{String}
 use native.Mathlib.Omega.{arith}
 use lib.ListN.{getD, replicate, length-replicate}
 use Rattle.page.specs.Bytes.{Bytes, bytes}
 use Rattle.page.specs.Lines.{joined}
-use Rattle.page.specs.Records.{number, words}
+use Rattle.page.specs.Records.{Datum, number, missing, words}
 use Rattle.page.specs.Answers.{refusal}
 use Rattle.page.specs.File.{limit, file-refusal}
 use Rattle.page.specs.Model.{Content, modelOf}
@@ -100,6 +101,39 @@ pub two-tables-say :
     []
 unfolding open-all file version two-tables versions day-types head
 two-tables-say = refl
+
+-- two connections, each told in one of the two ways, with numbers that are missing
+unfoldable pub connected : Bytes
+connected =
+    file (
+    version ∷
+    connections
+    "rec; 7; 1; \"\"; \"\"; 0; 3; 0; 12; ; ; 4; \"\"; \"\"; \"\"; 5; 1; 9; 99; ; \nrec; 7; 2; \"\"; \"\"; 255; 0; 0; 0; ; ; ; \"a\"; \"b\"; \"c\"; 5; 1; 9; ; ; \nend; 2\n" ∷
+    bytes "eof; 2\n" ∷ [])
+
+-- they are accepted
+pub connected-accepted : file-refusal connected .number ≡ 0
+unfolding open-all file version connected versions connections head
+connected-accepted = refl
+
+abbrev own : String → Datum
+own t = words O.Operator (bytes t)
+
+-- and what is missing is told so
+pub connected-say :
+    modelOf connected .tables ≡
+    record { table = 0; records = (number 7 ∷ own "Winter" ∷ []) ∷ [] } ∷
+    record {
+      table = 8;
+      records =
+          (number 7 ∷ number 1 ∷ own "" ∷ own "" ∷ number 0 ∷ number 3 ∷ number 0 ∷ number 12 ∷ missing ∷ missing ∷ number 4 ∷ own "" ∷ own "" ∷ own "" ∷
+          number 5 ∷ number 1 ∷ number 9 ∷ number 99 ∷ missing ∷ missing ∷ []) ∷
+          (number 7 ∷ number 2 ∷ own "" ∷ own "" ∷ number 255 ∷ number 0 ∷ number 0 ∷ number 0 ∷ missing ∷ missing ∷ missing ∷ own "a" ∷ own "b" ∷ own "c" ∷
+          number 5 ∷ number 1 ∷ number 9 ∷ missing ∷ missing ∷ missing ∷ []) ∷ [];
+    } ∷
+    []
+unfolding open-all file version connected versions connections head
+connected-say = refl
 
 -- and 1 is every too long file's
 pub long-file : (n : ℕ) → limit < n → file-refusal (replicate n 32) ≡ refusal 1 0 0
