@@ -72,6 +72,17 @@ fn arranged_columns_are_measured_beside_document_01_s_order() {
 }
 
 #[test]
+fn connections_are_measured() {
+    let output = bench("--largest 1 --runs 1 --shape connections-shuffled");
+    let printed = String::from_utf8(output.stdout).unwrap();
+    assert!(output.status.success(), "{printed}");
+    assert!(printed.contains("\n## connections and transfers shuffled\n"));
+    for call in ["check", "list", "table", "write", "fill", "strip"] {
+        assert_eq!(measured(&printed, call).len(), 1, "{printed}");
+    }
+}
+
+#[test]
 fn help_and_misuse() {
     assert!(bench("--help").status.success());
     assert_eq!(bench("--runs").status.code(), Some(2));

@@ -139,7 +139,7 @@ fn every_cut_is_answered() {
     for file in cases().values() {
         for length in 0..file.len() {
             let cut = &file[..length];
-            assert!(check(cut).number <= 20);
+            assert!(matches!(check(cut).number, 0..=20 | 25));
             assert!(listing(cut).ends_with(b"\n"));
         }
     }

@@ -66,7 +66,7 @@ fn suggestions_are_told_from_the_operator_s_texts() {
         .iter()
         .filter_map(|record| match record.value(3)? {
             Value::Text { owner, .. } => Some(owner),
-            Value::Number(_) => None,
+            Value::Number(_) | Value::Missing => None,
         })
         .collect();
     use Owner::{Operator, Suggestion};

@@ -1,5 +1,7 @@
 //! Large files of a given number of bytes, to measure with and for the limit.
 
+mod connections;
+
 use vdv::tables::{
     named, Table, CALENDAR, DAY_TYPES, LINKS, POINT_TYPES, TIMES, VALIDITY, VERSIONS,
 };
@@ -42,12 +44,15 @@ pub enum Shape {
     /// All eight tables in key order, each table's columns in another order
     /// than document 01's.
     Arranged,
+    /// Connections (432), each with four transfers (232): of every second the
+    /// numbers are missing that may be, every eighth name is a suggestion.
+    Connections(Order),
     /// Small tables again and again: unsound by 17.
     Small,
 }
 
-/// Those that document 01 accepts.
-pub const SOUND: [Shape; 7] = [
+/// Those that are accepted.
+pub const SOUND: [Shape; 9] = [
     Shape::Network(Order::Rising),
     Shape::Network(Order::Shuffled),
     Shape::Calendar(Order::Rising),
@@ -55,6 +60,8 @@ pub const SOUND: [Shape; 7] = [
     Shape::Eight(Order::Rising),
     Shape::Eight(Order::Shuffled),
     Shape::Arranged,
+    Shape::Connections(Order::Rising),
+    Shape::Connections(Order::Shuffled),
 ];
 
 impl Shape {
@@ -67,6 +74,8 @@ impl Shape {
             Shape::Eight(Order::Rising) => "all eight tables in key order",
             Shape::Eight(Order::Shuffled) => "all eight tables shuffled",
             Shape::Arranged => "all eight tables in key order, columns arranged",
+            Shape::Connections(Order::Rising) => "connections and transfers in key order",
+            Shape::Connections(Order::Shuffled) => "connections and transfers shuffled",
             Shape::Small => "small tables again and again",
         }
     }
@@ -97,6 +106,7 @@ pub fn file(shape: Shape, bytes: usize, seed: u64) -> Vec<u8> {
         Shape::Calendar(order) => calendar(&mut random, bytes, order),
         Shape::Eight(order) => eight(&mut random, bytes, order),
         Shape::Arranged => with_columns_reversed(&eight(&mut random, bytes, Order::Rising)),
+        Shape::Connections(order) => connections::draw(&mut random, bytes, order),
         Shape::Small => small(&mut random, bytes),
     }
 }
@@ -336,8 +346,9 @@ fn draw_day(random: &mut Random, day: u64, is_suggestion: bool) -> Vec<u8> {
 }
 
 fn eight(random: &mut Random, bytes: usize, order: Order) -> Vec<u8> {
-    let mut room = room(&[], &PARENTS_FIRST, bytes);
-    let mut parts = PARENTS_FIRST.map(|table| Part::new(table, &[]));
+    let tables: [_; 8] = std::array::from_fn(|index| PARENTS_FIRST[index]);
+    let mut room = room(&[], &tables, bytes);
+    let mut parts = tables.map(|table| Part::new(table, &[]));
     for version in 1.. {
         let records = draw_version(random, version);
         let length: usize = records.iter().flatten().map(Vec::len).sum();
