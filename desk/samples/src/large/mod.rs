@@ -38,11 +38,11 @@ pub enum Shape {
     Network(Order),
     /// One huge calendar (348), every eighth text a suggestion.
     Calendar(Order),
-    /// All eight tables, each with a share of the bytes: many versions with
-    /// few records each.
+    /// Document 01's eight tables, each with a share of the bytes: many
+    /// versions with few records each.
     Eight(Order),
-    /// All eight tables in key order, each table's columns in another order
-    /// than document 01's.
+    /// The same in key order, each table's columns in another order than
+    /// document 01's.
     Arranged,
     /// Connections (432), each with four transfers (232): of every second the
     /// numbers are missing that may be, every eighth name is a suggestion.
@@ -71,9 +71,9 @@ impl Shape {
             Shape::Network(Order::Shuffled) => "links and times shuffled",
             Shape::Calendar(Order::Rising) => "one huge calendar in key order",
             Shape::Calendar(Order::Shuffled) => "one huge calendar shuffled",
-            Shape::Eight(Order::Rising) => "all eight tables in key order",
-            Shape::Eight(Order::Shuffled) => "all eight tables shuffled",
-            Shape::Arranged => "all eight tables in key order, columns arranged",
+            Shape::Eight(Order::Rising) => "document 01's eight tables in key order",
+            Shape::Eight(Order::Shuffled) => "document 01's eight tables shuffled",
+            Shape::Arranged => "document 01's eight tables in key order, columns arranged",
             Shape::Connections(Order::Rising) => "connections and transfers in key order",
             Shape::Connections(Order::Shuffled) => "connections and transfers shuffled",
             Shape::Small => "small tables again and again",
