@@ -73,7 +73,7 @@ fn every_number_a_file_can_give_is_met() {
     assert!(cases.len() >= 220);
     let count = |number| cases.keys().filter(|n| number_in(n) == number).count();
     assert!(count(0) >= 30);
-    for number in 2..=20 {
+    for number in (2..=20).chain([25]) {
         assert!(count(number) >= 5, "{number}");
     }
     assert!(cases.values().all(|file| file.len() < 2048));
