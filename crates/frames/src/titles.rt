@@ -6,7 +6,7 @@ ghost use Rattle.page.specs.Tables.{table-at, column-at};
 ghost use Rattle.page.specs.Form.{format-text, table-head};
 ghost use Rattle.tables.specs.Words.{LETTERS, word};
 ghost use Rattle.output.specs.Put.{Put};
-ghost use Rattle.output.specs.Raw.{line-with};
+ghost use Rattle.frames.specs.Lines.{line-with};
 ghost use Rattle.frames.specs.Titles.{tbl-line, title-at, titles};
 use decimals::put_format;
 use output::put_bytes;

@@ -29,7 +29,8 @@ use Rattle.page.proofs.LineEndLaws.{line-end-length}
 use Rattle.page.proofs.LineLaws.{Laid, laid-lines, laid-some, laid-rest, joined-lines}
 use Rattle.page.proofs.CutLaws.{Stands, no-section, section-stands}
 use Rattle.page.proofs.TableLaws.{width-le}
-use Rattle.output.proofs.FormLaws.{decimal-length, quoted-length}
+use Rattle.doubling.proofs.TextLaws.{quoted-length}
+use Rattle.decimals.proofs.DecimalLaws.{decimal-length}
 use Rattle.frames.proofs.LineLaws.{one-field-length, line-with-is, mark-length}
 use Rattle.frames.proofs.TitleLaws.{table-head-length}
 use Rattle.round.specs.Round.{Fits, a-number, no-number, a-text, a-suggestion, FitAll, no-value, a-value, SoundRecord, SoundContent}
