@@ -25,8 +25,8 @@ use Rattle.page.proofs.ScanLaws.{part-length, part-moved, keep-stop}
 use Rattle.page.proofs.FieldLaws.{end-in, span-in, span-part, field-span-in, field-span-part}
 use Rattle.page.proofs.TextLaws.{text-quoted, text-long, text-between, record-text-is, text-kept, unpadded-there, words-there, unpadded-in}
 use Rattle.digits.specs.Runs.{field-from}
-use Rattle.output.specs.Raw.{raw-text}
-use Rattle.output.proofs.FormLaws.{quoted-length}
+use Rattle.doubling.specs.Raw.{raw-text}
+use Rattle.doubling.proofs.TextLaws.{quoted-length}
 
 -- a text as it stands between its quotes: its own bytes, each quote doubled
 record Stored (f : Bytes) (x : Wording) : Type 0 where

@@ -24,7 +24,7 @@ use Rattle.page.proofs.TestLaws.{and-left, and-right}
 use Rattle.page.proofs.ScanLaws.{until-hit, until-more, keep-stop}
 use Rattle.page.proofs.FieldLaws.{field-more, field-le, from, from-more, from-end, from-all}
 use Rattle.digits.specs.Runs.{field-from}
-use Rattle.output.proofs.FormLaws.{decimal-few}
+use Rattle.decimals.proofs.DecimalLaws.{decimal-few}
 use Rattle.copies.specs.Changed.{changed-values}
 use Rattle.copies.specs.Parts.{marked-by, mark-by, marks-form, datum-by, fields-form, stands, all-stand, Spaced, Ends, Whole}
 use Rattle.copies.proofs.PartLaws.{record-is}

@@ -1,2 +1,3 @@
+pub mod PlainLaws
 pub mod LineLaws
 pub mod TitleLaws

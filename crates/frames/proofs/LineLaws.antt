@@ -18,8 +18,12 @@ use Rattle.page.specs.declared.Stated.{Stated}
 use Rattle.page.specs.declared.Stated.the-variants as St
 use Rattle.page.specs.declared.Header.{Header}
 use Rattle.page.proofs.LineEndLaws.{line-end-length}
-use Rattle.output.specs.Raw.{raw-text, line-with, mod-line, text-line, src-line, chs-line, stated-line, head-raw}
-use Rattle.output.proofs.FormLaws.{decimal-length, date-length, time-length, raw-length, part-length, Plain, plain-append, plain-byte, plain-decimal, plain-padded, plain-quoted}
+use Rattle.doubling.specs.Raw.{raw-text}
+use Rattle.doubling.proofs.TextLaws.{raw-length}
+use Rattle.decimals.proofs.DecimalLaws.{decimal-length}
+use Rattle.frames.specs.Lines.{line-with, text-line}
+use Rattle.frames.specs.Heads.{mod-line, src-line, chs-line, stated-line, head-raw}
+use Rattle.frames.proofs.PlainLaws.{part-length, date-length, time-length, Plain, plain-append, plain-byte, plain-decimal, plain-padded, plain-quoted}
 
 pub separator-length : length (bytes "; ") ≡ 2
 unfolding bytes

@@ -18,7 +18,7 @@ use Rattle.page.specs.declared.LineEnd.{LineEnd}
 use Rattle.page.specs.declared.Column.{Column}
 use Rattle.page.proofs.LineEndLaws.{line-end-length}
 use Rattle.page.proofs.TableLaws.{each, table-test}
-use Rattle.output.specs.Raw.{line-with}
+use Rattle.frames.specs.Lines.{line-with}
 use Rattle.frames.specs.Titles.{tbl-line, title-of, title-at, titles}
 
 -- fields from one on

@@ -2,16 +2,15 @@
 ghost use Prim.Native.Nat.{_+_, _*_, _<_, _^_};
 ghost use lib.ListN.{length};
 ghost use Rattle.output.specs.Put.{Put};
-ghost use Rattle.output.specs.Raw.{src-line, chs-line, stated-line, head-raw};
-ghost use Rattle.frames.specs.Heads.{versions};
+ghost use Rattle.frames.specs.Heads.{src-line, chs-line, stated-line, head-raw, versions};
 use crate::lines::put_line;
 use crate::lines::put_text_line;
 use decimals::put_date;
 use decimals::put_time;
+use doubling::put_raw_part;
 use output::put_byte;
 use output::put_bytes;
 use output::put_line_end;
-use output::put_raw_part;
 use page::Date;
 use page::Header;
 use page::LineEnd;

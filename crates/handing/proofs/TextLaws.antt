@@ -41,8 +41,8 @@ use Rattle.laws.specs.Begins.{begins}
 use Rattle.laws.proofs.Sections.{sections-begin}
 use Rattle.values.proofs.ReadLaws.{Read, a-text, a-number, no-value, read-of, wording-in}
 use Rattle.values.proofs.ValueLaws.{inside}
-use Rattle.output.specs.Raw.{undoubled}
-use Rattle.output.proofs.FormLaws.{undoubled-doubled}
+use Rattle.doubling.specs.Raw.{undoubled}
+use Rattle.doubling.proofs.TextLaws.{undoubled-doubled}
 use Rattle.output.proofs.WriteLaws.{refused}
 use Rattle.handing.specs.Own.{Lies, Spans, owned, Gave}
 use Rattle.handing.proofs.PassLaws.{passed-there, passed-right, section-passed, every-at}

@@ -16,7 +16,7 @@ use Rattle.page.specs.declared.Written.{Written}
 use Rattle.page.specs.declared.Written.the-variants as W
 use Rattle.page.specs.declared.Handed.{Handed}
 use Rattle.page.specs.declared.Handed.the-variants as Ha
-use Rattle.output.specs.Raw.{undoubled}
+use Rattle.doubling.specs.Raw.{undoubled}
 
 -- a text's bytes lie in the file
 pub record Lies (s : Bytes) (from to : ℕ) : Type 0 where

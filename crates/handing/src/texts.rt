@@ -39,7 +39,7 @@ fn hand_words(file: &[u8], x: Text, out: &mut [u8]) -> Handed
     let from = x.from;
     let to = x.to;
     let owner = x.owner;
-    tell_owner(output::hand_own(out, none, &file[from..to]), owner)
+    tell_owner(doubling::hand_own(out, none, &file[from..to]), owner)
 }
 
 // A value that stands in the file: "11 if it is a number".

@@ -10,8 +10,8 @@ use lib.ListN.{length, getD, set, drop}
 use Rattle.page.specs.Bytes.{Bytes, pick}
 use Rattle.page.specs.Fields.{quote, field-size}
 use Rattle.page.proofs.FieldLaws.{from, from-end}
-use Rattle.output.specs.Raw.{undoubled}
-use Rattle.output.proofs.FormLaws.{undoubled-second, undoubled-first, undoubled-end}
+use Rattle.doubling.specs.Raw.{undoubled}
+use Rattle.doubling.proofs.TextLaws.{undoubled-second, undoubled-first, undoubled-end}
 use Rattle.digits.specs.Runs.{field-from}
 use Rattle.digits.proofs.RunLaws.{from-next}
 use Rattle.keys.specs.Numbers.{room, push, packed-from, field-as, gather}

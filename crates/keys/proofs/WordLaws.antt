@@ -21,8 +21,8 @@ use Rattle.page.specs.declared.Field.the-variants as F
 use Rattle.page.proofs.ScanLaws.{part-length, part-moved}
 use Rattle.page.proofs.TextLaws.{words-there}
 use Rattle.page.proofs.FieldLaws.{span-in, span-part, end-in}
-use Rattle.output.specs.Raw.{undoubled}
-use Rattle.output.proofs.FormLaws.{undoubled-doubled, undoubled-length}
+use Rattle.doubling.specs.Raw.{undoubled}
+use Rattle.doubling.proofs.TextLaws.{undoubled-doubled, undoubled-length}
 use Rattle.digits.specs.Runs.{field-from}
 
 -- a text of a field, by its span

@@ -8,7 +8,7 @@ ghost use Rattle.page.specs.Bytes.{pick};
 ghost use Rattle.page.specs.Fields.{field-size, fields};
 ghost use Rattle.page.specs.Section.{record-text};
 ghost use Rattle.page.specs.Records.{own-bytes};
-ghost use Rattle.output.specs.Raw.{undoubled};
+ghost use Rattle.doubling.specs.Raw.{undoubled};
 ghost use Rattle.digits.specs.Runs.{field-from};
 ghost use Rattle.keys.specs.Numbers.{push, packed, field-as, gathered};
 use crate::key::Key;

@@ -4,16 +4,16 @@ ghost use mathlib.Core.Bool.{_&&_};
 ghost use Prim.Native.Nat.{_+_, _<_};
 ghost use lib.Dec.{eqb};
 ghost use Rattle.page.specs.Lines.{content, rest, Rec};
-ghost use Rattle.page.specs.Fields.{fields, numberOf};
+ghost use Rattle.page.specs.Fields.{fields};
 ghost use Rattle.page.specs.Marks.{remarkOf};
-ghost use Rattle.page.specs.Section.{choose, tbl-step, frm-step, rec-step, count-step, end-step, mark-step, com-step, line-step, content-step, step};
+ghost use Rattle.page.specs.Section.{choose, tbl-step, frm-step, rec-step, mark-step, com-step, line-step, content-step, step};
 ghost use Rattle.page.specs.declared.Phase.{Phase};
 ghost use Rattle.page.specs.declared.Phase.the-variants as P;
 ghost use Rattle.page.specs.declared.Step.the-variants as S;
 ghost use Rattle.tables.specs.Orders.{held, Orderly, Stands};
 ghost use Rattle.machine.specs.Carries.{records-in, order-at, Carries, Found, Carried};
+use counts::step_end;
 use judging::judge_record;
-use page::Number;
 use page::Phase;
 use page::Remark;
 use page::Step;
@@ -65,35 +65,6 @@ pub fn step_rec(w: &[u8], t: usize, o: &[u8; WIDEST], m: u64, n: usize) -> Step
         return Step::Go(Phase::Rows(t, 0, n + 1));
     }
     Step::Stop(v)
-}
-
-// "The count equals the number of `rec` lines": f is the field of the `end` line.
-fn step_count(f: &[u8], t: usize, n: usize) -> Step
-    ensures { λ r. ⌜ r ≡ count-step t n (numberOf (now (f .entry))) ⌝ }
-{
-    match digits::read_number(f) {
-        Number::Plus(c) => {
-            if c == n as u64 {
-                return Step::Go(Phase::Ended(t, n));
-            }
-            Step::Stop(16)
-        }
-        Number::Minus(_) => Step::Stop(16),
-        Number::Nothing => Step::Stop(12),
-    }
-}
-
-// "`end` 15 for a mark without record, 10, 12, 16"
-pub fn step_end(w: &[u8], t: usize, m: u64, n: usize) -> Step
-    ensures { λ r. ⌜ r ≡ end-step t m n (fields (now (w .entry))) ⌝ }
-{
-    if m != 0 {
-        return Step::Stop(15);
-    }
-    if commands::count_fields(w) != 1 {
-        return Step::Stop(10);
-    }
-    step_count(commands::field_at(w, 0), t, n)
 }
 
 // "A mark that is unreadable, not allowed, not rising, before `frm` or after `end` is 15 at its own line."

@@ -1,3 +1,2 @@
 pub mod PutLaws
-pub mod FormLaws
 pub mod WriteLaws

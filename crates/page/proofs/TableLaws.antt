@@ -198,7 +198,7 @@ pub rule-some : (r : Rule) → eqb (rule-number r) 0 ≡ false
 rule-some (points-differ p) = refl
 rule-some (feeder-combined c x) = refl
 
-each-in : {A : Type 0} (p : A → Bool) (l : List A) → each p l ≡ true → (x : A) → List·Memᴰ x l → p x ≡ true
+pub each-in : {A : Type 0} (p : A → Bool) (l : List A) → each p l ≡ true → (x : A) → List·Memᴰ x l → p x ≡ true
 unfolding each
 each-in p [] e x m = absurd (List·Memᴰ·not-nil m)
 each-in p (y ∷ l) e x m =

@@ -27,7 +27,7 @@ use Rattle.tables.specs.Orders.{held}
 use Rattle.names.specs.Told.{Told}
 use Rattle.names.proofs.ToldLaws.{told-order}
 use Rattle.cut.specs.Walk.{section-size, section-from}
-use Rattle.output.specs.Raw.{line-with}
+use Rattle.frames.specs.Lines.{line-with}
 use Rattle.frames.proofs.LineLaws.{line-with-is}
 use Rattle.output.proofs.PutLaws.{Todo}
 use Rattle.recording.specs.Said.{rows-of, passes, passing, said, said-in, passes-in, PassingIn}

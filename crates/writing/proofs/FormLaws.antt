@@ -24,7 +24,8 @@ use Rattle.page.specs.declared.Stays.the-variants as St
 use Rattle.page.specs.declared.Written.{Written}
 use Rattle.verdicts.proofs.Files.{accepted-says}
 use Rattle.output.specs.Put.{Wrote}
-use Rattle.output.specs.Raw.{line-with, head-raw}
+use Rattle.frames.specs.Lines.{line-with}
+use Rattle.frames.specs.Heads.{head-raw}
 use Rattle.frames.proofs.LineLaws.{line-with-is, head-same}
 use Rattle.copies.specs.declared.plan.Plan.{Plan}
 use Rattle.recording.specs.Said.{said-in}

@@ -3,7 +3,7 @@ use native.Mathlib.Omega.{arith}
 use borrow.Author.Needs.{needs}
 use borrow.Fn.Kinds.{In}
 use borrow.Fn.PlainCycle.{Measures, is, falls, and}
-use Rattle.output.proofs.FormLaws.{decimal-few, decimal-last, decimal-more, decimal-in-length}
+use Rattle.decimals.proofs.DecimalLaws.{decimal-few, decimal-last, decimal-more, decimal-in-length}
 use Rattle.output.proofs.PutLaws.{puts, put-as}
 use Rattle.decimals.proofs.numbers.put_digits.Reads as put-digits
 use Rattle.decimals.proofs.numbers.put_digits.Kinds as put-digits-kinds

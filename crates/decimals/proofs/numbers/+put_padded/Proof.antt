@@ -3,7 +3,7 @@ use native.Mathlib.Omega.{arith}
 use borrow.Author.Needs.{needs}
 use borrow.Fn.Kinds.{In}
 use borrow.Fn.PlainCycle.{Measures, is, falls, and}
-use Rattle.output.proofs.FormLaws.{padded-none, padded-more, padded-length}
+use Rattle.decimals.proofs.DecimalLaws.{padded-none, padded-more, padded-length}
 use Rattle.output.proofs.PutLaws.{puts, put-as, put-none}
 use Rattle.decimals.proofs.numbers.put_padded.Reads as put-padded
 use Rattle.decimals.proofs.numbers.put_padded.Kinds as put-padded-kinds

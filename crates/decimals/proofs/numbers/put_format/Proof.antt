@@ -1,5 +1,5 @@
 use borrow.Author.Needs.{needs}
-use Rattle.output.proofs.FormLaws.{format-char, format-num}
+use Rattle.decimals.proofs.DecimalLaws.{format-char, format-num}
 use Rattle.output.proofs.PutLaws.{put-as}
 use Rattle.decimals.proofs.numbers.put_format.Statement.{statement}
 use Rattle.decimals.proofs.numbers.put_format.Tie as tie

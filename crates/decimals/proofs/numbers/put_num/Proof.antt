@@ -1,7 +1,7 @@
 use native.Mathlib.Omega.{arith}
 use borrow.Author.Needs.{needs}
 use Rattle.page.specs.Bytes.{bytes}
-use Rattle.output.proofs.FormLaws.{decimal-length}
+use Rattle.decimals.proofs.DecimalLaws.{decimal-length}
 use Rattle.output.proofs.PutLaws.{puts}
 use Rattle.decimals.proofs.numbers.put_num.Statement.{statement}
 use Rattle.decimals.proofs.numbers.put_num.Tie as tie

@@ -2,7 +2,7 @@ use native.Mathlib.Omega.{arith}
 use borrow.Author.Needs.{needs}
 use Rattle.page.specs.Bytes.{bytes}
 use Rattle.page.specs.Form.{time-text}
-use Rattle.output.proofs.FormLaws.{padded-length}
+use Rattle.decimals.proofs.DecimalLaws.{padded-length}
 use Rattle.output.proofs.PutLaws.{puts}
 use Rattle.decimals.proofs.numbers.put_time.Statement.{statement}
 use Rattle.decimals.proofs.numbers.put_time.Tie as tie

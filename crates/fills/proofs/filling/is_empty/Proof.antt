@@ -13,7 +13,10 @@ returns : tie.Need-returns
 returns c = search needs
 
 returns-2 : tie.Need-returns-2
-returns-2 c = rw (c .before .before .v .given .1)
+returns-2 c = search needs
+
+returns-3 : tie.Need-returns-3
+returns-3 c = rw (c .before .before .v .given .1)
 
 pub is-empty-spec : {M : Type 1} → statement M
-is-empty-spec = tie.close (tie.spec enum-told enum-known-v returns returns-2)
+is-empty-spec = tie.close (tie.spec enum-told enum-known-v returns returns-2 returns-3)

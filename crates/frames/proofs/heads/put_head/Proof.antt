@@ -1,8 +1,7 @@
 use Rattle.output.proofs.PutLaws.{put-as, puts}
 use Rattle.frames.proofs.LineLaws.{mod-is, src-length, chs-length}
 use Rattle.page.proofs.LineEndLaws.{line-end-length}
-use Rattle.output.specs.Raw.{head-raw}
-use Rattle.frames.specs.Heads.{versions}
+use Rattle.frames.specs.Heads.{head-raw, versions}
 use Rattle.page.specs.Bytes.{bytes}
 use native.Mathlib.Omega.{arith}
 use borrow.Author.Needs.{needs}

@@ -1,5 +1,6 @@
 use Rattle.frames.proofs.LineLaws.{src-is}
-use Rattle.output.proofs.FormLaws.{raw-length, part-length, date-length, time-length}
+use Rattle.doubling.proofs.TextLaws.{raw-length}
+use Rattle.frames.proofs.PlainLaws.{part-length, date-length, time-length}
 use Rattle.page.specs.Bytes.{part, bytes}
 use Rattle.output.proofs.PutLaws.{puts, put-as}
 use native.Mathlib.Omega.{arith}

@@ -1,5 +1,5 @@
 use Rattle.frames.proofs.LineLaws.{mark-is}
-use Rattle.output.proofs.FormLaws.{decimal-length}
+use Rattle.decimals.proofs.DecimalLaws.{decimal-length}
 use Rattle.page.specs.Bytes.{bytes}
 use Rattle.output.proofs.PutLaws.{puts, put-as}
 use native.Mathlib.Omega.{arith}

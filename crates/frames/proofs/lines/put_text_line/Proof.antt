@@ -1,5 +1,6 @@
 use Rattle.frames.proofs.LineLaws.{text-line-is, separator-length}
-use Rattle.output.proofs.FormLaws.{raw-length, part-length}
+use Rattle.doubling.proofs.TextLaws.{raw-length}
+use Rattle.frames.proofs.PlainLaws.{part-length}
 use Rattle.page.specs.Bytes.{part}
 use Rattle.output.proofs.PutLaws.{puts, put-as}
 use native.Mathlib.Omega.{arith}

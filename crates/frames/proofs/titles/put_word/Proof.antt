@@ -1,4 +1,4 @@
-use Rattle.output.proofs.FormLaws.{part-length}
+use Rattle.frames.proofs.PlainLaws.{part-length}
 use Rattle.tables.proofs.WordLaws.{row-length}
 use Rattle.tables.specs.Arrays.{flat, row-of}
 use Rattle.tables.specs.Words.{words, row}

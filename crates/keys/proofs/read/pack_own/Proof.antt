@@ -5,7 +5,7 @@ use Prim.Native.Nat.{ℕ, _-_, _≤_}
 use native.Mathlib.Omega.{arith}
 use borrow.Author.Needs.{needs}
 use lib.ListN.{length, getD, drop}
-use Rattle.output.specs.Raw.{undoubled}
+use Rattle.doubling.specs.Raw.{undoubled}
 use Rattle.keys.specs.Numbers.{packed-from, packed}
 use Rattle.keys.proofs.StoreLaws.{packed-second, packed-first, packed-end, push-some}
 use Rattle.keys.proofs.read.pack_own.Statement.{statement}

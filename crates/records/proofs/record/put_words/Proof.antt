@@ -2,8 +2,8 @@ use borrow.Author.Needs.{needs}
 use mathlib.Core.List.{[], _∷_}
 use native.Mathlib.Omega.{arith}
 use Rattle.page.specs.Bytes.{part}
-use Rattle.output.specs.Raw.{raw-text}
-use Rattle.output.proofs.FormLaws.{raw-length}
+use Rattle.doubling.specs.Raw.{raw-text}
+use Rattle.doubling.proofs.TextLaws.{raw-length}
 use Rattle.output.proofs.PutLaws.{put-as}
 use Rattle.records.proofs.RecordLaws.{picked, unpicked}
 use Rattle.records.proofs.record.put_words.Statement.{statement}
