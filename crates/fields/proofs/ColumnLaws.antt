@@ -139,12 +139,20 @@ module _ (lo hi n : ℕ) where
   unfolding number-field
   number-fits h k = rw (le-leb lo n h, le-leb n hi k)
 
+-- the reading of a field asks its column for its kind, its bounds and whether its number may be missing
+pub column-asked : (c d : Column) → (d .text ≡ c .text) × (d .lo ≡ c .lo) × (d .hi ≡ c .hi) × (d .optional ≡ c .optional) → (w : Bytes) → fieldOf d w ≡ fieldOf c w
+unfolding fieldOf
+column-asked c d e w = rw (e .0, e .1, e .2, e .3)
+
 -- an empty field has no number
-given : (optional : Bool) (w : Bytes) → (numberOf w ≡ N.Nothing → ⊥) → left-out optional w ≡ false
+pub no-number : (w : Bytes) → length w ≡ 0 → numberOf w ≡ N.Nothing
 unfolding numberOf digits
+no-number [] e = refl
+no-number (b ∷ w) e = absurd (omega arith)
+
+given : (optional : Bool) (w : Bytes) → (numberOf w ≡ N.Nothing → ⊥) → left-out optional w ≡ false
 given false w n = refl
-given true [] n = absurd (n refl)
-given true (b ∷ w) n = ne-eqb (length (b ∷ w)) 0 (λ (e : length (b ∷ w) ≡ 0). absurd (omega arith))
+given true w n = ne-eqb (length w) 0 (λ (e : length w ≡ 0). n (no-number w e))
 
 -- a number column's field by the number that it reads as
 module _ (c : Column) (f : Bytes) (x : c .text ≡ false) where
