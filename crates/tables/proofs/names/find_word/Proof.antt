@@ -1,9 +1,10 @@
-use borrow.Author.Needs.{needs}
-use Rattle.page.specs.Bytes.{bytes, same}
+-- `tables::names::find_word` meets its contract. Assumes nothing.
+use Rattle.page.specs.Bytes.{bytes}
 use Rattle.page.specs.Tables.{all-tables}
-use Rattle.page.specs.File.{any}
-use Rattle.tables.specs.Words.{column-names, once, words}
+use Rattle.tables.specs.Arrays.{flat, row-of}
+use Rattle.tables.specs.Words.{words}
 use Rattle.tables.proofs.WordLaws.{starts, starts-from, reads-word, no-word}
+use borrow.Author.Needs.{needs}
 use Rattle.tables.proofs.names.find_word.Statement.{statement}
 use Rattle.tables.proofs.names.find_word.Tie as tie
 
@@ -23,7 +24,7 @@ array-read-t13 : tie.Need-array-read-t13
 array-read-t13 c = search needs
 
 returns : tie.Need-returns
-unfolding starts starts-from words column-names once any all-tables bytes same
+unfolding starts starts-from words row-of flat all-tables bytes
 returns c = reads-word (c .before .args .n) (c .if1 .taken)
 
 returns-2 : tie.Need-returns-2
