@@ -3,8 +3,8 @@ use borrow.Author.Needs.{needs}
 use Rattle.page.specs.Bytes.{bytes, same}
 use Rattle.page.specs.Lines.{joined}
 use Rattle.page.specs.Tables.{all-tables}
-use Rattle.page.specs.File.{any}
-use Rattle.tables.specs.Words.{column-names, once, words, row}
+use Rattle.tables.specs.Arrays.{flat, row-of}
+use Rattle.tables.specs.Words.{words, row}
 use Rattle.tables.proofs.WordLaws.{row-length}
 use Rattle.names.proofs.is_word.Statement.{statement}
 use Rattle.names.proofs.is_word.Tie as tie
@@ -25,7 +25,7 @@ equal-requires : tie.Need-equal-requires
 equal-requires c κs = search needs
 
 returns : tie.Need-returns
-unfolding row joined words column-names once any all-tables bytes same
+unfolding row joined words row-of flat all-tables bytes
 returns c = c .equal .ensures ∙ ap (same (c .before .before .before .before .before .args .f .now)) (c .before .before .before .find-word .ensures .is)
 
 pub is-word-spec : {M : Type 1} → statement M
