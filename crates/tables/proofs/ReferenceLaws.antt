@@ -1,6 +1,6 @@
 -- What holds of each reference is computed over the one list of tables. Assumes nothing.
 use mathlib.Core.Path.{_≡_, refl, ap, _∙_}
-use mathlib.Core.Bool.{Bool, true, false, not, _||_}
+use mathlib.Core.Bool.{Bool, true, false, not, _&&_, _||_}
 use mathlib.Core.List.{List, [], _∷_, map}
 use Prim.Native.Nat.{ℕ, zero, suc, _+_, _<_, _≤_}
 use native.Mathlib.Omega.{arith}
@@ -50,17 +50,20 @@ reference-size t r =
     eqb-true _ _
     (reference-test (λ x (y : Reference). eqb (length (y .columns)) (count by-primary (columns (table-named (bytes (y .target)))))) (λ x. refl) refl t r)
 
--- and they hold numbers
-abbrev pub plain-at : List Named → ℕ → Bool
-plain-at cs k = not (getD cs k no-column .column .text)
+-- and they hold numbers, none of which may be missing
+abbrev pub counts : Column → Bool
+counts c = not (c .text) && not (c .optional)
 
-pub reference-plain : (t r : ℕ) → each (plain-at (columns t)) (reference-at t r .columns) ≡ true
+abbrev pub counts-at : List Named → ℕ → Bool
+counts-at cs k = counts (getD cs k no-column .column)
+
+pub reference-counts : (t r : ℕ) → each (counts-at (columns t)) (reference-at t r .columns) ≡ true
 unfolding all-tables each columns
-reference-plain t r = reference-test (λ x (y : Reference). each (plain-at (x .columns)) (y .columns)) (λ x. refl) refl t r
+reference-counts t r = reference-test (λ x (y : Reference). each (counts-at (x .columns)) (y .columns)) (λ x. refl) refl t r
 
--- a key has at most seven columns, and its texts at most seven bytes
+-- a key has at most seven columns; none of them may be missing, and its texts have at most seven bytes
 abbrev pub short : (Column → Bool) → Named → Bool
-short p c = not (p (c .column)) || (not (c .column .text) || leb (c .column .hi) 7)
+short p c = not (p (c .column)) || (not (c .column .optional) && (not (c .column .text) || leb (c .column .hi) 7))
 
 pub record Small (p : Column → Bool) : Type 0 where
   pub few : (t : ℕ) → count p (columns t) ≤ 7
@@ -83,9 +86,12 @@ small-second =
     }
 
 -- a primary key has numbers only
-pub primary-plain : (t : ℕ) → each (λ (c : Named). not (c .column .primary) || not (c .column .text)) (columns t) ≡ true
+abbrev pub primary-count : Named → Bool
+primary-count c = not (c .column .primary) || counts (c .column)
+
+pub primary-counts : (t : ℕ) → each primary-count (columns t) ≡ true
 unfolding all-tables each columns
-primary-plain t = table-test (λ (x : Table). each (λ (c : Named). not (c .column .primary) || not (c .column .text)) (x .columns)) refl refl t
+primary-counts t = table-test (λ (x : Table). each primary-count (x .columns)) refl refl t
 
 -- past the references of a table, and past the tables
 past-references : (t r : ℕ) → MOST ≤ r → reference-at t r ≡ no-reference
