@@ -1,3 +1,2 @@
-pub mod NumberLaws
+pub mod FirstLaws
 pub mod PartLaws
-pub mod RoundLaws

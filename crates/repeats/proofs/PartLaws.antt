@@ -20,8 +20,10 @@ use Rattle.seats.specs.declared.seating.Seats.{Seats}
 use Rattle.seats.specs.Seating.{seat-at, Ready}
 use Rattle.seats.specs.Faults.{repeat-number, seat-key, scan-end, repeat-line}
 use Rattle.seats.proofs.RepeatLaws.{repeat-is, repeats-none, repeats-at}
+use Rattle.rounds.specs.Rounds.{again-at}
+use Rattle.rounds.proofs.NumberLaws.{Stands, stands-first, stands-next, stands-end, again-here}
 use Rattle.repeats.specs.Parts.{scan-part}
-use Rattle.repeats.proofs.NumberLaws.{Fresh, fresh-first, fresh-next, fresh-end}
+use Rattle.repeats.proofs.FirstLaws.{repeat-none}
 
 -- no key repeats in the first n sections
 pub record Clean (s : Bytes) (r : Seats) (second : Bool) (n : ℕ) : Type 0 where
@@ -47,6 +49,26 @@ module _ (s : Bytes) (r : Seats) (z : Ready s r) (second : Bool) (i : ℕ) (d : 
     repeats-here n f g =
         let k : n ≡ n - 1 + 1 = omega arith in
         rw k (sym (repeats-at s r z second i (n - 1) h (d .none) (part-line (n - 1 + 1) (sym f ∙ k))))
+
+-- lines passed of which none is a record whose key stands before it
+pub record Fresh (q : Choice) (w : Bytes) (at : ℕ) : Type 0 where
+  pub count : ℕ
+  pub stands : Stands w at count
+  pub new : (m : ℕ) → m < count → again-at q (lines w) m ≡ false
+
+fresh-first : (q : Choice) (w : Bytes) → Fresh q w 0
+fresh-first q w = record { count = 0; stands = stands-first w; new = λ m h. absurd (omega arith) }
+
+fresh-next : (q : Choice) (w : Bytes) (at e : ℕ) → Fresh q w at → at < length w → e ≡ at + line-size (drop at w) → again q (lines (take at w)) (take (e - at) (drop at w)) ≡ false → Fresh q w e
+fresh-next q w at e f h x y =
+    record {
+      count = f .count + 1;
+      stands = stands-next w at (f .count) e (f .stands) h x;
+      new = below-more _ _ (f .new) (again-here w at (f .count) e (f .stands) h x q false (sym y));
+    }
+
+fresh-end : (q : Choice) (w : Bytes) (at : ℕ) → Fresh q w at → length w ≤ at → first-line (again q) [] 0 (lines w) ≡ 0
+fresh-end q w at f h = repeat-none q (lines w) (λ m k. f .new m (omega (arith, stands-end w at (f .count) (f .stands) h)))
 
 -- the lines before a place rise up to the key k
 pub record Rising (q : Choice) (w : Bytes) (k : List ℕ) (at : ℕ) : Type 0 where

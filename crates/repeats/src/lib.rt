@@ -1,5 +1,5 @@
 // 18, 19: "primary key, second key met before".
 mod repeats;
-mod rounds;
+mod section;
 
 pub use repeats::first_repeat;

@@ -1,8 +1,8 @@
 -- The sections from a section's own place on are the rest of the sections. Assumes nothing.
-use mathlib.Core.Path.{_≡_, refl, ap, sym, _∙_}
+use mathlib.Core.Path.{_≡_, refl, ap}
 use mathlib.Core.Bool.{Bool, true, false}
 use mathlib.Core.List.{List}
-use Prim.Native.Nat.{ℕ, zero, suc, _+_, _-_, _<_, _≤_}
+use Prim.Native.Nat.{ℕ, zero, suc, _+_, _-_, _<_}
 use native.Mathlib.Omega.{arith}
 use borrow.Author.Tests.{ltb-true, ltb-false}
 use lib.Dec.{ltb}
@@ -12,32 +12,8 @@ use Rattle.page.specs.Cut.{Section, begins-table, sections}
 use Rattle.page.specs.Reading.{no-section}
 use Rattle.page.proofs.LineLaws.{line-size, line-in}
 use Rattle.page.proofs.CutLaws.{sections-from, sections-all, sections-table, sections-end}
-use Rattle.cut.specs.Walk.{section-from, Settled, Next}
-use Rattle.cut.proofs.WalkLaws.{sections-other, next-stop, walk-here}
-use Rattle.rows.specs.Walk.{Begins, first-place}
-
-pub begins-settled : (s : Bytes) (at : ℕ) → Begins s at → Settled s at
-begins-settled s at b =
-    let e = at + line-size (drop at s) in
-    let k : line-size (drop at s) ≡ e - at = omega arith in
-    next-stop s at e (b .within) refl (rw k at (b .table))
-
-section-place : (s : Bytes) (at : ℕ) → section-from s at .place ≡ at
-unfolding section-from
-section-place s at = refl
-
--- a place that is a section's, or the end, is where the sections from it on begin
-first-settled : (s : Bytes) (at : ℕ) → at ≤ length s → Settled s at → first-place s (sections-from s at) ≡ at
-first-settled s at h z = by (ltb at (length s)) refl
-  where
-    by : (b : Bool) → ltb at (length s) ≡ b → first-place s (sections-from s at) ≡ at
-    by true x = ap (first-place s) (walk-here s at (ltb-true at (length s) x) z) ∙ section-place s at
-    by false x =
-        let l = ltb-false at (length s) x in
-        rw (sections-end s at l) (omega arith)
-
-pub first-next : (s : Bytes) (at r : ℕ) → Next s at r → r ≡ first-place s (sections-from s at)
-first-next s at r x = sym (first-settled s r (x .within) (x .settled)) ∙ ap (first-place s) (x .same)
+use Rattle.cut.proofs.WalkLaws.{sections-other}
+use Rattle.steps.specs.Steps.{Begins}
 
 -- a section of s that stands at a place, and all after it
 record Here (s : Bytes) (at : ℕ) (xs : List Section) : Type 0 where

@@ -18,8 +18,12 @@ use Rattle.page.specs.File.{header-refusal, rowOf, rowsOf, first-unsound}
 use Rattle.page.specs.Reading.{no-section, list-refusal, rows-after}
 use Rattle.page.specs.declared.Row.{Row}
 use Rattle.page.specs.declared.Refusal.{Refusal}
+use Rattle.cut.specs.Walk.{section-from}
+use Rattle.cut.proofs.WalkLaws.{walk-here}
+use Rattle.steps.specs.Steps.{Begins, first-place, stays, stepBy, accepts, atOf, startOf}
+use Rattle.steps.proofs.PlaceLaws.{begins-settled}
 use Rattle.files.proofs.AnswerLaws.{unsound-sound}
-use Rattle.rows.specs.Walk.{Begins, first-place, stays, stepOf, accepts, atOf, startOf, no-row, rowAt, soundAt, stepAt, filled}
+use Rattle.rows.specs.Walk.{stepOf, no-row, rowAt, soundAt, stepAt, filled}
 use Rattle.rows.proofs.SectionLaws.{section-begins, section-rest}
 
 map-length : (latin : Bool) (xs : List Section) → length (map (rowOf latin) xs) ≡ length xs
@@ -77,11 +81,17 @@ sound-all : (s : Bytes) → soundAt s (length (sections s)) ≡ true → first-u
 unfolding soundAt
 sound-all s e = unsound-sound 1 (rowsOf s) (eqb-true (first-unsound 1 (rowsOf s) .number) 0 (rw (← rows-length s, take-length (rowsOf s)) at e))
 
+-- a section read at its place is the first from there on
+pub step-read : (s : Bytes) (at : ℕ) → Begins s at → (latin : Bool) (row : Row) → row ≡ rowOf latin (section-from s at) → (before : Bool)
+    → stepBy s at row before ≡ stepOf s at latin before
+unfolding stepOf
+step-read s at b latin row q before = rw (walk-here s at (b .within) (begins-settled s at b), q)
+
 -- the step at section k
 step-section : (s : Bytes) (k : ℕ) → k < length (sections s)
     → stepOf s (first-place s (drop k (sections s))) (latinOf s) (soundAt s k)
     ≡ record { row = rowAt s k; next = first-place s (drop (k + 1) (sections s)); sound = soundAt s (k + 1) }
-unfolding stepOf
+unfolding stepOf stepBy
 step-section s k h =
     let head : getD (drop k (sections s)) 0 no-section ≡ getD (sections s) k no-section = rw (drop-cons (sections s) k no-section h) in
     rw (first-of s (sections s) k h, section-rest s k h, head, drop-drop 1 k (sections s), row-is s k h, sound-more s k h)

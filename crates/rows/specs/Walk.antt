@@ -1,62 +1,20 @@
--- One pass over a file's sections: what it begins with, the place that it carries, and what it hands out at each section.
-use mathlib.Core.Path.{_≡_}
-use mathlib.Core.Bool.{Bool, true, false}
-use mathlib.Core.List.{List, [], _∷_, _++_}
-use Prim.Native.Nat.{ℕ, _+_, _<_}
+-- One pass over a file's sections: what it hands out at each, and the rows that are written.
+use mathlib.Core.Bool.{Bool}
+use mathlib.Core.List.{List, _++_}
+use Prim.Native.Nat.{ℕ, _+_}
 use lib.Dec.{eqb}
-use lib.ListN.{length, getD, take, drop}
-use Rattle.page.specs.Bytes.{Bytes, pick}
-use Rattle.page.specs.Cut.{Section, begins-table, sections}
-use Rattle.page.specs.Head.{latinOf}
+use lib.ListN.{getD, take, drop}
+use Rattle.page.specs.Bytes.{Bytes}
 use Rattle.page.specs.File.{rowOf, rowsOf, first-unsound}
-use Rattle.page.specs.Reading.{no-section, list-refusal}
+use Rattle.page.specs.Reading.{no-section}
 use Rattle.page.specs.declared.Row.{Row}
-use Rattle.page.specs.declared.Refusal.{Refusal}
-use Rattle.page.proofs.LineLaws.{line-size}
 use Rattle.page.proofs.CutLaws.{sections-from}
-use Rattle.rows.specs.declared.Start.{Start}
-use Rattle.rows.specs.declared.Step.{Step}
-
--- a `tbl` line begins at a place
-pub record Begins (s : Bytes) (at : ℕ) : Type 0 where
-  pub within : at < length s
-  pub table : begins-table (take (line-size (drop at s)) (drop at s)) ≡ true
-
--- where sections of s begin: at the first of them, and where s ends if there is none
-abbrev pub first-place : Bytes → List Section → ℕ
-first-place s [] = length s
-first-place s (x ∷ xs) = x .place
-
--- is a section with this verdict sound, and were all before it?
-unfoldable pub stays : Bool → ℕ → Bool
-stays before verdict = pick (eqb verdict 0) before false
+use Rattle.steps.specs.Steps.{stepBy, atOf}
+use Rattle.steps.specs.declared.Step.{Step}
 
 -- the row of the first section from a place on, the place of the second, and whether all are sound so far
 unfoldable pub stepOf : Bytes → ℕ → Bool → Bool → Step
-stepOf s at latin before =
-    record {
-      row = rowOf latin (getD (sections-from s at) 0 no-section);
-      next = first-place s (drop 1 (sections-from s at));
-      sound = stays before (rowOf latin (getD (sections-from s at) 0 no-section) .verdict);
-    }
-
--- "Listing is refused by 1, 2 and 21 only"
-unfoldable pub accepts : Bytes → ℕ → Bool
-accepts s room = eqb (list-refusal s room .number) 0
-
--- the place that the pass carries to section i, the first counted as 0
-unfoldable pub atOf : Bytes → ℕ → ℕ → ℕ
-atOf s room i = pick (accepts s room) (first-place s (drop i (sections s))) 0
-
--- "and then writes no row"
-abbrev pub refused : Refusal → Start
-refused r = record { refusal = r; count = 0; at = 0; latin = false }
-
-unfoldable pub startOf : Bytes → ℕ → Start
-startOf s room =
-    pick (accepts s room)
-    (record { refusal = list-refusal s room; count = length (sections s); at = atOf s room 0; latin = latinOf s })
-    (refused (list-refusal s room))
+stepOf s at latin before = stepBy s at (rowOf latin (getD (sections-from s at) 0 no-section)) before
 
 abbrev pub no-row : Row
 no-row = record { table = 0; place = 0; length = 0; records = 0; verdict = 0; line = 0 }

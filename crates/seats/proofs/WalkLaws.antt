@@ -2,7 +2,7 @@
 use mathlib.Core.Path.{_≡_, refl, ap, sym, _∙_}
 use mathlib.Core.Bool.{Bool, true, false}
 use mathlib.Core.List.{List, [], _∷_, map}
-use Prim.Native.Nat.{ℕ, zero, suc, _+_, _-_, _<_, _≤_}
+use Prim.Native.Nat.{ℕ, zero, suc, _+_, _<_, _≤_}
 use native.Mathlib.Numerals.{add-one}
 use native.Mathlib.Omega.{arith}
 use borrow.Author.Tests.{eq-eqb, ne-eqb, eqb-true}
@@ -85,7 +85,7 @@ sound-at s e k h =
 
 -- the section at a place, among all
 
-pub drop-head : {A : Type 0} (d : A) (xs : List A) (n : ℕ) (y : A) (ys : List A) → y ∷ ys ≡ drop n xs → (n < length xs) × (getD xs n d ≡ y) × (ys ≡ drop (n + 1) xs)
+drop-head : {A : Type 0} (d : A) (xs : List A) (n : ℕ) (y : A) (ys : List A) → y ∷ ys ≡ drop n xs → (n < length xs) × (getD xs n d ≡ y) × (ys ≡ drop (n + 1) xs)
 drop-head d [] n y ys e = absurd (go n e)
   where
     go : (n : ℕ) → y ∷ ys ≡ drop n [] → ⊥

@@ -57,18 +57,19 @@ use Rattle.page.proofs.Row as T
 use Rattle.page.proofs.Row.Laws as T′
 use Rattle.page.proofs.Refusal as S
 use Rattle.page.proofs.Refusal.Laws as S′
-use Rattle.rows.specs.Walk.{Begins, stepOf, stepAt, atOf, rowAt, soundAt, startOf, filled}
-use Rattle.rows.specs.declared.Start.{Start}
-use Rattle.rows.specs.declared.Step.{Step}
+use Rattle.steps.specs.Steps.{Begins, atOf, startOf}
+use Rattle.steps.specs.declared.Start.{Start}
+use Rattle.steps.specs.declared.Step.{Step}
+use Rattle.steps.proofs.Start as B₀
+use Rattle.steps.proofs.Start.Laws as B₀′
+use Rattle.steps.proofs.Step as St
+use Rattle.steps.proofs.Step.Laws as St′
+use Rattle.steps.proofs.begin_list as begin-list
+use Rattle.steps.proofs.begin_list.Symbol as begin-list-def
+use Rattle.steps.proofs.begin_list.Symbol.{name as #steps·begin-list}
+use Rattle.steps.proofs.begin_list.Met as begin-list-thm
+use Rattle.rows.specs.Walk.{stepOf, stepAt, rowAt, soundAt, filled}
 use Rattle.rows.proofs.WalkLaws.{start-room, start-rows, start-at, begins-at, step-at, known-at, sound-none, filled-none, filled-length, filled-step, filled-all, start-refusal}
-use Rattle.rows.proofs.Start as B₀
-use Rattle.rows.proofs.Start.Laws as B₀′
-use Rattle.rows.proofs.Step as St
-use Rattle.rows.proofs.Step.Laws as St′
-use Rattle.rows.proofs.begin_list as begin-list
-use Rattle.rows.proofs.begin_list.Symbol as begin-list-def
-use Rattle.rows.proofs.begin_list.Symbol.{name as #rows·begin-list}
-use Rattle.rows.proofs.begin_list.Met as begin-list-thm
 use Rattle.rows.proofs.read_step as read-step
 use Rattle.rows.proofs.read_step.Symbol as read-step-def
 use Rattle.rows.proofs.read_step.Symbol.{name as #rows·read-step}
@@ -208,7 +209,7 @@ module _ {M : Type 1} (𝓤 : URA M) (H : Heap 𝓤) (A : Atoms 𝓤) (W : Given
       suffices ! _ (ends-at 𝓤 H A f.ended stayed (f.clauses 𝓤 H A mem run) W bound u r (tt, (zs, tt)) (tt, (l, tt))) $ says ! (e₁, e₂) $
       nothing ! $ move ! (3 ∷ 0 ∷ []) $ join ! $ move ! (4 ∷ 0 ∷ []) $ join ! $ frame ! $ nothing ! $ move ! (2 ∷ 0 ∷ []) $ fjoin ! $ move ! (2 ∷ 0 ∷ []) $ fjoin ! $ done !
 
-  module _ (𝓣 : Tables 𝓤 H) (known-begin : Triple 𝓤 (𝓣 .C #rows·begin-list) (Begin 𝓤 H A mem run)) (known-read : Triple 𝓤 (𝓣 .C #rows·read-step) (Read 𝓤 H A mem run)) (known-answer : Triple 𝓤 (𝓣 .C #rows·answer-list) (Answer 𝓤 H A mem run)) where
+  module _ (𝓣 : Tables 𝓤 H) (known-begin : Triple 𝓤 (𝓣 .C #steps·begin-list) (Begin 𝓤 H A mem run)) (known-read : Triple 𝓤 (𝓣 .C #rows·read-step) (Read 𝓤 H A mem run)) (known-answer : Triple 𝓤 (𝓣 .C #rows·answer-list) (Answer 𝓤 H A mem run)) where
     abbrev C : Calls 𝓤 H
     C = 𝓣 .C
 
@@ -379,7 +380,7 @@ module _ {M : Type 1} (𝓤 : URA M) (H : Heap 𝓤) (A : Atoms 𝓤) (W : Given
         keep ! (0 ∷ 1 ∷ 2 ∷ 3 ∷ 4 ∷ 5 ∷ 6 ∷ 7 ∷ 8 ∷ 9 ∷ 10 ∷ 11 ∷ 12 ∷ 13 ∷ 14 ∷ 15 ∷ 16 ∷ 17 ∷ 18 ∷ 19 ∷ 20 ∷ 21 ∷ 22 ∷ 23 ∷ 24 ∷ 25 ∷ 26 ∷ 27 ∷ 28 ∷ 29 ∷ []) $ body l₀ l₁ l₂ l₃ l₄ l₅ l₆ l₇ l₈ l₉ l₁₀ l₁₁ l₁₂)))))))))))))
 
 module _ {M : Type 1} (𝓤 : URA M) (H : Heap 𝓤) (A : Atoms 𝓤) (W : Given 𝓤 H A) (mem : Memory → SProp 𝓤) (run : Routine → Fun 𝓤) where
-  list-walks : (𝓣 : Tables 𝓤 H) → Triple 𝓤 (𝓣 .C #rows·begin-list) (Begin 𝓤 H A mem run) → Triple 𝓤 (𝓣 .C #rows·read-step) (Read 𝓤 H A mem run) → Triple 𝓤 (𝓣 .C #rows·answer-list) (Answer 𝓤 H A mem run)
+  list-walks : (𝓣 : Tables 𝓤 H) → Triple 𝓤 (𝓣 .C #steps·begin-list) (Begin 𝓤 H A mem run) → Triple 𝓤 (𝓣 .C #rows·read-step) (Read 𝓤 H A mem run) → Triple 𝓤 (𝓣 .C #rows·answer-list) (Answer 𝓤 H A mem run)
       → Walks 𝓤 H A f.ended stayed (WpFn 𝓤 H (𝓣 .C) (𝓣 .Λ) code.function) (f.clauses 𝓤 H A mem run)
   list-walks 𝓣 known-begin known-read known-answer = walked 𝓤 H A f.ended stayed (f.clauses 𝓤 H A mem run) (WpFn 𝓤 H (𝓣 .C) (𝓣 .Λ) code.function)
       (λ κs. (slice-vals, (slice-vals, tt))) (λ κs. (shr-slice-tells (named 0) (κs .0) u8, (mut-slice-tells (named 1) (κs .1 .0) T.the-row, tt)))
@@ -387,7 +388,7 @@ module _ {M : Type 1} (𝓤 : URA M) (H : Heap 𝓤) (A : Atoms 𝓤) (W : Given
       (walk 𝓤 H A W mem run (κs .0) (κs .1 .0) (qs .0) (qs .1 .0) (a .0 .ptr .0) (a .0 .ptr .1) (a .0 .name) (a .0 .now) (a .1 .0 .ptr .0) (a .1 .0 .ptr .1) (a .1 .0 .name) (a .1 .0 .now) (are .0 .0 .1) (are .1 .0 .0 .1) 𝓣 known-begin known-read known-answer))
 
 list-meets : {M : Type 1} (𝓤 : URA M) (H : Heap 𝓤) (A : Atoms 𝓤) (W : Given 𝓤 H A) (mem : Memory → SProp 𝓤) (run : Routine → Fun 𝓤) (𝓣 : Tables 𝓤 H)
-    → Triple 𝓤 (𝓣 .C #rows·begin-list) (Begin 𝓤 H A mem run) → Triple 𝓤 (𝓣 .C #rows·read-step) (Read 𝓤 H A mem run) → Triple 𝓤 (𝓣 .C #rows·answer-list) (Answer 𝓤 H A mem run)
+    → Triple 𝓤 (𝓣 .C #steps·begin-list) (Begin 𝓤 H A mem run) → Triple 𝓤 (𝓣 .C #rows·read-step) (Read 𝓤 H A mem run) → Triple 𝓤 (𝓣 .C #rows·answer-list) (Answer 𝓤 H A mem run)
     → Meets 𝓤 H A f.signature (WpFn 𝓤 H (𝓣 .C) (𝓣 .Λ) code.function) (f.spec 𝓤 H A mem run)
 list-meets 𝓤 H A W mem run 𝓣 known-begin known-read known-answer =
     walk-meets 𝓤 H A f.ended stayed W (goes-none-slice 𝓤 H A W 2 (0 ∷ []) tt (plain (λ _. u8)) yes, (goes-slice 𝓤 H A W 2 1 tt (plain (λ _. T.the-row)), tt)) (f.clauses 𝓤 H A mem run)
@@ -399,6 +400,6 @@ list-spec 𝓤 H 𝓜 𝓖 𝓡 =
     entered 𝓤 H (tripleOf 𝓤 H (𝓖 .A) f.signature (f.spec 𝓤 H (𝓖 .A) (𝓜 .mem) (𝓡 .run)))
     (tables 𝓤 H 𝓜 𝓡 code.env .C) (tables 𝓤 H 𝓜 𝓡 code.env .Λ) #rows·list code.function (code.unfolded 𝓤 H 𝓜 𝓡)
     (list-meets 𝓤 H (𝓖 .A) (givenOf 𝓤 H 𝓜 𝓖) (𝓜 .mem) (𝓡 .run) (tablesOf 𝓤 H 𝓜 (tables 𝓤 H 𝓜 𝓡 code.env))
-    (cited 𝓤 H (Begin 𝓤 H (𝓖 .A) (𝓜 .mem) (𝓡 .run)) 𝓜 𝓡 code.env #rows·begin-list begin-list-def.routine code.calls-rows·begin-list (begin-list-thm.met 𝓤 H 𝓜 𝓖 𝓡))
+    (cited 𝓤 H (Begin 𝓤 H (𝓖 .A) (𝓜 .mem) (𝓡 .run)) 𝓜 𝓡 code.env #steps·begin-list begin-list-def.routine code.calls-steps·begin-list (begin-list-thm.met 𝓤 H 𝓜 𝓖 𝓡))
     (cited 𝓤 H (Read 𝓤 H (𝓖 .A) (𝓜 .mem) (𝓡 .run)) 𝓜 𝓡 code.env #rows·read-step read-step-def.routine code.calls-rows·read-step (read-step-thm.met 𝓤 H 𝓜 𝓖 𝓡))
     (cited 𝓤 H (Answer 𝓤 H (𝓖 .A) (𝓜 .mem) (𝓡 .run)) 𝓜 𝓡 code.env #rows·answer-list answer-list-def.routine code.calls-rows·answer-list (answer-list-thm.met 𝓤 H 𝓜 𝓖 𝓡)))

@@ -1,6 +1,5 @@
 -- `seats::seating::find_seat` meets its contract. Assumes nothing.
 use Rattle.seats.specs.Seating.{seat-at}
-use Prim.Native.Nat.{_-_}
 use borrow.Author.Needs.{needs}
 use Rattle.seats.proofs.seating.find_seat.Statement.{statement}
 use Rattle.seats.proofs.seating.find_seat.Tie as tie
