@@ -53,6 +53,11 @@ fn hand_value(file: &[u8], v: Value, out: &mut [u8]) -> Handed
             section: 0,
             line: 0,
         }),
+        Value::Missing => Handed::Refused(Refusal {
+            number: 11,
+            section: 0,
+            line: 0,
+        }),
         Value::Words(x) => hand_words(file, x, out),
     }
 }
