@@ -6,6 +6,9 @@ use Rattle.handing.proofs.texts.hand_value.Tie as tie
 enum-told : tie.Need-enum-told
 enum-told c = search needs
 
+enum-told-2 : tie.Need-enum-told-2
+enum-told-2 c = search needs
+
 enum-known-v : tie.Need-enum-known-v
 enum-known-v c = search needs
 
@@ -15,12 +18,15 @@ hand-words-requires c κs = rw (c .before .before .v .given .1) at (c .before .b
 returns : tie.Need-returns
 returns c = rw (c .enum-told .given .1) (record { answer = refl; left = refl })
 
+returns-2 : tie.Need-returns-2
+returns-2 c = rw (c .enum-told2 .given .1) (record { answer = refl; left = refl })
+
 same-length : tie.Need-same-length
 same-length c = search needs
 
-returns-2 : tie.Need-returns-2
-returns-2 c = rw (c .before .before .before .before .before .v .given .1) (c .before .before .hand-words .ensures)
+returns-3 : tie.Need-returns-3
+returns-3 c = rw (c .before .before .before .before .before .v .given .1) (c .before .before .hand-words .ensures)
 
 pub hand-value-spec : {M : Type 1} → statement M
 hand-value-spec =
-    tie.close (tie.spec enum-told enum-known-v hand-words-requires returns same-length returns-2)
+    tie.close (tie.spec enum-told enum-told-2 enum-known-v hand-words-requires returns returns-2 same-length returns-3)
