@@ -308,7 +308,7 @@ pub const NAMES: [u8; LETTERS] = *b"BASIS_VERSION\
 // Where each name begins, after a name of no bytes; the last ends where they all do.
 const WORDS: usize = 73;
 
-const STARTS: [usize; 74] = [
+const STARTS: [u16; 74] = [
     0,
     0,
     13,

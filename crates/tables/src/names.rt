@@ -9,6 +9,12 @@ use crate::WORDS;
 use crate::columns::find_entry;
 use page::Span;
 
+fn widen(x: u16) -> usize
+    ensures { λ r. ⌜ r ≡ x ⌝ }
+{
+    x as usize
+}
+
 // A name's place in NAMES.
 pub fn find_word(n: usize) -> Span
     ensures { λ r. ⌜ Reads r (word n) ⌝ }
@@ -16,8 +22,8 @@ pub fn find_word(n: usize) -> Span
     if n < WORDS {
         let starts = STARTS;
         return Span {
-            from: starts[n],
-            to: starts[n + 1],
+            from: widen(starts[n]),
+            to: widen(starts[n + 1]),
         };
     }
     Span { from: 0, to: 0 }
