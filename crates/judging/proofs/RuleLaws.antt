@@ -4,8 +4,6 @@ use mathlib.Core.Bool.{Bool, true, false}
 use mathlib.Core.List.{List, [], _∷_, _++_, List·Memᴰ, List·Memᴰ·head, List·Memᴰ·tail, Memᴰ·append-left, Memᴰ·append-right}
 use Prim.Native.Nat.{ℕ, zero, suc, _+_, _≤_}
 use native.Mathlib.Omega.{arith}
-use lib.ListN.{length, getD}
-use borrow.Author.Tests.{eq-eqb, ne-eqb}
 use Rattle.page.specs.Bytes.{Bytes, pick}
 use Rattle.page.specs.Tables.{Rule, points-differ, feeder-combined, rule-number, WIDEST, column-at, width, rules}
 use Rattle.page.specs.Section.{first-of, amount-at, own-feeder, foreign-feeder, broken, first-broken}

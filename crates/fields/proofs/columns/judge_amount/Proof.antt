@@ -1,6 +1,5 @@
 -- `fields::columns::judge_amount` meets its contract. Assumes nothing.
 use mathlib.Core.Path.{sym}
-use borrow.Author.Needs.{needs}
 use Rattle.fields.proofs.ColumnLaws.{number-under, number-over, number-fits}
 use Rattle.fields.proofs.columns.judge_amount.Statement.{statement}
 use Rattle.fields.proofs.columns.judge_amount.Tie as tie

@@ -1,7 +1,6 @@
 -- `judging::rules::judge_feeder` meets its contract. Assumes nothing.
 use Rattle.judging.specs.Judging.{broken-by}
 use Rattle.judging.proofs.RuleLaws.{feeder-broken}
-use borrow.Author.Needs.{needs}
 use Rattle.judging.proofs.rules.judge_feeder.Statement.{statement}
 use Rattle.judging.proofs.rules.judge_feeder.Tie as tie
 

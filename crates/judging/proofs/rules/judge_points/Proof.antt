@@ -1,7 +1,6 @@
 -- `judging::rules::judge_points` meets its contract. Assumes nothing.
 use Rattle.judging.specs.Judging.{broken-by}
 use Rattle.judging.proofs.RuleLaws.{points-broken}
-use borrow.Author.Needs.{needs}
 use Rattle.judging.proofs.rules.judge_points.Statement.{statement}
 use Rattle.judging.proofs.rules.judge_points.Tie as tie
 

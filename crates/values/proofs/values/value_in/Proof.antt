@@ -1,7 +1,6 @@
 -- `values::values::value_in` meets its contract. Assumes nothing.
 use Prim.Native.Nat.{_-_}
 use mathlib.Core.Path.{_∙_}
-use native.Mathlib.Omega.{arith}
 use borrow.Author.Needs.{needs}
 use Rattle.tables.specs.Orders.{held}
 use Rattle.values.proofs.StartLaws.{place-few, column-value}
