@@ -14,7 +14,7 @@ use Rattle.page.specs.Lines.{allowed}
 use Rattle.page.specs.Tables.{column-at, width}
 use Rattle.page.specs.Cut.{sections}
 use Rattle.page.specs.Head.{latinOf}
-use Rattle.page.specs.Records.{Datum, number, words, table-of}
+use Rattle.page.specs.Records.{Datum, number, missing, words, table-of}
 use Rattle.page.specs.Model.{modelOf, datum-at}
 use Rattle.page.specs.Answers.{refusal, sound, earlier, refuse-if}
 use Rattle.page.specs.File.{limit, any, file-refusal}
@@ -124,6 +124,7 @@ module _ (s : Bytes) (i r f : ℕ) (sent : Bytes) (room : ℕ) where
     where
       by : (d : Datum) → datum-at i r f (modelOf s) ≡ d → Decides (IsEmpty s i r f) (empty-datum d)
       by (number n) e = fails (λ h. let z : number n ≡ words (h .0) [] = sym e ∙ h .1 in false≢true (cc))
+      by missing e = fails (λ h. let z : missing ≡ words (h .0) [] = sym e ∙ h .1 in false≢true (cc))
       by (words o u) e = when (λ (h : u ≡ []). (o, e ∙ ap (words o) h)) (λ h. let z : words o u ≡ words (h .0) [] = sym e ∙ h .1 in cc) (nothing-d u)
 
   room-d : Decides (TooLong (fill-form s i r f t) room) (ltb room (length (fill-form s i r f t)) || ltb limit (length (fill-form s i r f t)))

@@ -1,5 +1,5 @@
--- The value that is handed out is the file's: of a sound section, the number or the text that its record holds there, with its owner.
--- Assumes nothing.
+-- The value that is handed out is the file's: of a sound section, the number that its record holds there, or that it is missing, or the text
+-- with its owner. Assumes nothing.
 use mathlib.Core.Path.{_≡_, refl, ap, sym, _∙_}
 use mathlib.Core.Bool.{Bool, true, false, not, false≢true}
 use mathlib.Core.List.{List, [], _∷_, _++_, map, append-assoc}
@@ -52,7 +52,8 @@ use Rattle.page.proofs.OrderLaws.{arranged-long, place-in, by-column-at}
 use Rattle.page.proofs.TextLaws.{words-there, worded-some}
 use Rattle.laws.specs.Begins.{begins}
 use Rattle.grammar.specs.Marks.{marks-at}
-use Rattle.calls.specs.Handed.{StandsFor, a-number, a-text}
+use Rattle.calls.specs.Handed.{StandsFor, a-number, no-number, a-text}
+use Rattle.grammar.proofs.Values.{number-there}
 use Rattle.grammar.proofs.Readings.{handed-denoted, denoted-order, sound-arranged}
 use Rattle.grammar.proofs.Counts.{count-handed}
 use Rattle.laws.proofs.Sections.{sections-begin}
@@ -180,7 +181,11 @@ values-at {ms} {i} (a-field x g) (suc k) h =
 
 number-read : (c : Column) (f : Bytes) (n : ℕ) → c .text ≡ false → numberOf f ≡ N.Plus n → c .lo ≤ n → n ≤ c .hi → fieldOf c f ≡ F.Number n
 unfolding fieldOf number-field
-number-read c f n t e l h = rw (t, e, le-leb (c .lo) n l, le-leb n (c .hi) h)
+number-read c f n t e l h = rw (t, number-there (c .optional) f e, e, le-leb (c .lo) n l, le-leb n (c .hi) h)
+
+missing-read : (c : Column) (f : Bytes) → c .text ≡ false → c .optional ≡ true → f ≡ [] → fieldOf c f ≡ F.Missing
+unfolding fieldOf
+missing-read c f t o e = rw (t, o, e)
 
 text-read : (c : Column) (f u : Bytes) → c .text ≡ true → record-text f ≡ some u → length u ≤ c .hi → fieldOf c f ≡ F.Text (own-span f)
 unfolding fieldOf text-field
@@ -295,6 +300,7 @@ module _ (s : Bytes) (i r f : ℕ) (g : Given s i r f) where
     where
       by : {d : Datum} → Holds (owner-by the-marks f) (column-at the-table (f - 1)) the-field d → StandsFor s (value-at here r f) d
       by (Grammar.a-number {n} a b c e) = rw (value-reads (F.Number n) (number-read (column-at the-table (f - 1)) the-field n a b c e)) a-number
+      by (Grammar.no-number a b c) = rw (value-reads F.Missing (missing-read (column-at the-table (f - 1)) the-field a b c)) no-number
       by (Grammar.a-text {t} a b c) =
           rw (value-reads (F.Text (own-span the-field)) (text-read (column-at the-table (f - 1)) the-field t a b c), ← owner-is) (a-text {x = the-text} (text-span t b))
 
@@ -309,6 +315,7 @@ module _ (s : Bytes) (i r f : ℕ) (g : Given s i r f) where
     where
       by : (d : Datum) → datum-at i r f (modelOf s) ≡ d → Holds (owner-by the-marks f) (column-at the-table (f - 1)) the-field d → TextSays
       by d e (Grammar.a-number a b c k) = absurd (false≢true (sym a ∙ h))
+      by d e (Grammar.no-number a b c) = absurd (false≢true (sym a ∙ h))
       by d e (Grammar.a-text {t} a b c) =
           record {
             datum = e ∙ rw (b, owner-is);

@@ -82,6 +82,7 @@ cells-handed s i e = cells-are (section-at s i) ∙ ap (table-cells (section-at 
 cell-length : (v : Value) → length (cell-of v) ≡ 3
 unfolding cell-of
 cell-length (Va.Number n) = refl
+cell-length Va.Missing = refl
 cell-length (Va.Words x) = refl
 
 row-length : (x : Section) (r f n : ℕ) → length (row-cells x r f n) ≡ n * 3

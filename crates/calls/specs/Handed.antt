@@ -6,7 +6,7 @@ use lib.ListN.{length, take, drop}
 use Rattle.page.specs.Bytes.{Bytes}
 use Rattle.page.specs.Tables.{width}
 use Rattle.page.specs.Cut.{Section}
-use Rattle.page.specs.Records.{Datum, number, words, table-of}
+use Rattle.page.specs.Records.{Datum, number, missing, words, table-of}
 use Rattle.page.specs.Form.{doubled}
 use Rattle.page.specs.Reading.{value-at}
 use Rattle.page.specs.Handing.{cell-of}
@@ -14,10 +14,11 @@ use Rattle.page.specs.declared.Text.{Text}
 use Rattle.page.specs.declared.Value.{Value}
 use Rattle.page.specs.declared.Value.the-variants as Va
 
--- a value handed out of the bytes s, and the file's value: the number itself; of a text its owner, and the bytes of its span, in which
--- "a doubled quote inside stands for one"
+-- a value handed out of the bytes s, and the file's value: the number itself, or that it is missing; of a text its owner, and the bytes of
+-- its span, in which "a doubled quote inside stands for one"
 pub data StandsFor (s : Bytes) : Value → Datum → Type 0 where
   a-number : {n : ℕ} → StandsFor s (Va.Number n) (number n)
+  no-number : StandsFor s Va.Missing missing
   a-text : {x : Text} {u : Bytes} → take (x .to - x .from) (drop (x .from) s) ≡ doubled u → StandsFor s (Va.Words x) (words (x .owner) u)
 
 -- the values of n columns of record r, from column f, as cells; and those of n records, from record r

@@ -11,7 +11,7 @@ use lib.ListN.{length, take, drop, length-append}
 use Rattle.page.specs.Bytes.{Bytes, pick, until}
 use Rattle.page.specs.Lines.{lines, joined, content-size, content, command, Rec}
 use Rattle.page.specs.Fields.{fields}
-use Rattle.page.specs.Tables.{width}
+use Rattle.page.specs.Tables.{WIDEST, width}
 use Rattle.page.specs.Records.{table-of, atr-in}
 use Rattle.page.specs.Rules.{times}
 use Rattle.page.specs.Answers.{refusal, sound, earlier, refuse-if, written}
@@ -101,7 +101,7 @@ module _ (s : Bytes) (i at : ℕ) (b : Begins s i at) (x : Row) (q : x ≡ row-f
         let p = prefix-lines s at (b .inside) (at + row-from s at .length) refl in
         omega (arith, record-count, b .short, p .0)
 
-    pub cells-few : (n : ℕ) → n ≤ 24 → x .records * n ≤ limit * 24
+    pub cells-few : (n : ℕ) → n ≤ WIDEST * 3 → x .records * n ≤ limit * (WIDEST * 3)
     cells-few n h = mul-le-mul records-few h
 
     module _ (t e : ℕ) (g : t ≡ table-of (section-from s at .lines)) (k : e ≡ at + x .length) where

@@ -32,6 +32,7 @@ use Rattle.values.proofs.ValueLaws.{placed-is}
 pub cell-length : (v : Value) → length (cell-of v) ≡ 3
 unfolding cell-of
 cell-length (Va.Number n) = refl
+cell-length Va.Missing = refl
 cell-length (Va.Words x) = refl
 
 module _ (t : ℕ) (o : Order) (x : Standing) (n : ℕ) where

@@ -43,6 +43,7 @@ fn put_value(cells: &mut [u64], o: usize, v: Value) -> usize
 {
     match v {
         Value::Number(n) => put_three(cells, o, 0, n, 0),
+        Value::Missing => put_three(cells, o, 3, 0, 0),
         Value::Words(x) => {
             let owner = x.owner;
             put_three(cells, o, number_owner(owner), x.from as u64, x.to as u64)

@@ -21,7 +21,7 @@ use Rattle.page.proofs.OrderLaws.{arranged-below, place-in}
 use Rattle.tables.specs.Arrays.{fill}
 use Rattle.tables.specs.Keys.{by-key, key-columns, refer-columns, flags}
 use Rattle.choices.specs.Choices.{coded, kind-of, total, rank, choice-of, key-choice}
-use Rattle.tables.proofs.ArrayLaws.{fill-at}
+use Rattle.tables.proofs.ArrayLaws.{fill-at, map-at}
 use Rattle.tables.proofs.ReferenceLaws.{reference-test}
 
 -- the columns taken before a column
@@ -180,11 +180,6 @@ any-none p d xs e j h = by (p (getD xs j d)) refl
     by true q = absurd (false≢true (sym e ∙ any-yes p d xs j h q))
     by false q = refl
 
-map-in : (p : Named → Bool) (cs : List Named) (c : ℕ) → c < length cs → getD (map p cs) c false ≡ p (getD cs c no-column)
-map-in p [] c h = absurd (omega arith)
-map-in p (x ∷ cs) zero h = refl
-map-in p (x ∷ cs) (suc c) h = map-in p cs c (omega arith)
-
 kinds-none : (bs : List Bool) (t : ℕ) (o : Order) → eqb (choice-of bs t o .kinds) 0 ≡ not (any (λ (c : ℕ). getD bs c false) o)
 unfolding choice-of coded any kind-of
 kinds-none bs t [] = refl
@@ -208,7 +203,7 @@ module _ (p : Column → Bool) (t : ℕ) (o : Order) (a : arranged (width t) o �
   unfolding key-columns width
   in-key-is c h =
       fill-at false false WIDEST (map (λ (c : Named). p (c .column)) (columns t)) c (omega (arith, width-le t))
-      ∙ map-in (λ (c : Named). p (c .column)) (columns t) c h
+      ∙ map-at (λ (c : Named). p (c .column)) (columns t) c no-column false h
 
   keyed : any in-key o ≡ has-key p t
   unfolding has-key width

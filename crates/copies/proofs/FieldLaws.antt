@@ -14,8 +14,8 @@ use Rattle.page.specs.Fields.{numberOf}
 use Rattle.page.specs.Tables.{Named, all-tables, no-column, columns, column-at, width}
 use Rattle.page.specs.Order.{Order, arranged, standing, place, by-column}
 use Rattle.page.specs.Marks.{owner-of}
-use Rattle.page.specs.Section.{record-text, fieldOf, field-number, first-wrong, amount}
-use Rattle.page.specs.Records.{number, words, own-bytes, datumOf}
+use Rattle.page.specs.Section.{record-text, left-out, fieldOf, field-number, first-wrong, amount}
+use Rattle.page.specs.Records.{Datum, number, missing, words, own-bytes, datumOf}
 use Rattle.page.specs.Model.{strip-datum}
 use Rattle.page.specs.Form.{doubled, quoted, decimal, datum-text, mark-line}
 use Rattle.page.specs.declared.LineEnd.{LineEnd}
@@ -74,11 +74,20 @@ module _ (strip : Bool) (f m i : ℕ) (t : Bytes) (c : Column) (w : Bytes) where
   field-filled e = rw (eq-eqb f i e)
 
   module _ (n : f ≡ i → ⊥) where
-    pub field-amount : c .text ≡ false → (a : ℕ) → a ≡ amount (numberOf w) → decimal a ≡ datum-text (datum-by strip f t m i c w)
+    pub field-amount : c .text ≡ false → left-out (c .optional) w ≡ false → (a : ℕ) → a ≡ amount (numberOf w)
+        → decimal a ≡ datum-text (datum-by strip f t m i c w)
     unfolding datum-by changed-datum datum-text datumOf strip-datum
-    field-amount x a e = rw (ne-eqb f i n, x, e) (by strip)
+    field-amount x l a e = rw (ne-eqb f i n, x, l, e) (by strip)
       where
         by : (s : Bool) → decimal (amount (numberOf w)) ≡ datum-text (pick s (strip-datum (number (amount (numberOf w)))) (number (amount (numberOf w))))
+        by true = refl
+        by false = refl
+
+    pub field-missing : c .text ≡ false → left-out (c .optional) w ≡ true → [] ≡ datum-text (datum-by strip f t m i c w)
+    unfolding datum-by changed-datum datum-text datumOf strip-datum
+    field-missing x l = rw (ne-eqb f i n, x, l) (by strip)
+      where
+        by : (s : Bool) → [] ≡ datum-text (pick s (strip-datum missing) missing)
         by true = refl
         by false = refl
 
@@ -94,21 +103,17 @@ module _ (strip : Bool) (f m i : ℕ) (t : Bytes) (c : Column) (w : Bytes) where
 
     pub datum-kept : (b : Bool) → b ≡ (strip && eqb m i) → b ≡ false → datumOf (owner-of m i) c w ≡ datum-by strip f t m i c w
     unfolding datum-by changed-datum datumOf strip-datum owner-of
-    datum-kept b e y = rw (ne-eqb f i n) (by strip (eqb m i) (c .text) (sym e ∙ y))
+    datum-kept b e y = rw (ne-eqb f i n) (by strip (eqb m i) (c .text) (left-out (c .optional) w) (sym e ∙ y))
       where
-        u : Bytes
-        u = own-bytes (record-text w)
+        kept : Bool → Bool → Bool → Datum
+        kept d x l = pick x (words (pick d O.Suggestion O.Operator) (own-bytes (record-text w))) (pick l missing (number (amount (numberOf w))))
 
-        a : ℕ
-        a = amount (numberOf w)
-
-        by : (s d x : Bool) → (s && d) ≡ false
-            → pick x (words (pick d O.Suggestion O.Operator) u) (number a)
-            ≡ pick s (strip-datum (pick x (words (pick d O.Suggestion O.Operator) u) (number a))) (pick x (words (pick d O.Suggestion O.Operator) u) (number a))
-        by true true x z = absurd (false≢true (sym z))
-        by true false true z = refl
-        by true false false z = refl
-        by false d x z = refl
+        by : (s d x l : Bool) → (s && d) ≡ false → kept d x l ≡ pick s (strip-datum (kept d x l)) (kept d x l)
+        by true true x l z = absurd (false≢true (sym z))
+        by true false true l z = refl
+        by true false false true z = refl
+        by true false false false z = refl
+        by false d x l z = refl
 
     field-words : c .text ≡ true → (b : Bool) → b ≡ (strip && eqb m i) → b ≡ false → quoted (own-bytes (record-text w)) ≡ datum-text (datum-by strip f t m i c w)
     unfolding datum-text datumOf

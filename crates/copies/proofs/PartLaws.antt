@@ -11,8 +11,8 @@ use Rattle.page.specs.Bytes.{Bytes, bytes, pick}
 use Rattle.page.specs.Fields.{numberOf}
 use Rattle.page.specs.Tables.{Named}
 use Rattle.page.specs.Marks.{owner-of}
-use Rattle.page.specs.Section.{record-text, amount}
-use Rattle.page.specs.Records.{number, words, Record, own-bytes, datumOf, valuesOf}
+use Rattle.page.specs.Section.{record-text, left-out, amount}
+use Rattle.page.specs.Records.{number, missing, words, Record, own-bytes, datumOf, valuesOf}
 use Rattle.page.specs.Model.{strip-datum}
 use Rattle.page.specs.Form.{separated, line, line-end, datum-text, mark-line, mark-of, marks, record-form}
 use Rattle.page.specs.declared.LineEnd.{LineEnd}
@@ -33,22 +33,26 @@ pub one-further : (f k : ℕ) → f - k - 1 ≡ f - suc k
 one-further f k = omega arith
 
 -- a value's mark
-value-mark : (ends : LineEnd) (here strip text own : Bool) (i : ℕ) (t u : Bytes) (n : ℕ)
-    → mark-of ends i (changed-datum here strip t (pick text (words (pick own O.Suggestion O.Operator) u) (number n)))
+value-mark : (ends : LineEnd) (here strip text own none : Bool) (i : ℕ) (t u : Bytes) (n : ℕ)
+    → mark-of ends i (changed-datum here strip t (pick text (words (pick own O.Suggestion O.Operator) u) (pick none missing (number n))))
     ≡ pick (here || (not strip && (own && text))) (mark-line ends i) []
 unfolding mark-of changed-datum strip-datum
-value-mark ends true strip text own i t u n = refl
-value-mark ends false true true true i t u n = refl
-value-mark ends false true true false i t u n = refl
-value-mark ends false true false own i t u n = refl
-value-mark ends false false true true i t u n = refl
-value-mark ends false false true false i t u n = refl
-value-mark ends false false false true i t u n = refl
-value-mark ends false false false false i t u n = refl
+value-mark ends true strip text own none i t u n = refl
+value-mark ends false true true true none i t u n = refl
+value-mark ends false true true false none i t u n = refl
+value-mark ends false true false own true i t u n = refl
+value-mark ends false true false own false i t u n = refl
+value-mark ends false false true true none i t u n = refl
+value-mark ends false false true false none i t u n = refl
+value-mark ends false false false true true i t u n = refl
+value-mark ends false false false true false i t u n = refl
+value-mark ends false false false false true i t u n = refl
+value-mark ends false false false false false i t u n = refl
 
 mark-is : (ends : LineEnd) (strip : Bool) (f m i : ℕ) (t : Bytes) (c : Column) (w : Bytes) → mark-of ends i (datum-by strip f t m i c w) ≡ mark-by ends strip f m i c
 unfolding mark-by marked-by datum-by datumOf owner-of
-mark-is ends strip f m i t c w = value-mark ends (eqb f i) strip (c .text) (eqb m i) i t (own-bytes (record-text w)) (amount (numberOf w))
+mark-is ends strip f m i t c w =
+    value-mark ends (eqb f i) strip (c .text) (eqb m i) (left-out (c .optional) w) i t (own-bytes (record-text w)) (amount (numberOf w))
 
 module _ (ends : LineEnd) (strip : Bool) (f m : ℕ) (t : Bytes) where
   abbrev values : ℕ → List Named → List Bytes → Record

@@ -1,4 +1,4 @@
--- A field that passed its column's rules is read as a text or a number, and what is read is what is written. Assumes nothing.
+-- A field that passed its column's rules is read as a text, a number or a missing number, and what is read is what is written. Assumes nothing.
 use mathlib.Core.Path.{_≡_, refl, ap, sym, _∙_}
 use mathlib.Core.Bool.{Bool, true, false, _&&_}
 use mathlib.Core.List.{[], _∷_, _++_}
@@ -10,7 +10,7 @@ use lib.Dec.{eqb, leb}
 use lib.ListN.{length, getD, take, drop}
 use Rattle.page.specs.Bytes.{Bytes, pick, part, moved, trimOf, keep, space, unpadded}
 use Rattle.page.specs.Fields.{field-size, fields, textOf, numberOf}
-use Rattle.page.specs.Section.{Wording, own-of, wordsOf, record-text, text-field, number-field, fieldOf, field-number, amount}
+use Rattle.page.specs.Section.{Wording, own-of, wordsOf, record-text, text-field, number-field, left-out, fieldOf, field-number, amount}
 use Rattle.page.specs.Records.{own-bytes}
 use Rattle.page.specs.Places.{field-place, span-from, field-span}
 use Rattle.page.specs.Reading.{later-field}
@@ -43,11 +43,12 @@ stored f x e =
 -- what a field that passed its column's rules is read as
 data Read (c : Column) (f : Bytes) : Field → Type 0 where
   a-text : (x : Wording) → c .text ≡ true → wordsOf f ≡ some x → length (x .own) ≤ c .hi → Read c f (F.Text (x .span))
-  a-number : (n : ℕ) → c .text ≡ false → n ≡ amount (numberOf f) → Read c f (F.Number n)
+  a-number : (n : ℕ) → c .text ≡ false → left-out (c .optional) f ≡ false → n ≡ amount (numberOf f) → Read c f (F.Number n)
+  no-number : c .text ≡ false → left-out (c .optional) f ≡ true → Read c f F.Missing
 
 read-of : (c : Column) (f : Bytes) → field-number (fieldOf c f) ≡ 0 → Read c f (fieldOf c f)
 unfolding fieldOf text-field number-field field-number
-read-of c f z = by (c .text) refl z
+read-of c f z = by (c .text) (left-out (c .optional) f) refl refl z
   where
     sized : (x : Wording) → c .text ≡ true → wordsOf f ≡ some x → (b : Bool) → leb (length (x .own)) (c .hi) ≡ b
         → field-number (pick b (F.Text (x .span)) (F.Refused 13)) ≡ 0 → Read c f (pick b (F.Text (x .span)) (F.Refused 13))
@@ -58,20 +59,24 @@ read-of c f z = by (c .text) refl z
     worded-so k none e z = absurd (omega arith)
     worded-so k (some x) e z = sized x k e (leb (length (x .own)) (c .hi)) refl z
 
-    ranged : (n : ℕ) → c .text ≡ false → n ≡ amount (numberOf f) → (b : Bool) → field-number (pick b (F.Number n) (F.Refused 13)) ≡ 0
-        → Read c f (pick b (F.Number n) (F.Refused 13))
-    ranged n k e true z = a-number n k e
-    ranged n k e false z = absurd (omega arith)
+    ranged : (n : ℕ) → c .text ≡ false → left-out (c .optional) f ≡ false → n ≡ amount (numberOf f) → (b : Bool)
+        → field-number (pick b (F.Number n) (F.Refused 13)) ≡ 0 → Read c f (pick b (F.Number n) (F.Refused 13))
+    ranged n k l e true z = a-number n k l e
+    ranged n k l e false z = absurd (omega arith)
 
-    counted : c .text ≡ false → (n : Number) → numberOf f ≡ n → field-number (number-field (c .lo) (c .hi) n) ≡ 0 → Read c f (number-field (c .lo) (c .hi) n)
-    counted k (N.Plus n) e z = ranged n k (sym (ap amount e)) (leb (c .lo) n && leb n (c .hi)) z
-    counted k (N.Minus n) e z = absurd (omega arith)
-    counted k N.Nothing e z = absurd (omega arith)
+    counted : c .text ≡ false → left-out (c .optional) f ≡ false → (n : Number) → numberOf f ≡ n → field-number (number-field (c .lo) (c .hi) n) ≡ 0
+        → Read c f (number-field (c .lo) (c .hi) n)
+    counted k l (N.Plus n) e z = ranged n k l (sym (ap amount e)) (leb (c .lo) n && leb n (c .hi)) z
+    counted k l (N.Minus n) e z = absurd (omega arith)
+    counted k l N.Nothing e z = absurd (omega arith)
 
-    by : (b : Bool) → c .text ≡ b → field-number (pick b (text-field (c .hi) (wordsOf f)) (number-field (c .lo) (c .hi) (numberOf f))) ≡ 0
-        → Read c f (pick b (text-field (c .hi) (wordsOf f)) (number-field (c .lo) (c .hi) (numberOf f)))
-    by true k z = worded-so k (wordsOf f) refl z
-    by false k z = counted k (numberOf f) refl z
+    read : Bool → Bool → Field
+    read b d = pick b (text-field (c .hi) (wordsOf f)) (pick d F.Missing (number-field (c .lo) (c .hi) (numberOf f)))
+
+    by : (b d : Bool) → c .text ≡ b → left-out (c .optional) f ≡ d → field-number (read b d) ≡ 0 → Read c f (read b d)
+    by true d k l z = worded-so k (wordsOf f) refl z
+    by false true k l z = no-number k l
+    by false false k l z = counted k l (numberOf f) refl z
 
 pub text-opens : (c : Column) (f : Bytes) → c .text ≡ true → field-number (fieldOf c f) ≡ 0 → getD f 0 0 ≡ 34
 unfolding fieldOf wordsOf textOf text-field field-number
@@ -150,21 +155,33 @@ module _ (c : Column) (w : Bytes) (at : ℕ) (h : at ≤ length w) (ok : field-n
             raw = r ∙ ap (λ (o : Option Wording). quoted (own-bytes (own-of o))) (sym q);
             short = omega (arith, ap length r, quoted-length (x .own));
           }
-      by v (a-number n k q) e = absurd (let y : _≡_ {A = ℕ} 0 1 = cc in omega arith)
+      by v (a-number n k l q) e = absurd (let y : _≡_ {A = ℕ} 0 1 = cc in omega arith)
+      by v (no-number k l) e = absurd (let y : _≡_ {A = ℕ} 0 1 = cc in omega arith)
 
-  pub number-read : (n : ℕ) → F.Number n ≡ later-field (g .from) (fieldOf c f) → (c .text ≡ false) × (n ≡ amount (numberOf f))
+  pub number-read : (n : ℕ) → F.Number n ≡ later-field (g .from) (fieldOf c f)
+      → (c .text ≡ false) × (left-out (c .optional) f ≡ false) × (n ≡ amount (numberOf f))
   number-read n e = by (fieldOf c f) (read-of c f ok) e
     where
-      by : (v : Field) → Read c f v → F.Number n ≡ later-field (g .from) v → (c .text ≡ false) × (n ≡ amount (numberOf f))
+      by : (v : Field) → Read c f v → F.Number n ≡ later-field (g .from) v → (c .text ≡ false) × (left-out (c .optional) f ≡ false) × (n ≡ amount (numberOf f))
       by v (a-text x k q l) e = absurd (let y : _≡_ {A = ℕ} 0 1 = cc in omega arith)
-      by v (a-number i k q) e = (k, let y : n ≡ i = cc in y ∙ q)
+      by v (a-number i k l q) e = (k, l, let y : n ≡ i = cc in y ∙ q)
+      by v (no-number k l) e = absurd (let y : _≡_ {A = ℕ} 0 1 = cc in omega arith)
+
+  pub missing-read : F.Missing ≡ later-field (g .from) (fieldOf c f) → (c .text ≡ false) × (left-out (c .optional) f ≡ true)
+  missing-read e = by (fieldOf c f) (read-of c f ok) e
+    where
+      by : (v : Field) → Read c f v → F.Missing ≡ later-field (g .from) v → (c .text ≡ false) × (left-out (c .optional) f ≡ true)
+      by v (a-text x k q l) e = absurd (let y : _≡_ {A = ℕ} 0 1 = cc in omega arith)
+      by v (a-number i k l q) e = absurd (let y : _≡_ {A = ℕ} 0 1 = cc in omega arith)
+      by v (no-number k l) e = (k, l)
 
   pub never-refused : (v : ℕ) → F.Refused v ≡ later-field (g .from) (fieldOf c f) → ⊥
   never-refused v e = by (fieldOf c f) (read-of c f ok) e
     where
       by : (x : Field) → Read c f x → F.Refused v ≡ later-field (g .from) x → ⊥
       by x (a-text y k q l) e = absurd (let z : _≡_ {A = ℕ} 0 1 = cc in omega arith)
-      by x (a-number n k q) e = absurd (let z : _≡_ {A = ℕ} 0 1 = cc in omega arith)
+      by x (a-number n k l q) e = absurd (let z : _≡_ {A = ℕ} 0 1 = cc in omega arith)
+      by x (no-number k l) e = absurd (let z : _≡_ {A = ℕ} 0 1 = cc in omega arith)
 
 -- the field at place p, from 0, of a record
 module _ (w : Bytes) (p : ℕ) (h : p < length (fields w)) where

@@ -14,7 +14,7 @@ use Rattle.page.specs.Bytes.{Bytes, bytes, pick, all, until, keep, space, no-sp
 use Rattle.page.specs.Fields.{parts-here, inside-after, field-size, fields, digit, digits, value, numberOf}
 use Rattle.page.specs.Tables.{Named}
 use Rattle.page.specs.Marks.{owner-of}
-use Rattle.page.specs.Section.{number-field, fieldOf, field-number, first-of, first-wrong, amount}
+use Rattle.page.specs.Section.{number-field, left-out, fieldOf, field-number, first-of, first-wrong, amount}
 use Rattle.page.specs.Records.{datumOf, valuesOf}
 use Rattle.page.specs.Form.{line-end, separated, decimal-in, decimal, datum-text, record-form}
 use Rattle.page.specs.declared.LineEnd.{LineEnd}
@@ -129,11 +129,16 @@ text-bare c w x ok s e =
 module _ (c : Column) (w : Bytes) (ok : field-number (fieldOf c w) ≡ 0) (s : stands w ≡ true) where
   field-stands : (o : Owner) → w ≡ datum-text (datumOf o c w)
   unfolding fieldOf datum-text datumOf
-  field-stands o = by (c .text) refl
+  field-stands o = by (c .text) (left-out (c .optional) w) refl refl
     where
-      by : (q : Bool) → c .text ≡ q → w ≡ datum-text (datumOf o c w)
-      by true x = rw x (text-whole c w x ok (text-bare c w x ok s))
-      by false x = rw x (number-stands (c .lo) (c .hi) w (rw x at ok) s)
+      empty : (f : Bytes) → length f ≡ 0 → f ≡ []
+      empty [] e = refl
+      empty (b ∷ f) e = absurd (omega arith)
+
+      by : (q l : Bool) → c .text ≡ q → left-out (c .optional) w ≡ l → w ≡ datum-text (datumOf o c w)
+      by true l x y = rw x (text-whole c w x ok (text-bare c w x ok s))
+      by false true x y = rw (x, y) (empty w (eqb-true (length w) 0 (and-right (c .optional) (eqb (length w) 0) y)))
+      by false false x y = rw (x, y) (number-stands (c .lo) (c .hi) w (rw (x, y) at ok) s)
 
 -- nothing is marked where no mark waits and no field is filled
 
@@ -174,6 +179,13 @@ spaced-of g n a b z s =
       is = drop-cons g 0 0 (omega arith) ∙ ap (λ (x : ℕ). x ∷ drop 1 g) a ∙ ap (λ (x : Bytes). 32 ∷ x) (sym t);
       field = ap stands t ∙ s;
     }
+
+-- and nothing
+pub spaced-nothing : (g : Bytes) → length g ≡ 1 → getD g 0 0 ≡ 32 → Spaced g
+unfolding trim keep until stands
+spaced-nothing [] n a = absurd (omega arith)
+spaced-nothing (b ∷ []) n a = rw a (record { is = refl; field = refl })
+spaced-nothing (b ∷ d ∷ g) n a = absurd (omega arith)
 
 -- a number that begins with no zero
 

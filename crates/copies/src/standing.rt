@@ -30,12 +30,22 @@ fn is_written(f: &[u8]) -> bool
     f[last] != 32
 }
 
+// The space before a field of nothing, as a missing number is written.
+fn is_space(g: &[u8]) -> bool
+    ensures { λ r. ⌜ (r ≡ true → Spaced (now (g .entry))) ⌝ }
+{
+    if g.len() != 1 {
+        return false;
+    }
+    g[0] == 32
+}
+
 // What stands between two `;`: "One space after each separating `;`, none elsewhere outside texts".
 fn is_spaced(g: &[u8]) -> bool
     ensures { λ r. ⌜ (r ≡ true → Spaced (now (g .entry))) ⌝ }
 {
     if g.len() < 2 {
-        return false;
+        return is_space(g);
     }
     let last = g.len() - 1;
     if g[0] != 32 {

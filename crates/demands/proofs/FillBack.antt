@@ -68,7 +68,7 @@ map-at f [] k d e h = absurd (omega arith)
 map-at f (x ∷ xs) zero d e h = refl
 map-at f (x ∷ xs) (suc k) d e h = map-at f xs k d e (omega arith)
 
-every-at : {A : Type 0} {Q : A → Type 0} {xs : List A} → Every Q xs → (k : ℕ) (d : A) → k < length xs → Q (getD xs k d)
+pub every-at : {A : Type 0} {Q : A → Type 0} {xs : List A} → Every Q xs → (k : ℕ) (d : A) → k < length xs → Q (getD xs k d)
 every-at none-left k d h = absurd (omega arith)
 every-at (one-more q qs) zero d h = q
 every-at (one-more q qs) (suc k) d h = every-at qs k d (omega arith)

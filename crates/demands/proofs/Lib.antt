@@ -12,3 +12,4 @@ pub mod Viable
 pub mod WrittenMarks
 pub mod Lexical
 pub mod PaddedTexts
+pub mod MissingNumbers

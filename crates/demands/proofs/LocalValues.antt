@@ -63,6 +63,7 @@ field-later : (k at : ℕ) (w : Owner) (x : Field) → valued w (later-field (k 
 unfolding later-value
 field-later k at w (F.Text sp) = ap Va.Words (rw (add-three k at (sp .from), add-three k at (sp .to)))
 field-later k at w (F.Number n) = refl
+field-later k at w F.Missing = refl
 field-later k at w (F.Refused v) = refl
 
 value-later : (k t : ℕ) (o : Order) (x : Standing) (f : ℕ) → value-in t o (later-standing k x) f ≡ later-value k (value-in t o x f)

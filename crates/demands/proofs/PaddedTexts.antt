@@ -14,7 +14,7 @@ use lib.Seq.{take-all, take-append-seam, length-take-le}
 use Rattle.page.specs.Bytes.{Bytes, keep, kept-after, space, unpadded}
 use Rattle.page.specs.Tables.{Named}
 use Rattle.page.specs.Section.{record-text}
-use Rattle.page.specs.Records.{Datum, number, words, Record}
+use Rattle.page.specs.Records.{Datum, number, missing, words, Record}
 use Rattle.page.specs.File.{file-refusal}
 use Rattle.page.specs.Model.{Content, modelOf, datum-at}
 use Rattle.page.specs.Form.{quoted}
@@ -23,7 +23,7 @@ use Rattle.page.specs.declared.Column.{Column}
 use Rattle.page.specs.declared.Owner.{Owner}
 use Rattle.page.proofs.ScanLaws.{keep-le, keep-on, keep-snoc, keep-stop, unpadded-length}
 use Rattle.page.proofs.TextLaws.{text-quoted, quoted-text, record-text-is, padded-of, record-trimmed}
-use Rattle.round.specs.Round.{Fits, a-number, a-text, a-suggestion, FitAll, no-value, a-value, SoundRecord, SoundContent}
+use Rattle.round.specs.Round.{Fits, a-number, no-number, a-text, a-suggestion, FitAll, no-value, a-value, SoundRecord, SoundContent}
 use Rattle.round.proofs.Round.{accepted-model}
 use Rattle.demands.specs.Lexical.{blanks, PaddedText}
 
@@ -93,10 +93,12 @@ padded-exactly f t = (there, back)
 -- a value that may be said
 abbrev Trimmed : Datum → Type 0
 Trimmed (number n) = Unit
+Trimmed missing = Unit
 Trimmed (words o t) = unpadded t ≡ t
 
 fits-trimmed : {latin : Bool} {c : Column} {v : Datum} → Fits latin c v → Trimmed v
 fits-trimmed (a-number x l h) = tt
+fits-trimmed (no-number x o) = tt
 fits-trimmed (a-text x l a e) = e
 fits-trimmed (a-suggestion x m p l a e) = e
 

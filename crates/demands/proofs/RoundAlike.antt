@@ -6,17 +6,17 @@ use Prim.Native.Nat.{ℕ, zero, suc, _+_}
 use lib.Dec.{eqb, leb}
 use lib.ListN.{getD}
 use borrow.Author.Tests.{not-true}
-use Rattle.page.specs.Tables.{Named, Reference, Rule, points-differ, Table, no-column, all-tables, table-at, columns, column-at, rules, number-at}
+use Rattle.page.specs.Tables.{Named, Reference, Rule, points-differ, feeder-combined, Table, no-column, all-tables, table-at, columns, column-at, rules, number-at}
 use Rattle.page.specs.Records.{number, Record}
 use Rattle.page.specs.Model.{Content}
 use Rattle.page.specs.File.{any, Filed, same-record, key-in, key-of, by-primary, by-second, repeats, referred, meets, lost}
-use Rattle.page.specs.Grammar.{Breaks, same-points}
+use Rattle.page.specs.Grammar.{OwnFeeder, ForeignFeeder, Breaks, same-points, neither-way}
 use Rattle.page.specs.declared.Column.{Column}
 use Rattle.round.specs.Round.{FitAll, no-value, a-value, SoundRecord}
 use Rattle.round.specs.RoundKeys.{breaks, placeless, filed-content, KeysHold}
 use Rattle.demands.specs.RoundAlike.{Pairs, no-pair, a-pair, Alike, alike-none, alike-same, alike-text, AlikeContent}
 use Rattle.page.proofs.TestLaws.{and-left, and-right}
-use Rattle.page.proofs.TableLaws.{each, table-test, column-test, Pointed, points-there}
+use Rattle.page.proofs.TableLaws.{each, table-test, column-test, Four, points-there, Fed, feeder-there}
 
 -- of the columns that may be marked: none is of a key or a reference, and each is a text of at least 40 bytes
 
@@ -164,7 +164,7 @@ keys-alike {cs} {ds} ps k =
       references = rw (← breaks-alike (λ before. lost (filed-content cs)) (λ before. lost (filed-content ds)) (λ xs ys q d e a. lost-alike fs d e a) no-pair fs) (k .references);
     }
 
--- a number's column may not be marked, so records that are alike break the same rules
+-- no column that a rule speaks of may be marked, so records that are alike break the same rules
 
 unmarked : (t k : ℕ) → getD (columns t) k no-column .column .text ≡ false → getD (columns t) k no-column .column .fillable ≡ false
 unfolding column-at each all-tables
@@ -175,16 +175,68 @@ unmarked t k e =
     by true x h g = sym h ∙ g
     by false x h g = refl
 
+abbrev Agree : Record → Record → ℕ → Type 0
+Agree vs us k = getD vs k (number 0) ≡ getD us k (number 0)
+
+-- the values by which a feeder is told
+record SameFeeder (vs us : Record) (c x : ℕ) : Type 0 where
+  centre : Agree vs us c
+  line : Agree vs us (c + 1)
+  direction : Agree vs us (c + 2)
+  stop : Agree vs us (c + 3)
+  line-id : Agree vs us x
+  direction-id : Agree vs us (x + 1)
+  area-id : Agree vs us (x + 2)
+
+own-alike : {vs us : Record} {c x : ℕ} → SameFeeder vs us c x → OwnFeeder vs c x → OwnFeeder us c x
+own-alike s o =
+    record {
+      centre = sym (s .centre) ∙ o .centre;
+      line = (o .line .0, sym (s .line) ∙ o .line .1);
+      stop = (o .stop .0, sym (s .stop) ∙ o .stop .1);
+      line-id = (o .line-id .0, sym (s .line-id) ∙ o .line-id .1);
+      direction-id = (o .direction-id .0, sym (s .direction-id) ∙ o .direction-id .1);
+      area-id = (o .area-id .0, sym (s .area-id) ∙ o .area-id .1);
+    }
+
+foreign-alike : {vs us : Record} {c x : ℕ} → SameFeeder vs us c x → ForeignFeeder vs c x → ForeignFeeder us c x
+foreign-alike s o =
+    record {
+      centre = (o .centre .0, sym (s .centre) ∙ o .centre .1);
+      line = sym (s .line) ∙ o .line;
+      direction = sym (s .direction) ∙ o .direction;
+      stop = sym (s .stop) ∙ o .stop;
+      line-id = (o .line-id .0, o .line-id .1, o .line-id .2, sym (s .line-id) ∙ o .line-id .3);
+      direction-id = (o .direction-id .0, o .direction-id .1, o .direction-id .2, sym (s .direction-id) ∙ o .direction-id .3);
+      area-id = (o .area-id .0, o .area-id .1, o .area-id .2, sym (s .area-id) ∙ o .area-id .3);
+    }
+
+feeder-same : (t : ℕ) {vs us : Record} (c x : ℕ) → Alike (columns t) vs us → Fed (columns t) c x → SameFeeder vs us c x
+feeder-same t c x a f =
+    record {
+      centre = value-alike c (unmarked t c (f .numbers .first .number)) a;
+      line = value-alike (c + 1) (unmarked t (c + 1) (f .numbers .second .number)) a;
+      direction = value-alike (c + 2) (unmarked t (c + 2) (f .numbers .third .number)) a;
+      stop = value-alike (c + 3) (unmarked t (c + 3) (f .numbers .fourth .number)) a;
+      line-id = value-alike x (f .line-id .own) a;
+      direction-id = value-alike (x + 1) (f .direction-id .own) a;
+      area-id = value-alike (x + 2) (f .area-id .own) a;
+    }
+
 rule-alike : (t : ℕ) {vs us : Record} → Alike (columns t) vs us → (r : Rule) → List·Memᴰ r (rules t) → Breaks us r → Breaks vs r
 rule-alike t {vs} {us} a (points-differ p) m b = by (points-there t p m) b
   where
-    by : Pointed (columns t) p → Breaks us (points-differ p) → Breaks vs (points-differ p)
+    by : Four (columns t) p → Breaks us (points-differ p) → Breaks vs (points-differ p)
     by q (same-points x y) =
-        let e = value-alike p (unmarked t p (q .type-from)) a in
-        let f = value-alike (p + 1) (unmarked t (p + 1) (q .number-from)) a in
-        let g = value-alike (p + 2) (unmarked t (p + 2) (q .type-to)) a in
-        let h = value-alike (p + 3) (unmarked t (p + 3) (q .number-to)) a in
+        let e = value-alike p (unmarked t p (q .first .number)) a in
+        let f = value-alike (p + 1) (unmarked t (p + 1) (q .second .number)) a in
+        let g = value-alike (p + 2) (unmarked t (p + 2) (q .third .number)) a in
+        let h = value-alike (p + 3) (unmarked t (p + 3) (q .fourth .number)) a in
         same-points {p = p} (cc) (cc)
+rule-alike t {vs} {us} a (feeder-combined c x) m b = by (feeder-same t c x a (feeder-there t c x m)) b
+  where
+    by : SameFeeder vs us c x → Breaks us (feeder-combined c x) → Breaks vs (feeder-combined c x)
+    by s (neither-way n w) = neither-way (λ o. n (own-alike s o)) (λ o. w (foreign-alike s o))
 
 -- a record that fits and is like one that may be said may be said
 pub sound-alike : (latin : Bool) (t : ℕ) {vs us : Record} → SoundRecord latin t vs → FitAll latin (columns t) us → Alike (columns t) vs us → SoundRecord latin t us

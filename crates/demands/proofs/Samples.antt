@@ -12,7 +12,7 @@ use lib.Seq.{ext-getD}
 use borrow.Author.Tests.{eq-eqb, ltb-true}
 use Rattle.page.specs.Bytes.{Bytes, bytes, pick, all}
 use Rattle.page.specs.Lines.{allowed, Frm, Rec}
-use Rattle.page.specs.Tables.{Rule, points-differ, TABLES, columns, column-at, rules, width}
+use Rattle.page.specs.Tables.{Rule, points-differ, feeder-combined, TABLES, columns, column-at, rules, width}
 use Rattle.page.specs.Order.{Order, upto, arranged, standing, place, by-column, column-in}
 use Rattle.page.specs.Section.{choose, format-ok, formats-ok, frm-step, no-bytes, record-text, first-wrong, first-broken, empty-marked, rec-verdict, rec-step, line-step, content-step, step}
 use Rattle.page.specs.File.{any}
@@ -117,6 +117,7 @@ formats-step latin t (c ∷ o) h a =
 
 other : ℕ → Rule → Bool
 other k (points-differ p) = eqb k (p + 3)
+other k (feeder-combined c x) = eqb k c
 
 unfoldable sample-at : ℕ → ℕ → Bytes
 sample-at t c =

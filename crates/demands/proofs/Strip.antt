@@ -5,7 +5,7 @@ use Prim.Native.Nat.{ℕ, _-_}
 use native.Mathlib.Omega.{arith}
 use lib.ListN.{getD, List·getD-map}
 use Rattle.page.specs.Bytes.{Bytes}
-use Rattle.page.specs.Records.{Datum, number, words, Record}
+use Rattle.page.specs.Records.{Datum, number, missing, words, Record}
 use Rattle.page.specs.Model.{Content, Model, strip-datum, strip-content, strip-model, datum-at}
 use Rattle.page.specs.declared.Owner.the-variants as O
 
@@ -13,10 +13,11 @@ use Rattle.page.specs.declared.Owner.the-variants as O
 pub strip-none : (v : Datum) (t : Bytes) → ¬ (strip-datum v ≡ words O.Suggestion t)
 unfolding strip-datum
 strip-none (number n) t e = let z : _≡_ {A = ℕ} 0 1 = cc in omega arith
+strip-none missing t e = let z : _≡_ {A = ℕ} 0 1 = cc in omega arith
 strip-none (words O.Operator u) t e = let z : _≡_ {A = ℕ} 0 1 = cc in omega arith
 strip-none (words O.Suggestion u) t e = let z : _≡_ {A = ℕ} 0 1 = cc in omega arith
 
--- a suggestion becomes an empty text of the operator's; a number and the operator's text stay
+-- a suggestion becomes an empty text of the operator's; a number, a missing one and the operator's text stay
 pub strip-suggestion : (t : Bytes) → strip-datum (words O.Suggestion t) ≡ words O.Operator []
 unfolding strip-datum
 strip-suggestion t = refl
@@ -29,9 +30,14 @@ pub strip-number : (n : ℕ) → strip-datum (number n) ≡ number n
 unfolding strip-datum
 strip-number n = refl
 
+pub strip-missing : strip-datum missing ≡ missing
+unfolding strip-datum
+strip-missing = refl
+
 pub strip-again : (v : Datum) → strip-datum (strip-datum v) ≡ strip-datum v
 unfolding strip-datum
 strip-again (number n) = refl
+strip-again missing = refl
 strip-again (words O.Operator t) = refl
 strip-again (words O.Suggestion t) = refl
 

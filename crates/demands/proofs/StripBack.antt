@@ -16,7 +16,7 @@ use Rattle.page.specs.Writing.{form-by, write-form, strip-form}
 use Rattle.page.specs.Rules.{Every, none-left, one-more}
 use Rattle.page.specs.declared.LineEnd.{LineEnd}
 use Rattle.page.specs.declared.LineEnd.the-variants as E
-use Rattle.round.specs.Round.{a-number, a-text, a-suggestion, FitAll, no-value, a-value, SoundRecord, SoundContent, SoundModel}
+use Rattle.round.specs.Round.{a-number, no-number, a-text, a-suggestion, FitAll, no-value, a-value, SoundRecord, SoundContent, SoundModel}
 use Rattle.round.specs.RoundKeys.{KeysHold}
 use Rattle.demands.specs.RoundAlike.{Pairs, no-pair, a-pair, Alike, alike-none, alike-same, alike-text, AlikeContent}
 use Rattle.round.proofs.RoundForm.{form-model, form-sound}
@@ -29,6 +29,7 @@ module _ (latin : Bool) where
   unfolding strip-datum all keep unpadded
   strip-fit no-value = no-value
   strip-fit (a-value (a-number k l h) g) = a-value (a-number k l h) (strip-fit g)
+  strip-fit (a-value (no-number k o) g) = a-value (no-number k o) (strip-fit g)
   strip-fit (a-value (a-text k l a e) g) = a-value (a-text k l a e) (strip-fit g)
   strip-fit (a-value {c} (a-suggestion k f p l a e) g) = a-value (a-text k (let z : 0 ≤ c .column .hi = omega arith in z) refl refl) (strip-fit g)
 
@@ -36,6 +37,7 @@ module _ (latin : Bool) where
   unfolding strip-datum
   strip-alike no-value = alike-none
   strip-alike (a-value (a-number k l h) g) = alike-same (strip-alike g)
+  strip-alike (a-value (no-number k o) g) = alike-same (strip-alike g)
   strip-alike (a-value (a-text k l a e) g) = alike-same (strip-alike g)
   strip-alike (a-value (a-suggestion k f p l a e) g) = alike-text f (strip-alike g)
 

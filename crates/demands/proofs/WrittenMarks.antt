@@ -28,7 +28,7 @@ use Rattle.round.specs.Round.{PrintedIf, SoundHead, SoundRecord, SoundContent, 
 use Rattle.demands.specs.WrittenMarks.{rec-line, record-at, Directly, Suggests, MarkAndRecord, Behind}
 use Rattle.round.proofs.WrittenNumbers.{decimal-all}
 use Rattle.round.proofs.WrittenLines.{commands, Seen}
-use Rattle.round.proofs.RoundRecords.{tame, Owned, no-owner, of-number, of-words, width-back}
+use Rattle.round.proofs.RoundRecords.{tame, Owned, no-owner, of-number, of-missing, of-words, width-back}
 use Rattle.round.proofs.RoundSteps.{mark-lines, Marked, unmarked, marked, marks-back, end-seen, rec-seen}
 use Rattle.round.proofs.RoundHeads.{heads, tbl-line, atr-line, frm-line}
 use Rattle.round.proofs.RoundSections.{record-lines, body-lines, after-tbl, content-lines, some-columns}
@@ -55,11 +55,13 @@ owner-here m i e = by (eqb m i) refl
 owned-suggests : {m i : ℕ} {vs : Record} → Owned m i vs → (j : ℕ) (u : Bytes) → getD vs j (number 0) ≡ words O.Suggestion u → m ≡ i + j
 owned-suggests no-owner j u e = absurd (false≢true (cc))
 owned-suggests (of-number o) zero u e = absurd (false≢true (cc))
+owned-suggests (of-missing o) zero u e = absurd (false≢true (cc))
 owned-suggests {m} {i} (of-words {o = p} q o) zero u e =
     let s : p ≡ O.Suggestion = cc in
     let z : m ≡ i = owner-here m i (sym s ∙ q) in
     omega arith
 owned-suggests {m} {i} (of-number o) (suc j) u e = let z : m ≡ suc i + j = owned-suggests o j u e in omega arith
+owned-suggests {m} {i} (of-missing o) (suc j) u e = let z : m ≡ suc i + j = owned-suggests o j u e in omega arith
 owned-suggests {m} {i} (of-words q o) (suc j) u e = let z : m ≡ suc i + j = owned-suggests o j u e in omega arith
 
 quoted-no-number : (n : ℕ) (t : Bytes) → ¬ (decimal n ≡ quoted t)
@@ -74,6 +76,7 @@ owned-at : {m i : ℕ} {vs : Record} → Owned m i vs → (j : ℕ) (t : Bytes) 
 unfolding datum-text quoted owner-of
 owned-at no-owner j t e h = absurd (false≢true (cc))
 owned-at (of-number {n} o) zero t e h = absurd (quoted-no-number n t e)
+owned-at (of-missing o) zero t e h = absurd (false≢true (cc))
 owned-at {m} {i} (of-words {o = p} {t = w} q o) zero t e h =
     let z : m ≡ i = omega arith in
     let s : owner-of m i ≡ O.Suggestion = rw (z, ne-self i) in
@@ -87,6 +90,7 @@ owned-at {m} {i} (of-words {o = p} {t = w} q o) zero t e h =
         by true h = refl
         by false h = absurd (eqb-false i i h refl)
 owned-at {m} {i} (of-number o) (suc j) t e h = owned-at o j t e (omega arith)
+owned-at {m} {i} (of-missing o) (suc j) t e h = owned-at o j t e (omega arith)
 owned-at {m} {i} (of-words q o) (suc j) t e h = owned-at o j t e (omega arith)
 
 -- lines of which each `com` line has P with the line behind it

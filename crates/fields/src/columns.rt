@@ -1,10 +1,14 @@
-// A field of a record, read as its column asks: a text with its span, a number with its value, or a refusal with its number.
+// A field of a record, read as its column asks: a text with its span, a number with its value, a missing number, or a refusal with its
+// number.
 ghost use mathlib.Core.Path.{_≡_};
 ghost use mathlib.Core.Bool.{false};
 ghost use Prim.Native.Nat.{_+_, _-_, _≤_};
 ghost use lib.ListN.{length, take, drop};
+ghost use Rattle.page.specs.Bytes.{pick, trim};
 ghost use Rattle.page.specs.Fields.{field-size, numberOf};
-ghost use Rattle.page.specs.Section.{wordsOf, text-field, number-field, fieldOf, amount};
+ghost use Rattle.page.specs.Section.{wordsOf, text-field, number-field, left-out, fieldOf, amount};
+ghost use Rattle.page.specs.declared.Number.the-variants as N;
+ghost use Rattle.page.specs.declared.Field.the-variants as F;
 ghost use Rattle.page.specs.Places.{span-from};
 ghost use Rattle.page.specs.Reading.{later-field};
 ghost use Rattle.digits.specs.Runs.{field-from};
@@ -45,22 +49,44 @@ fn read_text_field(w: &[u8], from: usize, to: usize, size: u64) -> Field
     }
 }
 
-// 12, then 13.
-fn judge_number(number: Number, lo: u64, hi: u64) -> Field
-    ensures { λ r. ⌜ r ≡ number-field lo hi number ⌝ }
+// No number stands in the part of w from one place to another. "Where a column there allows NULL, an empty field is a missing number": any
+// other is 12.
+fn judge_nothing(w: &[u8], from: usize, to: usize, optional: bool) -> Field
+    requires { ⌜ (from ≤ to) × (to ≤ length (now w)) ⌝ }
+    ensures { λ r. ⌜ r ≡ pick (left-out optional (trim (take (to - from) (drop from (now (w .entry)))))) F.Missing (F.Refused 12) ⌝ }
+{
+    if !optional {
+        return Field::Refused(12);
+    }
+    let f = lines::trimmed(&w[from..to]);
+    if f.len() == 0 {
+        return Field::Missing;
+    }
+    Field::Refused(12)
+}
+
+// 13.
+fn judge_amount(n: u64, lo: u64, hi: u64) -> Field
+    ensures { λ r. ⌜ r ≡ number-field lo hi (N.Plus n) ⌝ }
+{
+    if n < lo {
+        return Field::Refused(13);
+    }
+    if hi < n {
+        return Field::Refused(13);
+    }
+    Field::Number(n)
+}
+
+// 12, then 13: a number column's field is the part of w from one place to another, and reads as this number.
+fn judge_number(w: &[u8], from: usize, to: usize, number: Number, column: Column) -> Field
+    requires { ⌜ (from ≤ to) × (to ≤ length (now w)) × (column .text ≡ false) × (number ≡ numberOf (trim (take (to - from) (drop from (now w))))) ⌝ }
+    ensures { λ r. ⌜ r ≡ fieldOf column (trim (take (to - from) (drop from (now (w .entry))))) ⌝ }
 {
     match number {
-        Number::Plus(n) => {
-            if n < lo {
-                return Field::Refused(13);
-            }
-            if hi < n {
-                return Field::Refused(13);
-            }
-            Field::Number(n)
-        }
+        Number::Plus(n) => judge_amount(n, column.lo, column.hi),
         Number::Minus(_) => Field::Refused(13),
-        Number::Nothing => Field::Refused(12),
+        Number::Nothing => judge_nothing(w, from, to, column.optional),
     }
 }
 
@@ -75,14 +101,15 @@ fn text_from(w: &[u8], at: usize, size: u64) -> Reading
     Reading { field: f, end: e }
 }
 
-fn number_from(w: &[u8], at: usize, lo: u64, hi: u64) -> Reading
+fn number_from(w: &[u8], at: usize, column: Column) -> Reading
+    requires { ⌜ (at ≤ length (now w)) × (column .text ≡ false) ⌝ }
     ensures { λ r. ⌜ (r .end ≡ at + field-size false (drop at (now (w .entry))))
-        × (r .field ≡ number-field lo hi (numberOf (field-from (now (w .entry)) at))) ⌝ }
+        × (r .field ≡ fieldOf column (field-from (now (w .entry)) at)) ⌝ }
 {
     let c = number_at(w, at);
     let n = c.number;
     let e = c.end;
-    let f = judge_number(n, lo, hi);
+    let f = judge_number(w, at, e, n, column);
     Reading { field: f, end: e }
 }
 
@@ -92,12 +119,10 @@ pub fn read_field(w: &[u8], at: usize, column: Column) -> Reading
     ensures { λ r. ⌜ (r .end ≡ at + field-size false (drop at (now (w .entry))))
         × (r .field ≡ later-field (span-from (now (w .entry)) at .from) (fieldOf column (field-from (now (w .entry)) at))) ⌝ }
 {
-    let lo = column.lo;
-    let hi = column.hi;
     if column.text {
-        return text_from(w, at, hi);
+        return text_from(w, at, column.hi);
     }
-    number_from(w, at, lo, hi)
+    number_from(w, at, column)
 }
 
 // The value of a number that was found in its range, and 0 for any other.

@@ -11,6 +11,7 @@ use Rattle.page.specs.declared.Value.the-variants as Va
 -- nothing stands between a text's quotes
 abbrev pub empty-value : Value → Bool
 empty-value (Va.Number n) = false
+empty-value Va.Missing = false
 empty-value (Va.Words x) = eqb (x .from) (x .to)
 
 -- "text empty 11, text byte not allowed in a `rec` 4, over 40 bytes 13"

@@ -33,6 +33,7 @@ fn is_empty(v: Value) -> bool
 {
     match v {
         Value::Number(_) => false,
+        Value::Missing => false,
         Value::Words(x) => x.from == x.to,
     }
 }

@@ -23,7 +23,7 @@ use Rattle.page.specs.Writing.{empty-datum, fill-place, fill-refusal}
 use Rattle.page.specs.declared.Refusal.{Refusal}
 use Rattle.page.specs.declared.Value.{Value}
 use Rattle.page.proofs.ScanLaws.{part-length}
-use Rattle.calls.specs.Handed.{StandsFor, a-number, a-text}
+use Rattle.calls.specs.Handed.{StandsFor, a-number, no-number, a-text}
 use Rattle.round.proofs.Round.{accepted-sections}
 use Rattle.calls.proofs.CallNumbers.{value-given}
 use Rattle.calls.proofs.Handed.{value-says}
@@ -55,6 +55,7 @@ apart a b n h e = by (eqb n 0) refl
 stands-empty : {s : Bytes} {v : Value} {d : Datum} → Spans s v → StandsFor s v d → empty-value v ≡ empty-datum d
 unfolding empty-datum
 stands-empty p a-number = refl
+stands-empty p no-number = refl
 stands-empty {s} p (a-text {x} {u} q) =
     let n = part-length (x .from) (x .to) s (p .within) in
     apart (x .from) (x .to) (length (doubled u)) (p .order) (sym (ap length q) ∙ n) ∙ doubled-none u

@@ -64,27 +64,21 @@ format-read c d a b = rw (a, b)
 abbrev title-small : Table → Bool
 title-small x = leb (length (bytes (x .name))) 32
 
-abbrev names-small : Table → Bool
-names-small x = leb (length (separated (map (title-of false) (x .columns)))) 256
-
-abbrev formats-small : Table → Bool
-formats-small x = leb (length (separated (map (title-of true) (x .columns)))) 256
-
 pub title-length : (t : ℕ) → length (bytes (table-at t .name)) ≤ 32
 unfolding all-tables each bytes
 title-length t = leb-true (length (bytes (table-at t .name))) 32 (table-test title-small refl refl t)
 
-names-length : (t : ℕ) → length (separated (titles false t)) ≤ 256
-unfolding all-tables each bytes separated titles columns
-names-length t = leb-true (length (separated (titles false t))) 256 (table-test names-small refl refl t)
+-- the names or the formats of a table
+abbrev LONGEST : ℕ
+LONGEST = 320
 
-formats-length : (t : ℕ) → length (separated (titles true t)) ≤ 256
+abbrev titles-small : Bool → Table → Bool
+titles-small formats x = leb (length (separated (map (title-of formats) (x .columns)))) LONGEST
+
+pub titles-length : (formats : Bool) (t : ℕ) → length (separated (titles formats t)) ≤ LONGEST
 unfolding all-tables each bytes separated titles columns format-text decimal decimal-in
-formats-length t = leb-true (length (separated (titles true t))) 256 (table-test formats-small refl refl t)
-
-pub titles-length : (formats : Bool) (t : ℕ) → length (separated (titles formats t)) ≤ 256
-titles-length true t = formats-length t
-titles-length false t = names-length t
+titles-length true t = leb-true (length (separated (titles true t))) LONGEST (table-test (titles-small true) refl refl t)
+titles-length false t = leb-true (length (separated (titles false t))) LONGEST (table-test (titles-small false) refl refl t)
 
 pub tbl-is : (ends : LineEnd) (t : ℕ) (w : String) → w ≡ table-at t .name → bytes "tbl; " ++ (bytes w ++ line-end ends) ≡ tbl-line ends t
 unfolding bytes tbl-line line separated
@@ -94,7 +88,7 @@ pub tbl-length : (ends : LineEnd) (t : ℕ) → length (tbl-line ends t) ≤ 39
 unfolding bytes tbl-line line separated
 tbl-length ends t = simp length-append (omega (arith, title-length t, line-end-length ends))
 
-pub titles-line-length : (ends : LineEnd) (word : Bytes) (formats : Bool) (t : ℕ) → length (line-with ends word (titles formats t)) ≤ length word + 258
+pub titles-line-length : (ends : LineEnd) (word : Bytes) (formats : Bool) (t : ℕ) → length (line-with ends word (titles formats t)) ≤ length word + (LONGEST + 2)
 titles-line-length ends word formats t =
     rw (← titles-line ends word (titles formats t)) (simp length-append (omega (arith, titles-length formats t, line-end-length ends)))
 
@@ -103,7 +97,7 @@ pub table-head-is : (ends : LineEnd) (t : ℕ)
 unfolding table-head tbl-line line line-with titles columns
 table-head-is ends t = refl
 
-pub table-head-length : (ends : LineEnd) (t : ℕ) → length (table-head ends (table-at t)) ≤ 561
+pub table-head-length : (ends : LineEnd) (t : ℕ) → length (table-head ends (table-at t)) ≤ 689
 unfolding bytes
 table-head-length ends t =
     rw (← table-head-is ends t)

@@ -4,7 +4,7 @@ ghost use lib.ListN.{length};
 ghost use Rattle.page.specs.Bytes.{bytes};
 ghost use Rattle.page.specs.Tables.{table-at, column-at};
 ghost use Rattle.page.specs.Form.{format-text, table-head};
-ghost use Rattle.tables.specs.Words.{word};
+ghost use Rattle.tables.specs.Words.{LETTERS, word};
 ghost use Rattle.output.specs.Put.{Put};
 ghost use Rattle.frames.specs.Lines.{line-with};
 ghost use Rattle.frames.specs.Titles.{tbl-line, title-at, titles};
@@ -23,7 +23,7 @@ use tables::look_name;
 use tables::look_title;
 
 fn put_word(out: &mut [u8], at: usize, n: usize) -> usize
-    requires { ⌜ at + 328 < 2 ^ 62 ⌝ }
+    requires { ⌜ at + LETTERS < 2 ^ 62 ⌝ }
     ensures { λ r. ⌜ Put (now (out .entry)) at (bytes (word n)) (now (out .exit)) r ⌝ }
 {
     let place = find_word(n);
@@ -34,7 +34,7 @@ fn put_word(out: &mut [u8], at: usize, n: usize) -> usize
 }
 
 fn put_tbl_line(out: &mut [u8], at: usize, ends: LineEnd, t: usize) -> usize
-    requires { ⌜ at + 512 < 2 ^ 62 ⌝ }
+    requires { ⌜ at + 64 + LETTERS < 2 ^ 62 ⌝ }
     ensures { λ r. ⌜ Put (now (out .entry)) at (tbl-line ends t) (now (out .exit)) r ⌝ }
 {
     let a = put_bytes(out, at, b"tbl; ");
@@ -60,13 +60,14 @@ fn put_format_of(out: &mut [u8], at: usize, t: usize, k: usize) -> usize
             primary: false,
             second: false,
             fillable: false,
+            optional: false,
         },
     )
 }
 
 // What is said of a column: its format, or its name.
 fn put_title(out: &mut [u8], at: usize, t: usize, k: usize, formats: bool) -> usize
-    requires { ⌜ at + 328 < 2 ^ 62 ⌝ }
+    requires { ⌜ at + LETTERS < 2 ^ 62 ⌝ }
     ensures { λ r. ⌜ Put (now (out .entry)) at (title-at formats t k) (now (out .exit)) r ⌝ }
 {
     if formats {
@@ -84,7 +85,7 @@ fn put_titles(
     t: usize,
     formats: bool,
 ) -> usize
-    requires { ⌜ at + length (now word) + 768 < 2 ^ 62 ⌝ }
+    requires { ⌜ at + length (now word) + 512 + LETTERS < 2 ^ 62 ⌝ }
     ensures { λ r. ⌜ Put (now (out .entry)) at (line-with ends (now (word .entry)) (titles formats t)) (now (out .exit)) r ⌝ }
 {
     let n = find_width(t);

@@ -17,8 +17,8 @@ use Rattle.page.specs.Tables.{Named, Rule, rule-number, table-at, rules, width}
 use Rattle.page.specs.Order.{Order, order-of, arranged, standing, by-column}
 use Rattle.page.specs.Marks.{remarkOf}
 use Rattle.page.specs.Section
-use Rattle.page.specs.Records.{Datum, number, words, Record}
-use Rattle.page.specs.Grammar.{fields-of, Says, AtrLine, Quiet, empty, remark, Holds, a-number, a-text, Breaks, Reads, RecLine}
+use Rattle.page.specs.Records.{Datum, number, missing, words, Record}
+use Rattle.page.specs.Grammar.{fields-of, Says, AtrLine, Quiet, empty, remark, Holds, a-number, no-number, a-text, Breaks, Reads, RecLine}
 use Rattle.page.specs.Refusals.{Law, law, FirstBroken, either-laws, marks-of, InOrder, kind-law, fields-laws, rules-laws, rec-laws, end-laws, command-laws, GoodMark, laws, Leads, quiet, tbl, atr, frm, mark, record-line, end}
 use Rattle.page.specs.declared.Number.{Number}
 use Rattle.page.specs.declared.Number.the-variants as N
@@ -38,7 +38,7 @@ use Rattle.page.proofs.ArrangeLaws.{order-named}
 use Rattle.page.proofs.TextLaws.{worded-none, worded-some}
 use Rattle.laws.proofs.Decides.{Decides, holds, fails, fact, when, both, equal, at-most}
 use Rattle.laws.proofs.Tests.{is-d, names-d, formats-d, rises-d, unknown-d, blank-missing, one-d, named-d}
-use Rattle.grammar.proofs.Values.{field-right}
+use Rattle.grammar.proofs.Values.{LeftOut, left-out-d, field-right}
 use Rattle.grammar.proofs.Arranged.{Ordered, reads-once, reads-rule, right-reads, reads-empty}
 
 -- the step stops with v exactly if v is the first broken law's number, and goes on only to what G says
@@ -111,45 +111,57 @@ module _ {G : Phase → Type 0} (q : Phase) (c : Column) (f : Bytes) (y : ℕ) (
   abbrev field-step : Field → Step
   field-step x = judged q (Section.first-of (Section.field-number x) y)
 
-  number-agrees : (n : Number) → c .text ≡ false → numberOf f ≡ n → Agrees G (field-step (Section.number-field (c .lo) (c .hi) n)) (law 12 (numberOf f ≡ N.Nothing) ∷ holds-law ∷ more)
+  missing-agrees : c .text ≡ false → LeftOut (c .optional) f → Agrees G (field-step F.Missing) (kind-law false (c .optional) f ∷ holds-law ∷ more)
+  unfolding Section.field-number
+  missing-agrees t p =
+      let h : Holds O.Operator c f missing = no-number t (p .0) (p .1) in
+      miss (λ k. k .1 p) (miss (λ x. x (missing, h)) (next (field-right h)))
+
+  number-agrees : (n : Number) → c .text ≡ false → ¬ LeftOut (c .optional) f → numberOf f ≡ n →
+      Agrees G (field-step (Section.number-field (c .lo) (c .hi) n)) (kind-law false (c .optional) f ∷ holds-law ∷ more)
   unfolding Section.number-field Section.field-number judged Section.choose
-  number-agrees N.Nothing t e = hit e
-  number-agrees (N.Minus n) t e = miss (λ h. absurd (false≢true (cc))) (hit (λ x. inv (x .0) (x .1)))
+  number-agrees N.Nothing t k e = hit (e, k)
+  number-agrees (N.Minus n) t k e = miss (λ h. let z = h .0 in absurd (false≢true (cc))) (hit (λ x. inv (x .0) (x .1)))
     where
       inv : (v : Datum) → Holds O.Operator c f v → ⊥
       inv (number m) (a-number u h a b) = absurd (false≢true (cc))
+      inv missing (no-number u a b) = k (a, b)
       inv (words p w) (a-text u h a) = absurd (false≢true (cc))
-  number-agrees (N.Plus n) t e = miss (λ h. absurd (false≢true (cc))) (by (leb (c .lo) n && leb n (c .hi)) (both (at-most (c .lo) n) (at-most n (c .hi))))
+  number-agrees (N.Plus n) t k e = miss (λ h. let z = h .0 in absurd (false≢true (cc))) (by (leb (c .lo) n && leb n (c .hi)) (both (at-most (c .lo) n) (at-most n (c .hi))))
     where
       inv : (v : Datum) → Holds O.Operator c f v → (c .lo ≤ n) × (n ≤ c .hi)
       inv (number m) (a-number u h a b) = let z : m ≡ n = cc in (rw z at a, rw z at b)
+      inv missing (no-number u a b) = absurd (k (a, b))
       inv (words p w) (a-text u h a) = absurd (false≢true (cc))
 
       by : (b : Bool) → Decides ((c .lo ≤ n) × (n ≤ c .hi)) b → Agrees G (field-step (pick b (F.Number n) (F.Refused 13))) (holds-law ∷ more)
       by true (holds p) = miss (λ x. x (number n, a-number t e (p .0) (p .1))) (next (field-right {o = O.Operator} (a-number t e (p .0) (p .1))))
       by false (fails x) = hit (λ z. x (inv (z .0) (z .1)))
 
-  text-agrees : (x : Option Bytes) → c .text ≡ true → Section.record-text f ≡ x → Agrees G (field-step (Section.text-field (c .hi) (Section.wordsOf f))) (law 11 (Section.record-text f ≡ none) ∷ holds-law ∷ more)
+  text-agrees : (x : Option Bytes) → c .text ≡ true → Section.record-text f ≡ x → Agrees G (field-step (Section.text-field (c .hi) (Section.wordsOf f))) (kind-law true (c .optional) f ∷ holds-law ∷ more)
   unfolding Section.text-field Section.field-number judged Section.choose
   text-agrees none t e = rw (worded-none f e) (hit e)
   text-agrees (some w) t e = rw (worded-some f w e) (miss (λ h. absurd (false≢true (cc))) (by (leb (length w) (c .hi)) (at-most (length w) (c .hi))))
     where
       inv : (v : Datum) → Holds O.Operator c f v → length w ≤ c .hi
       inv (number m) (a-number u h a b) = absurd (false≢true (cc))
+      inv missing (no-number u a b) = absurd (false≢true (cc))
       inv (words p x) (a-text u h a) = let z : x ≡ w = cc in rw z at a
 
       by : (b : Bool) → Decides (length w ≤ c .hi) b → Agrees G (field-step (pick b (F.Text (Section.own-span f)) (F.Refused 13))) (holds-law ∷ more)
       by true (holds p) = miss (λ x. x (words O.Operator w, a-text t e p)) (next (field-right {o = O.Operator} (a-text t e p)))
       by false (fails x) = hit (λ z. x (inv (z .0) (z .1)))
 
-  field-agrees : Agrees G (field-step (Section.fieldOf c f)) (kind-law (c .text) f ∷ holds-law ∷ more)
+  field-agrees : Agrees G (field-step (Section.fieldOf c f)) (kind-law (c .text) (c .optional) f ∷ holds-law ∷ more)
   unfolding Section.fieldOf
-  field-agrees = by (c .text) refl
+  field-agrees = by (c .text) (Section.left-out (c .optional) f) refl (left-out-d (c .optional) f)
     where
-      by : (b : Bool) → c .text ≡ b →
-          Agrees G (field-step (pick b (Section.text-field (c .hi) (Section.wordsOf f)) (Section.number-field (c .lo) (c .hi) (numberOf f)))) (kind-law b f ∷ holds-law ∷ more)
-      by true e = text-agrees (Section.record-text f) e refl
-      by false e = number-agrees (numberOf f) e refl
+      by : (b d : Bool) → c .text ≡ b → Decides (LeftOut (c .optional) f) d →
+          Agrees G (field-step (pick b (Section.text-field (c .hi) (Section.wordsOf f)) (pick d F.Missing (Section.number-field (c .lo) (c .hi) (numberOf f)))))
+          (kind-law b (c .optional) f ∷ holds-law ∷ more)
+      by true d e x = text-agrees (Section.record-text f) e refl
+      by false true e (holds p) = missing-agrees e p
+      by false false e (fails n) = number-agrees (numberOf f) e n refl
 
 -- "each field from the left"
 fields-agree : {G : Phase → Type 0} (q : Phase) (cs : List Named) (fs : List Bytes) (y : ℕ) (others : List Law) → length fs ≡ length cs →

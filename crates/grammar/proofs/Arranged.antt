@@ -12,7 +12,7 @@ use Rattle.page.specs.Bytes.{Bytes}
 use Rattle.page.specs.Tables.{Rule, columns, rules, width}
 use Rattle.page.specs.Order.{Order, arranged, standing, place, by-column, column-in}
 use Rattle.page.specs.Marks.{owner-of}
-use Rattle.page.specs.Section.{record-text, first-wrong, broken, no-bytes, empty-marked}
+use Rattle.page.specs.Section.{record-text, first-wrong, broken, no-bytes, empty-at, empty-marked}
 use Rattle.page.specs.Records.{words, Record, valuesOf}
 use Rattle.page.specs.Grammar.{Values, Breaks, Reads}
 use Rattle.page.specs.Refusals.{marks-of}
@@ -21,7 +21,8 @@ use Rattle.page.specs.declared.Phase.{Phase}
 use Rattle.page.specs.declared.Phase.the-variants as P
 use Rattle.page.proofs.OrderLaws.{arranged-long, arranged-below, place-at, by-column-length, by-column-at, sound-by-column, owner-column}
 use Rattle.laws.proofs.Decides.{Decides, holds, fails, below}
-use Rattle.grammar.proofs.Values.{values-once, values-are, values-right, right-values, rule-d, empty-d}
+use Rattle.grammar.proofs.Values.{values-once, values-are, values-right, right-values, held, empty-d}
+use Rattle.grammar.proofs.Rules.{rule-decided}
 
 -- what holds of the order that the machine carries: once `atr` has stated it, it is an arrangement of the table's columns
 abbrev pub Ordered : Phase → Order → Type 0
@@ -34,9 +35,9 @@ Ordered (P.Ended t n) o = arranged (width t) o ≡ true
 mark-stands : (o : Order) (m : ℕ) → m < length o → getD o m m ≡ getD o m 0
 mark-stands o m h = let x = drop-cons o m m h in let y = drop-cons o m 0 h in cc
 
-empty-at : (fs : List Bytes) (m : ℕ) → empty-marked (suc m) fs ≡ no-bytes (record-text (getD fs m []))
+marked-at : (fs : List Bytes) (m : ℕ) → empty-marked (suc m) fs ≡ empty-at fs m
 unfolding empty-marked
-empty-at fs m = let z : suc m - 1 ≡ m = omega arith in rw (le-leb 1 (suc m) (omega arith), z)
+marked-at fs m = let z : suc m - 1 ≡ m = omega arith in rw (le-leb 1 (suc m) (omega arith), z)
 
 -- the column of the one mark is the one column marked
 pub marks-by-column : (o : Order) (m : ℕ) → map (column-in o) (marks-of m) ≡ marks-of (column-in o m)
@@ -57,9 +58,9 @@ module _ (t : ℕ) (o : Order) (m : ℕ) {fs : List Bytes} {vs : Record} (h : Re
   pub reads-are : vs ≡ valuesOf (column-in o m) 1 (columns t) (by-column o fs)
   reads-are = values-are (column-in o m) (omega arith) reads-values
 
-  -- 14
+  -- 14, 25
   pub reads-rule : (r : Rule) → List·Memᴰ r (rules t) → Decides (Breaks vs r) (broken r (by-column o fs))
-  reads-rule = rule-d t (column-in o m) reads-values
+  reads-rule = rule-decided t (held (h .values))
 
 module _ (t : ℕ) (o : Order) (a : arranged (width t) o ≡ true) where
   -- 11 to 13
@@ -77,7 +78,7 @@ module _ (t : ℕ) (o : Order) (a : arranged (width t) o ≡ true) where
   unfolding column-in empty-marked
   empty-by-column fs l zero = refl
   empty-by-column fs l (suc m) =
-      empty-at fs m ∙ ap (λ (f : Bytes). no-bytes (record-text f)) (by (ltb m (length o)) (below m (length o))) ∙ sym (empty-at (by-column o fs) (getD o m m))
+      marked-at fs m ∙ ap (λ (f : Bytes). no-bytes (record-text f)) (by (ltb m (length o)) (below m (length o))) ∙ sym (marked-at (by-column o fs) (getD o m m))
     where
       by : (b : Bool) → Decides (m < length o) b → getD fs m [] ≡ getD (by-column o fs) (getD o m m) []
       by true (holds h) =

@@ -1,4 +1,5 @@
 pub mod Values
+pub mod Rules
 pub mod Arranged
 pub mod Agrees
 pub mod Steps
@@ -9,3 +10,5 @@ pub mod Refuses
 pub mod Counts
 pub mod Marks
 pub mod Own
+pub mod Missing
+pub mod Combined

@@ -7,7 +7,7 @@ use Prim.Native.Nat.{ℕ}
 use lib.Dec.{eqb}
 use Rattle.page.specs.Bytes.{Bytes}
 use Rattle.page.specs.Lines.{content, blank, command, Rec, Com}
-use Rattle.page.specs.Tables.{Named, Rule, points-differ, rules}
+use Rattle.page.specs.Tables.{Named, Rule, points-differ, feeder-combined, rules}
 use Rattle.page.specs.Order.{Order, standing}
 use Rattle.page.specs.Grammar.{fields-of}
 use Rattle.page.specs.Refusals.{Law, law, FirstBroken, either-laws, kind-law, fields-laws, rules-laws, command-laws, laws, section-numbers, OneOf}
@@ -34,16 +34,17 @@ fields-listed : (cs : List Named) (fs : List Bytes) (ls : List Law) → Listed l
 unfolding any
 fields-listed [] fs ls r = r
 fields-listed (c ∷ cs) [] ls r = r
-fields-listed (c ∷ cs) (f ∷ fs) ls r = by (c .column .text) (more refl (fields-listed cs fs ls r))
+fields-listed (c ∷ cs) (f ∷ fs) ls r = by (c .column .text) (c .column .optional) (more refl (fields-listed cs fs ls r))
   where
-    by : (k : Bool) {xs : List Law} → Listed xs → Listed (kind-law k f ∷ xs)
-    by true r = more refl r
-    by false r = more refl r
+    by : (k optional : Bool) {xs : List Law} → Listed xs → Listed (kind-law k optional f ∷ xs)
+    by true optional r = more refl r
+    by false optional r = more refl r
 
 rules-listed : (B : Rule → Type 0) (rs : List Rule) (ls : List Law) → Listed ls → Listed (rules-laws B rs ++ ls)
 unfolding any
 rules-listed B [] ls k = k
 rules-listed B (points-differ p ∷ rs) ls k = more refl (rules-listed B rs ls k)
+rules-listed B (feeder-combined c x ∷ rs) ls k = more refl (rules-listed B rs ls k)
 
 command-listed : (p : Phase) (o : Order) (k : ℕ) (fs : List Bytes) → Listed (command-laws p o k fs)
 unfolding any

@@ -19,6 +19,7 @@ use Rattle.page.specs.Section.{outcome}
 use Rattle.page.specs.Records.{Record, Entry, waits, record-in, entries, table-of, atr-in, order-in, entriesOf, recordsOf}
 use Rattle.page.specs.Grammar.{Arrangement, Quiet, empty, remark, TblLine, MarkLine, RecLine, Then, found, skip, Silence, over, still, Records, pause, a-mark, a-record, the-end, Denotes}
 use Rattle.page.specs.Refusals.{marks-of}
+use Rattle.page.specs.Rules.{Every, none-left, one-more}
 use Rattle.page.specs.declared.Outcome.{Outcome}
 use Rattle.page.proofs.TableLaws.{name-tells, number-injective}
 use Rattle.page.proofs.ArrangeLaws.{arrangement-arranged, order-named}
@@ -145,6 +146,17 @@ module _ {latin : Bool} where
   pub denoted-order : (ls : List Bytes) (t : ℕ) (rs : List Record) → begins ls ≡ true → (d : Denotes latin ls t rs) → order-in ls ≡ d .0
   unfolding order-in
   denoted-order ls t rs b d = rw (table-denoted ls t rs b d) (order-read t rs d)
+
+  -- each record that is denoted stands in a `rec` line
+  records-lines : {t : ℕ} {o : Order} {n : ℕ} {ms : List ℕ} {ls : List Bytes} {rs : List Record} → Records latin t o n ms ls rs →
+      Every (λ vs. (ms : List ℕ) × (l : Bytes) × RecLine latin t o ms vs l) rs
+  records-lines (pause h x) = records-lines x
+  records-lines (a-mark h x) = records-lines x
+  records-lines {ms = ms} (a-record {l} h x) = one-more (ms, l, h) (records-lines x)
+  records-lines (the-end h s) = none-left
+
+  pub denoted-lines : {ls : List Bytes} (t : ℕ) (rs : List Record) (d : Denotes latin ls t rs) → Every (λ vs. (ms : List ℕ) × (l : Bytes) × RecLine latin t (d .0) ms vs l) rs
+  denoted-lines t rs d = told (λ l ms h x. told (λ l ms g y. told (λ l ms k z. records-lines z) y) x) (d .1)
 
 -- one reading only: the same lines denote one table and one list of records
 pub one-reading : (latin : Bool) (ls : List Bytes) (t u : ℕ) (rs qs : List Record) → Denotes latin ls t rs → Denotes latin ls u qs → (t ≡ u) × (rs ≡ qs)

@@ -25,7 +25,7 @@ use Rattle.page.proofs.OrderLaws.{arranged-long}
 use Rattle.page.proofs.ArrangeLaws.{arrangement-arranged}
 use Rattle.laws.proofs.Decides.{tested, untested, equal}
 use Rattle.laws.proofs.Tests.{names-d, formats-d, rises-d, blank-missing}
-use Rattle.grammar.proofs.Values.{rules-kept}
+use Rattle.grammar.proofs.Rules.{rules-kept}
 use Rattle.grammar.proofs.Arranged.{Ordered, reads-rule, reads-right, reads-empty}
 use Rattle.grammar.proofs.Agrees.{quiet-order, atr-order, step-agrees}
 
@@ -38,7 +38,7 @@ not-blank c k e h = by (blank c) refl
     by true q = absurd (let z = blank-missing c q in let y : ⊥ = omega arith in y)
 
 -- what a clean line of a known command does
-known-step : {latin : Bool} {l : Bytes} (k : ℕ) → Says latin k l → k < Unknown → (p : Phase) (o : Order) →
+pub known-step : {latin : Bool} {l : Bytes} (k : ℕ) → Says latin k l → k < Unknown → (p : Phase) (o : Order) →
     Section.step latin p o l ≡ Section.choose (eqb k Com) (Section.com-step p o (remarkOf (rest (content l)))) (Section.line-step p o k (rest (content l)))
 unfolding Section.step Section.content-step Section.choose
 known-step {latin} {l} k s h p o = rw (s .clean, not-blank (content l) k (s .named) (omega arith), s .named, lt-leb Unknown k h)

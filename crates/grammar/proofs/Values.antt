@@ -1,21 +1,21 @@
--- A record's fields: what the grammar reads in them is read once, is what `valuesOf` gives, and the tests on fields decide the rules on values.
-use mathlib.Core.Path.{_≡_, refl, ap, _∙_}
+-- A record's fields: what the grammar reads in them is read once, is what `valuesOf` gives, and the tests on fields decide what is read.
+use mathlib.Core.Path.{_≡_, refl, sym, _∙_}
 use mathlib.Core.Bool.{Bool, true, false, _&&_, _||_, false≢true}
 use mathlib.Core.List.{List, [], _∷_, List·Memᴰ, List·Memᴰ·head, List·Memᴰ·tail, List·Memᴰ·not-nil, List·Memᴰ·cases-cons}
 use mathlib.Core.Logic.{inl, inr}
 use mathlib.Core.Option.{Option, none, some}
-use Prim.Native.Nat.{ℕ, zero, suc, _+_, _-_, _≤_}
+use Prim.Native.Nat.{ℕ, zero, suc, _-_, _≤_, _<_}
 use native.Mathlib.Omega.{arith}
 use lib.Dec.{eqb, leb}
 use lib.ListN.{length, getD}
 use borrow.Author.Tests.{ne-eqb, le-leb, lt-leb}
 use Rattle.page.specs.Bytes.{Bytes, pick, all}
 use Rattle.page.specs.Fields.{textOf, bodyOf, numberOf, digit, digits, value}
-use Rattle.page.specs.Tables.{Named, Rule, points-differ, no-column, columns, rules}
+use Rattle.page.specs.Tables.{Named, no-column}
 use Rattle.page.specs.Marks.{owner-of}
-use Rattle.page.specs.Section.{own-span, wordsOf, record-text, text-field, number-field, fieldOf, field-number, first-wrong, amount-at, broken, first-broken, no-bytes, empty-marked}
-use Rattle.page.specs.Records.{Datum, number, words, Record, datumOf, valuesOf}
-use Rattle.page.specs.Grammar.{Holds, a-number, a-text, marked, owner-by, Values, no-field, a-field, Breaks, same-points}
+use Rattle.page.specs.Section.{own-span, wordsOf, record-text, text-field, number-field, left-out, fieldOf, field-number, first-wrong, no-bytes, empty-at, empty-marked}
+use Rattle.page.specs.Records.{Datum, number, missing, words, Record, datumOf, valuesOf}
+use Rattle.page.specs.Grammar.{Holds, a-number, no-number, a-text, marked, owner-by, Values, no-field, a-field}
 use Rattle.page.specs.Refusals.{marks-of}
 use Rattle.page.specs.declared.Column.{Column}
 use Rattle.page.specs.declared.Number.{Number}
@@ -23,30 +23,13 @@ use Rattle.page.specs.declared.Number.the-variants as N
 use Rattle.page.specs.declared.Field.the-variants as F
 use Rattle.page.specs.declared.Owner.{Owner}
 use Rattle.page.specs.declared.Owner.the-variants as O
-use Rattle.page.proofs.TableLaws.{points-there}
 use Rattle.page.proofs.TextLaws.{unpadded-in, record-text-is, worded-none, worded-some}
 use Rattle.laws.proofs.Decides.{Decides, holds, fails, tested, untested, when, both, one-of, equal, at-most}
+use Rattle.laws.proofs.Tests.{is-d}
 
 and-false : (b : Bool) → (b && false) ≡ false
 and-false true = refl
 and-false false = refl
-
--- one field a column
-pub values-length : {ms : List ℕ} {i : ℕ} {cs : List Named} {fs : List Bytes} {vs : Record} → Values ms i cs fs vs → length fs ≡ length cs
-values-length no-field = refl
-values-length (a-field h k) = ap suc (values-length k)
-
--- a field holds one value
-holds-once : {o : Owner} {c : Column} {f : Bytes} {v w : Datum} → Holds o c f v → Holds o c f w → v ≡ w
-holds-once (a-number t e g h) (a-number u d p q) = cc
-holds-once (a-number t e g h) (a-text u d p) = absurd (false≢true (cc))
-holds-once (a-text t e g) (a-number u d p q) = absurd (false≢true (cc))
-holds-once (a-text t e g) (a-text u d p) = cc
-
--- a record's fields are read in one way only
-pub values-once : {ms : List ℕ} {i : ℕ} {cs : List Named} {fs : List Bytes} {vs us : Record} → Values ms i cs fs vs → Values ms i cs fs us → vs ≡ us
-values-once no-field no-field = refl
-values-once (a-field h k) (a-field g l) = let a = holds-once h g in let b = values-once k l in cc
 
 -- the machine's one mark is the grammar's list of it
 pub owner-one : (m i : ℕ) → 1 ≤ i → owner-by (marks-of m) i ≡ owner-of m i
@@ -58,20 +41,61 @@ owner-one (suc m) i h = by (eqb (suc m) i)
     by true = refl
     by false = refl
 
-holds-datum : {o : Owner} {c : Column} {f : Bytes} {v : Datum} → Holds o c f v → v ≡ datumOf o c f
+-- nothing stands in a field whose number may be missing
+abbrev pub LeftOut : Bool → Bytes → Type 0
+LeftOut optional f = (optional ≡ true) × (f ≡ [])
+
+pub left-out-d : (optional : Bool) (f : Bytes) → Decides (LeftOut optional f) (left-out optional f)
+left-out-d optional f = both (is-d optional) (by f)
+  where
+    by : (f : Bytes) → Decides (f ≡ []) (eqb (length f) 0)
+    by [] = holds refl
+    by (b ∷ f) = rw (ne-eqb (length (b ∷ f)) 0 (λ e. omega arith)) (fails (λ e. absurd (false≢true (cc))))
+
+-- a number or a text is something
+
+empty-no-number : numberOf [] ≡ N.Nothing
+unfolding numberOf digits
+empty-no-number = refl
+
+empty-no-text : record-text [] ≡ none
+unfolding textOf
+empty-no-text = record-text-is []
+
+pub number-some : {f : Bytes} {n : ℕ} → numberOf f ≡ N.Plus n → ¬ (f ≡ [])
+number-some e q = let z = empty-no-number in false≢true (cc)
+
+pub text-some : {f t : Bytes} → record-text f ≡ some t → ¬ (f ≡ [])
+text-some e q = let z = empty-no-text in false≢true (cc)
+
+pub number-there : (optional : Bool) (f : Bytes) {n : ℕ} → numberOf f ≡ N.Plus n → left-out optional f ≡ false
+number-there optional f e = untested (left-out-d optional f) (λ p. number-some e (p .1))
+
+pub holds-datum : {o : Owner} {c : Column} {f : Bytes} {v : Datum} → Holds o c f v → v ≡ datumOf o c f
 unfolding datumOf
-holds-datum (a-number t e g h) = rw (t, e)
+holds-datum {c = c} {f = f} (a-number t e g h) = rw (t, number-there (c .optional) f e, e)
+holds-datum {c = c} {f = f} (no-number t p q) = rw (t, tested (left-out-d (c .optional) f) (p, q))
 holds-datum (a-text t e g) = rw (t, e)
+
+-- a field holds one value
+holds-once : {o : Owner} {c : Column} {f : Bytes} {v w : Datum} → Holds o c f v → Holds o c f w → v ≡ w
+holds-once h g = holds-datum h ∙ sym (holds-datum g)
+
+-- a record's fields are read in one way only
+pub values-once : {ms : List ℕ} {i : ℕ} {cs : List Named} {fs : List Bytes} {vs us : Record} → Values ms i cs fs vs → Values ms i cs fs us → vs ≡ us
+values-once no-field no-field = refl
+values-once (a-field h k) (a-field g l) = let a = holds-once h g in let b = values-once k l in cc
 
 -- the tests on a field pass exactly if it holds a value
 pub field-right : {o : Owner} {c : Column} {f : Bytes} {v : Datum} → Holds o c f v → field-number (fieldOf c f) ≡ 0
 unfolding fieldOf field-number text-field number-field
-field-right {c = c} (a-number {n} t e g h) = rw (t, e, tested (both (at-most (c .lo) n) (at-most n (c .hi))) (g, h))
+field-right {c = c} {f = f} (a-number {n} t e g h) = rw (t, number-there (c .optional) f e, e, tested (both (at-most (c .lo) n) (at-most n (c .hi))) (g, h))
+field-right {c = c} {f = f} (no-number t p q) = rw (t, tested (left-out-d (c .optional) f) (p, q))
 field-right {c = c} {f = f} (a-text {t = w} t e h) = rw (t, worded-some f w e, tested (at-most (length w) (c .hi)) h)
 
 right-field : (o : Owner) (c : Column) (f : Bytes) → field-number (fieldOf c f) ≡ 0 → (v : Datum) × Holds o c f v
 unfolding fieldOf field-number text-field number-field
-right-field o c f = by (c .text) refl
+right-field o c f = by (c .text) (left-out (c .optional) f) refl (left-out-d (c .optional) f)
   where
     of-number : (n : Number) → c .text ≡ false → numberOf f ≡ n → field-number (number-field (c .lo) (c .hi) n) ≡ 0 → (v : Datum) × Holds o c f v
     of-number (N.Plus n) t e z = within (leb (c .lo) n && leb n (c .hi)) (both (at-most (c .lo) n) (at-most n (c .hi))) z
@@ -90,9 +114,11 @@ right-field o c f = by (c .text) refl
         within true (holds p) z = (words o w, a-text t e p)
         within false d z = absurd (let y : ⊥ = omega arith in y)
 
-    by : (b : Bool) → c .text ≡ b → field-number (pick b (text-field (c .hi) (wordsOf f)) (number-field (c .lo) (c .hi) (numberOf f))) ≡ 0 → (v : Datum) × Holds o c f v
-    by true t z = of-text (record-text f) t refl z
-    by false t z = of-number (numberOf f) t refl z
+    by : (b d : Bool) → c .text ≡ b → Decides (LeftOut (c .optional) f) d →
+        field-number (pick b (text-field (c .hi) (wordsOf f)) (pick d F.Missing (number-field (c .lo) (c .hi) (numberOf f)))) ≡ 0 → (v : Datum) × Holds o c f v
+    by true d t x z = of-text (record-text f) t refl z
+    by false true t (holds p) z = (missing, no-number t (p .0) (p .1))
+    by false false t x z = of-number (numberOf f) t refl z
 
 -- and those on a record's fields
 pub values-right : {ms : List ℕ} {i : ℕ} {cs : List Named} {fs : List Bytes} {vs : Record} → Values ms i cs fs vs → first-wrong cs fs ≡ 0
@@ -121,44 +147,18 @@ unfolding valuesOf
 values-are m l no-field = refl
 values-are m {i} l (a-field h k) = let a = holds-datum h in let b = owner-one m i l in let d = values-are m (omega arith) k in cc
 
--- the value of a number's column is the field's number
-number-at-field : (m i : ℕ) (cs : List Named) (fs : List Bytes) (k : ℕ) → length fs ≡ length cs → getD cs k no-column .column .text ≡ false →
-    getD (valuesOf m i cs fs) k (number 0) ≡ number (amount-at fs k)
-unfolding valuesOf amount-at datumOf numberOf digits
-number-at-field m i [] [] k l e = refl
-number-at-field m i [] (f ∷ fs) k l e = absurd (let z : ⊥ = omega arith in z)
-number-at-field m i (c ∷ cs) [] k l e = absurd (let z : ⊥ = omega arith in z)
-number-at-field m i (c ∷ cs) (f ∷ fs) zero l e = rw e
-number-at-field m i (c ∷ cs) (f ∷ fs) (suc k) l e = number-at-field m (suc i) cs fs k (omega arith) e
+-- each column's field holds its value, whoever's a text is
+pub record Held (cs : List Named) (fs : List Bytes) (vs : Record) : Type 0 where
+  pub at : (k : ℕ) → k < length cs → (o : Owner) × Holds o (getD cs k no-column .column) (getD fs k []) (getD vs k (number 0))
 
--- the machine asks the rules of the fields' numbers, the grammar of the values
-module _ (t : ℕ) (fs : List Bytes) (vs : Record) (at : (k : ℕ) → getD (columns t) k no-column .column .text ≡ false → getD vs k (number 0) ≡ number (amount-at fs k)) where
-  pub rule-decided : (r : Rule) → List·Memᴰ r (rules t) → Decides (Breaks vs r) (broken r fs)
-  unfolding broken
-  rule-decided (points-differ p) m =
-      let q = points-there t p m in
-      let a = at p (q .type-from) in
-      let b = at (p + 1) (q .number-from) in
-      let c = at (p + 2) (q .type-to) in
-      let d = at (p + 3) (q .number-to) in
-      when (λ x. let y = x .0 in let z = x .1 in same-points (cc) (cc)) (back a b c d)
-      (both (equal (amount-at fs p) (amount-at fs (p + 2))) (equal (amount-at fs (p + 1)) (amount-at fs (p + 3))))
-    where
-      back : getD vs p (number 0) ≡ number (amount-at fs p) → getD vs (p + 1) (number 0) ≡ number (amount-at fs (p + 1)) → getD vs (p + 2) (number 0) ≡ number (amount-at fs (p + 2)) →
-          getD vs (p + 3) (number 0) ≡ number (amount-at fs (p + 3)) → Breaks vs (points-differ p) → (amount-at fs p ≡ amount-at fs (p + 2)) × (amount-at fs (p + 1) ≡ amount-at fs (p + 3))
-      back a b c d (same-points x y) = ((cc), (cc))
+held-at : {ms : List ℕ} {i : ℕ} {cs : List Named} {fs : List Bytes} {vs : Record} → Values ms i cs fs vs → (k : ℕ) → k < length cs →
+    (o : Owner) × Holds o (getD cs k no-column .column) (getD fs k []) (getD vs k (number 0))
+held-at no-field k l = absurd (let z : ⊥ = omega arith in z)
+held-at {ms} (a-field {i} h g) zero l = (owner-by ms i, h)
+held-at (a-field h g) (suc k) l = held-at g k (omega arith)
 
-pub rule-d : (t m : ℕ) {fs : List Bytes} {vs : Record} → Values (marks-of m) 1 (columns t) fs vs → (r : Rule) → List·Memᴰ r (rules t) → Decides (Breaks vs r) (broken r fs)
-rule-d t m {fs} {vs} h =
-    rule-decided t fs vs (λ k e. ap (λ (x : Record). getD x k (number 0)) (values-are m (omega arith) h) ∙ number-at-field m 1 (columns t) fs k (values-length h) e)
-
--- values that break no rule of a list have no number of one
-pub rules-kept : (fs : List Bytes) (vs : Record) (rs : List Rule) → ((r : Rule) → List·Memᴰ r rs → Decides (Breaks vs r) (broken r fs)) →
-    ((r : Rule) → List·Memᴰ r rs → ¬ Breaks vs r) → first-broken rs fs ≡ 0
-unfolding first-broken
-rules-kept fs vs [] d n = refl
-rules-kept fs vs (r ∷ rs) d n =
-    rw (untested (d r (List·Memᴰ·head refl)) (n r (List·Memᴰ·head refl)), rules-kept fs vs rs (λ x k. d x (List·Memᴰ·tail k)) (λ x k. n x (List·Memᴰ·tail k)))
+pub held : {ms : List ℕ} {i : ℕ} {cs : List Named} {fs : List Bytes} {vs : Record} → Values ms i cs fs vs → Held cs fs vs
+held h = record { at = held-at h }
 
 -- no number is a text
 quoted-no-number : (f : Bytes) → numberOf (34 ∷ f) ≡ N.Nothing
@@ -171,7 +171,7 @@ quoted-no-number f = by (leb 1 (suc (length f)) && leb (suc (length f)) 18)
 
 number-no-text : (f : Bytes) (n : ℕ) → numberOf f ≡ N.Plus n → no-bytes (record-text f) ≡ false
 unfolding textOf
-number-no-text [] n e = rw (record-text-is [])
+number-no-text [] n e = rw empty-no-text
 number-no-text (b ∷ f) n e = rw (record-text-is (b ∷ f)) (by (eqb b 34) (equal b 34))
   where
     by : (d : Bool) → Decides (b ≡ 34) d → no-bytes (unpadded-in (pick d (bodyOf false f) none)) ≡ false
@@ -187,6 +187,7 @@ no-bytes-d (some (b ∷ u)) t e = fails (λ q. absurd (false≢true (cc)))
 here-d : (m i : ℕ) {c : Column} {f : Bytes} {v : Datum} → 1 ≤ i → Holds (owner-by (marks-of m) i) c f v → Decides (words O.Suggestion [] ≡ v) (eqb m i && no-bytes (record-text f))
 unfolding owner-of
 here-d m i l (a-number {n} t e g h) = rw (number-no-text _ n e, and-false) (fails (λ q. absurd (false≢true (cc))))
+here-d m i l (no-number t p q) = rw (q, empty-no-text, and-false) (fails (λ q. absurd (false≢true (cc))))
 here-d m i {f = f} l (a-text {t} u e g) = rw (owner-one m i l) (by (eqb m i) (no-bytes (record-text f)) (no-bytes-d (record-text f) t e))
   where
     by : (b d : Bool) → Decides (t ≡ []) d → Decides (words O.Suggestion [] ≡ words (pick b O.Suggestion O.Operator) t) (b && d)
@@ -217,9 +218,8 @@ further m i f fs = by (eqb m i) (equal m i) (leb (suc i) m) (at-most (suc i) m)
     by false (fails n) false (fails k) = rw (lt-leb i m (omega arith))
 
 empty-from : (m i : ℕ) {cs : List Named} {fs : List Bytes} {vs : Record} → 1 ≤ i → Values (marks-of m) i cs fs vs →
-    Decides (List·Memᴰ (words O.Suggestion []) vs) (leb i m && no-bytes (record-text (getD fs (m - i) [])))
-unfolding textOf
-empty-from m i l no-field = rw (record-text-is [], and-false) (fails List·Memᴰ·not-nil)
+    Decides (List·Memᴰ (words O.Suggestion []) vs) (leb i m && empty-at fs (m - i))
+empty-from m i l no-field = rw (empty-no-text, and-false) (fails List·Memᴰ·not-nil)
 empty-from m i l (a-field {f} {fs} h k) =
     rw (further m i f fs) at
     (when (λ s. elim s [ inl e ↦ List·Memᴰ·head e | inr x ↦ List·Memᴰ·tail x ]) (λ x. List·Memᴰ·cases-cons x) (one-of (here-d m i l h) (empty-from m (suc i) (omega arith) k)))

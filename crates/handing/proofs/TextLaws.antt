@@ -39,7 +39,7 @@ use Rattle.grammar.proofs.Readings.{sound-arranged}
 use Rattle.page.proofs.CutLaws.{Stands, section-stands, section-within, section-bytes}
 use Rattle.laws.specs.Begins.{begins}
 use Rattle.laws.proofs.Sections.{sections-begin}
-use Rattle.values.proofs.ReadLaws.{Read, a-text, a-number, no-value, read-of, wording-in}
+use Rattle.values.proofs.ReadLaws.{Read, a-text, a-number, no-number, no-value, read-of, wording-in}
 use Rattle.values.proofs.ValueLaws.{inside}
 use Rattle.doubling.specs.Raw.{undoubled}
 use Rattle.doubling.proofs.TextLaws.{undoubled-doubled}
@@ -217,7 +217,15 @@ module _ (s : Bytes) (i r f : ℕ) (found : value-refusal s i r f .number ≡ 0)
   spans-by : There s i r f → {g : Field} → Read c (getD (fields (st .rest)) p []) g → Spans s (handed-as g)
   spans-by h (a-text y q e) = words-lie s st p y (h .lain) (h .short) (has-field h) e
   spans-by h (a-number n q) = tt
+  spans-by h (no-number q) = tt
   spans-by h (no-value v n) = tt
+
+  gave-none : c .text ≡ false → (l m : Bytes) (w : Handed) → w ≡ Ha.Refused (refusal 11 0 0) → m ≡ l
+      → (w ≡ textOut s i r f (length l)) × (m ≡ text-after s i r f l)
+  unfolding textOut text-after refuse-if
+  gave-none q l m w e n =
+      let y = refused-text (text-owner s i r f) (refusal 11 0 0) (own-text s i r f) l (λ (e : _≡_ {A = ℕ} 11 0). omega arith) in
+      (rw (refusal-is, q) (e ∙ y .0), rw (refusal-is, q) (n ∙ y .1))
 
   gave-by : There s i r f → {g : Field} → Read c (getD (fields (st .rest)) p []) g → field-number g ≡ 0 → (l m : Bytes) (w : Handed)
       → Gave s (handed-as g) l m w → (w ≡ textOut s i r f (length l)) × (m ≡ text-after s i r f l)
@@ -226,9 +234,8 @@ module _ (s : Bytes) (i r f : ℕ) (found : value-refusal s i r f .number ≡ 0)
       let u : own-text s i r f ≡ y .own = rw e in
       let v = words-own s st p y (h .lain) (h .short) (has-field h) e in
       (rw (refusal-is, q, u) (rw v at (x .answer)), rw (refusal-is, q, u) (rw v at (x .left)))
-  gave-by h (a-number n q) z l m w x =
-      let y = refused-text (text-owner s i r f) (refusal 11 0 0) (own-text s i r f) l (λ (e : _≡_ {A = ℕ} 11 0). omega arith) in
-      (rw (refusal-is, q) (x .answer ∙ y .0), rw (refusal-is, q) (x .left ∙ y .1))
+  gave-by h (a-number n q) z l m w x = gave-none q l m w (x .answer) (x .left)
+  gave-by h (no-number q) z l m w x = gave-none q l m w (x .answer) (x .left)
   gave-by h (no-value v n) z l m w x = absurd (n z)
 
   value-is : value-at (section-at s i) r f ≡ handed-as (fieldOf c (getD (fields (st .rest)) p []))

@@ -26,6 +26,7 @@ pub record Lies (s : Bytes) (from to : ℕ) : Type 0 where
 
 abbrev pub Spans : Bytes → Value → Type 0
 Spans s (Va.Number n) = Unit {0}
+Spans s Va.Missing = Unit {0}
 Spans s (Va.Words x) = Lies s (x .from) (x .to)
 
 -- what was written of a text, and whose it is
@@ -39,10 +40,12 @@ own-of s x = undoubled false (take (x .to - x .from) (drop (x .from) s))
 -- "11 if it is a number"
 abbrev pub answer-of : Bytes → Value → ℕ → Handed
 answer-of s (Va.Number n) room = Ha.Refused (refusal 11 0 0)
+answer-of s Va.Missing room = Ha.Refused (refusal 11 0 0)
 answer-of s (Va.Words x) room = handed (put-refusal sound (own-of s x) room) (copied (own-of s x) (x .owner))
 
 abbrev pub left-of : Bytes → Value → Bytes → Bytes
 left-of s (Va.Number n) out = out
+left-of s Va.Missing out = out
 left-of s (Va.Words x) out = put-after sound (own-of s x) out
 
 -- a value that stands in s was handed out

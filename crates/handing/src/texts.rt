@@ -2,7 +2,9 @@
 ghost use mathlib.Core.Path.{_≡_};
 ghost use lib.ListN.{length};
 ghost use Rattle.page.specs.Handing.{textOut, text-after};
+ghost use Rattle.page.specs.Answers.{refusal};
 ghost use Rattle.page.specs.declared.Value.the-variants as Va;
+ghost use Rattle.page.specs.declared.Handed.the-variants as Ha;
 ghost use Rattle.handing.specs.Own.{Lies, Spans, owned, Gave};
 use page::Copied;
 use page::Got;
@@ -24,6 +26,17 @@ fn tell_owner(w: Written, owner: Owner) -> Handed
         }),
         Written::Refused(x) => Handed::Refused(x),
     }
+}
+
+// "not a text": a number, missing or not.
+fn refuse_number() -> Handed
+    ensures { λ r. ⌜ r ≡ Ha.Refused (refusal 11 0 0) ⌝ }
+{
+    Handed::Refused(Refusal {
+        number: 11,
+        section: 0,
+        line: 0,
+    })
 }
 
 // A text by its place in the file, between the quotes.
@@ -48,11 +61,8 @@ fn hand_value(file: &[u8], v: Value, out: &mut [u8]) -> Handed
     ensures { λ r. ⌜ Gave (now (file .entry)) v (now (out .entry)) (now (out .exit)) r ⌝ }
 {
     match v {
-        Value::Number(_) => Handed::Refused(Refusal {
-            number: 11,
-            section: 0,
-            line: 0,
-        }),
+        Value::Number(_) => refuse_number(),
+        Value::Missing => refuse_number(),
         Value::Words(x) => hand_words(file, x, out),
     }
 }

@@ -1,136 +1,139 @@
 -- A record's fields from the left, against the columns of its table as they stand. Assumes nothing.
 use mathlib.Core.Path.{_≡_, refl, ap, sym, _∙_}
 use mathlib.Core.Bool.{Bool, true, false, _&&_}
-use mathlib.Core.List.{List, [], _∷_, List·Memᴰ, List·Memᴰ·head, List·Memᴰ·tail}
-use Prim.Native.Nat.{ℕ, zero, suc, _+_, _<_, _≤_}
+use mathlib.Core.List.{List, [], _∷_}
+use mathlib.Core.Option.{Option, none, some}
+use Prim.Native.Nat.{ℕ, _+_, _-_, _<_, _≤_}
 use native.Mathlib.Numerals.{add-one}
 use native.Mathlib.Omega.{arith}
 use lib.Dec.{eqb, leb, ltb}
 use lib.ListN.{length, getD, set, drop, drop-of-length-le, length-drop}
 use lib.Seq.{drop-cons, getD-set-same, getD-set-other}
 use borrow.Author.Tests.{eq-eqb, ne-eqb, eqb-true, eqb-false, ltb-true}
-use Rattle.page.specs.Bytes.{Bytes, pick}
+use Rattle.page.specs.Bytes.{Bytes, pick, moved}
 use Rattle.page.specs.Fields.{fields, numberOf}
-use Rattle.page.specs.Tables.{Named, Rule, points-differ, WIDEST, no-column, column-at, width, rules}
+use Rattle.page.specs.Tables.{Named, WIDEST, no-column, column-at, width}
 use Rattle.page.specs.Order.{Order, standing, place, by-column}
-use Rattle.page.specs.Section.{number-field, fieldOf, field-number, first-of, first-wrong, amount, amount-at, broken, first-broken}
+use Rattle.page.specs.Section.{Wording, own-of, wordsOf, record-text, text-field, number-field, left-out, fieldOf, field-number, first-of, first-wrong, amount, no-bytes}
+use Rattle.page.specs.Form.{doubled}
+use Rattle.page.specs.Reading.{later-field}
 use Rattle.page.specs.declared.Column.{Column}
+use Rattle.page.specs.declared.Span.{Span}
 use Rattle.page.specs.declared.Number.{Number}
 use Rattle.page.specs.declared.Number.the-variants as N
-use Rattle.page.specs.Reading.{later-field}
 use Rattle.page.specs.declared.Field.{Field}
 use Rattle.page.specs.declared.Field.the-variants as F
-use Rattle.page.proofs.TestLaws.{false-true}
-use Rattle.page.proofs.OrderLaws.{place-in, place-at, by-column-at}
-use Rattle.page.proofs.TableLaws.{width-le, points-there}
+use Rattle.page.proofs.TestLaws.{false-true, and-right}
+use Rattle.page.proofs.TextLaws.{doubled-least, words-there}
+use Rattle.page.proofs.OrderLaws.{arranged-below, place-in, place-at, by-column-at}
 use Rattle.page.proofs.FieldLaws.{from, from-end}
-use Rattle.tables.specs.Keys.{rules-of}
+use Rattle.fields.proofs.ColumnLaws.{no-number, column-asked}
+use Rattle.tables.specs.Arrays.{first-column, kinds, marks, lows, highs, Said}
 use Rattle.tables.specs.Orders.{held, Stands}
+use Rattle.tables.proofs.ArrayLaws.{said-column}
 use Rattle.tables.proofs.OrderLaws.{held-length, held-at, held-standing, held-column}
-use Rattle.judging.specs.Judging.{number-of, Tells, Numbers, Amounts, Judged, breaks, broken-by}
+use Rattle.judging.specs.Judging.{number-of, Kept, Numbers, Columns, Judged}
 
--- a field's number and value are the same wherever it stands
+-- a field's refusal and what is kept of it are the same wherever it stands
 
 later-refusal : (k : ℕ) (f : Field) → field-number (later-field k f) ≡ field-number f
 unfolding field-number
 later-refusal k (F.Text sp) = refl
 later-refusal k (F.Number n) = refl
+later-refusal k F.Missing = refl
 later-refusal k (F.Refused v) = refl
 
 later-value : (k : ℕ) (f : Field) → number-of (later-field k f) ≡ number-of f
 unfolding number-of
-later-value k (F.Text sp) = refl
+later-value k (F.Text sp) = omega arith
 later-value k (F.Number n) = refl
+later-value k F.Missing = refl
 later-value k (F.Refused v) = refl
 
--- a field's reading asks its column for kind and bounds alone
-module _ (c d : Column) (f : Bytes) (a : d .text ≡ c .text) (b : d .lo ≡ c .lo) (e : d .hi ≡ c .hi) (k : ℕ) (r : Field)
-    (q : r ≡ later-field k (fieldOf d f)) where
-  pub column-read : r ≡ later-field k (fieldOf c f)
-  unfolding fieldOf
-  column-read = q ∙ rw (a, b, e)
+module _ (c : Column) (f : Bytes) (k : ℕ) (r : Field) (q : r ≡ later-field k (fieldOf c f)) where
+  pub refusal-read : field-number r ≡ field-number (fieldOf c f)
+  refusal-read = ap field-number q ∙ later-refusal k (fieldOf c f)
 
-  refusal-read : field-number r ≡ field-number (fieldOf c f)
-  refusal-read = ap field-number column-read ∙ later-refusal k (fieldOf c f)
+  pub value-read : number-of r ≡ number-of (fieldOf c f)
+  value-read = ap number-of q ∙ later-value k (fieldOf c f)
 
-  value-read : number-of r ≡ number-of (fieldOf c f)
-  value-read = ap number-of column-read ∙ later-value k (fieldOf c f)
+-- a text's span is one
+pub span-read : (c : Column) (f : Bytes) (k : ℕ) (sp : Span) → F.Text sp ≡ later-field k (fieldOf c f) → sp .from ≤ sp .to
+unfolding fieldOf text-field number-field
+span-read c f k sp e = by (c .text) (left-out (c .optional) f) e
+  where
+    later : (n : ℕ) (s : Span) → s .from ≤ s .to → F.Text sp ≡ F.Text (moved n s) → sp .from ≤ sp .to
+    later n s h q =
+        let x : sp ≡ moved n s = cc in
+        rw x (omega arith)
 
-pub tells : (d : Column) (f : Bytes) (k : ℕ) (r : Field) → r ≡ later-field k (fieldOf d f) → (wrong value : ℕ) → wrong ≡ field-number r → value ≡ number-of r
-    → Tells (d .text) (d .lo) (d .hi) f wrong value
-tells d f k r q wrong value x y c a b e = (x ∙ refusal-read c d f a b e k r q, y ∙ value-read c d f a b e k r q)
+    sized : (x : Wording) → wordsOf f ≡ some x → (b : Bool) → F.Text sp ≡ later-field k (pick b (F.Text (x .span)) (F.Refused 13)) → sp .from ≤ sp .to
+    sized x w true q = let y = words-there f x w in later k (x .span) (omega (arith, y .begins, y .ends)) q
+    sized x w false q = absurd (let z : _≡_ {A = ℕ} 0 1 = cc in omega arith)
+
+    worded-so : (o : Option Wording) → wordsOf f ≡ o → F.Text sp ≡ later-field k (text-field (c .hi) o) → sp .from ≤ sp .to
+    worded-so none w q = absurd (let z : _≡_ {A = ℕ} 0 1 = cc in omega arith)
+    worded-so (some x) w q = sized x w (leb (length (x .own)) (c .hi)) q
+
+    ranged : (b : Bool) (n : ℕ) → F.Text sp ≡ later-field k (pick b (F.Number n) (F.Refused 13)) → sp .from ≤ sp .to
+    ranged true n q = absurd (let z : _≡_ {A = ℕ} 0 1 = cc in omega arith)
+    ranged false n q = absurd (let z : _≡_ {A = ℕ} 0 1 = cc in omega arith)
+
+    counted : (n : Number) → F.Text sp ≡ later-field k (number-field (c .lo) (c .hi) n) → sp .from ≤ sp .to
+    counted (N.Plus n) q = ranged (leb (c .lo) n && leb n (c .hi)) n q
+    counted (N.Minus n) q = absurd (let z : _≡_ {A = ℕ} 0 1 = cc in omega arith)
+    counted N.Nothing q = absurd (let z : _≡_ {A = ℕ} 0 1 = cc in omega arith)
+
+    by : (b d : Bool) → F.Text sp ≡ later-field k (pick b (text-field (c .hi) (wordsOf f)) (pick d F.Missing (number-field (c .lo) (c .hi) (numberOf f)))) → sp .from ≤ sp .to
+    by true d q = worded-so (wordsOf f) refl q
+    by false true q = absurd (let z : _≡_ {A = ℕ} 0 1 = cc in omega arith)
+    by false false q = counted (numberOf f) q
+
+-- what is kept of a field that is not wrong
 
 number-known : (c : Column) (f : Bytes) → field-number (fieldOf c f) ≡ 0 → c .text ≡ false → number-of (fieldOf c f) ≡ amount (numberOf f)
 unfolding fieldOf number-field field-number number-of
-number-known c f z e = rw e (by (numberOf f) (rw e at z))
+number-known c f z e = rw e (by (left-out (c .optional) f) refl (rw e at z))
   where
     in-range : (b : Bool) (n : ℕ) → field-number (pick b (F.Number n) (F.Refused 13)) ≡ 0 → number-of (pick b (F.Number n) (F.Refused 13)) ≡ n
     in-range true n q = refl
     in-range false n q = absurd (omega arith)
 
-    by : (n : Number) → field-number (number-field (c .lo) (c .hi) n) ≡ 0 → number-of (number-field (c .lo) (c .hi) n) ≡ amount n
-    by (N.Plus n) q = in-range (leb (c .lo) n && leb n (c .hi)) n q
-    by (N.Minus n) q = absurd (omega arith)
-    by N.Nothing q = absurd (omega arith)
+    counted : (n : Number) → field-number (number-field (c .lo) (c .hi) n) ≡ 0 → number-of (number-field (c .lo) (c .hi) n) ≡ amount n
+    counted (N.Plus n) q = in-range (leb (c .lo) n && leb n (c .hi)) n q
+    counted (N.Minus n) q = absurd (omega arith)
+    counted N.Nothing q = absurd (omega arith)
 
--- the rules, asked of the numbers
+    by : (d : Bool) → left-out (c .optional) f ≡ d → field-number (pick d F.Missing (number-field (c .lo) (c .hi) (numberOf f))) ≡ 0
+        → number-of (pick d F.Missing (number-field (c .lo) (c .hi) (numberOf f))) ≡ amount (numberOf f)
+    by true l q = sym (ap amount (no-number f (eqb-true (length f) 0 (and-right (c .optional) (eqb (length f) 0) l))))
+    by false l q = counted (numberOf f) q
 
-rule-known : (t : ℕ) (fs : List Bytes) (ns : List ℕ) → Amounts t fs ns → (r : Rule) → List·Memᴰ r (rules t) → breaks r ns ≡ broken r fs
-unfolding breaks broken column-at width
-rule-known t fs ns m (points-differ p) h =
-    let x = points-there t p h in
-    let f = x .fits in
-    rw (
-      m p (omega arith) (x .type-from),
-      m (p + 1) (omega arith) (x .number-from),
-      m (p + 2) (omega arith) (x .type-to),
-      m (p + 3) (omega arith) (x .number-to),
-    )
+text-known : (c : Column) (f : Bytes) → field-number (fieldOf c f) ≡ 0 → c .text ≡ true → eqb (number-of (fieldOf c f)) 0 ≡ no-bytes (record-text f)
+unfolding fieldOf text-field field-number number-of record-text doubled
+text-known c f z e = rw e (by (wordsOf f) refl (rw e at z))
+  where
+    bare : (n : ℕ) (t : Bytes) → n ≡ length (doubled t) → eqb n 0 ≡ no-bytes (some t)
+    bare n [] q = eq-eqb n 0 q
+    bare n (b ∷ t) q = ne-eqb n 0 (λ (y : n ≡ 0). omega (arith, doubled-least (b ∷ t)))
 
-rules-same : (fs : List Bytes) (ns : List ℕ) (rs : List Rule) → ((r : Rule) → List·Memᴰ r rs → breaks r ns ≡ broken r fs) → broken-by rs ns ≡ first-broken rs fs
-unfolding broken-by first-broken
-rules-same fs ns [] h = refl
-rules-same fs ns (r ∷ rs) h =
-    rw (h r (List·Memᴰ·head refl), rules-same fs ns rs (λ x m. h x (List·Memᴰ·tail m)))
+    sized : (x : Wording) → wordsOf f ≡ some x → (b : Bool) → field-number (pick b (F.Text (x .span)) (F.Refused 13)) ≡ 0
+        → eqb (number-of (pick b (F.Text (x .span)) (F.Refused 13))) 0 ≡ no-bytes (some (x .own))
+    sized x w true q = let y = words-there f x w in bare (x .span .to - x .span .from) (x .own) (omega (arith, y .begins, y .ends))
+    sized x w false q = absurd (omega arith)
 
-pub rules-known : (t : ℕ) (fs : List Bytes) (ns : List ℕ) → Amounts t fs ns → broken-by (rules t) ns ≡ first-broken (rules t) fs
-rules-known t fs ns m = rules-same fs ns (rules t) (rule-known t fs ns m)
+    by : (o : Option Wording) → wordsOf f ≡ o → field-number (text-field (c .hi) o) ≡ 0 → eqb (number-of (text-field (c .hi) o)) 0 ≡ no-bytes (own-of o)
+    by none w q = absurd (omega arith)
+    by (some x) w q = sized x w (leb (length (x .own)) (c .hi)) q
 
--- the rules of a table by the column where its two points begin
+kept-of : (c : Column) (f : Bytes) → field-number (fieldOf c f) ≡ 0 → Kept c f (number-of (fieldOf c f))
+kept-of c f z = record { worth = number-known c f z; empty = text-known c f z }
 
-module _ (t p : ℕ) (e : rules-of p ≡ rules t) where
-  pub no-points : (ns : List ℕ) → p ≡ 0 → 0 ≡ broken-by (rules t) ns
-  unfolding broken-by rules-of
-  no-points ns z = let q : rules t ≡ [] = sym e ∙ rw z in rw q
-
-  module _ (n : p ≡ 0 → ⊥) where
-    points-rule : rules t ≡ points-differ p ∷ []
-    unfolding rules-of
-    points-rule = sym e ∙ by p n
-      where
-        by : (q : ℕ) → (q ≡ 0 → ⊥) → rules-of q ≡ points-differ q ∷ []
-        by zero n = absurd (n refl)
-        by (suc q) n = refl
-
-    pub points-in : p + 4 ≤ WIDEST
-    unfolding width
-    points-in =
-        let m : List·Memᴰ (points-differ p) (rules t) = rw points-rule (List·Memᴰ·head refl) in
-        omega (arith, points-there t p m .fits, width-le t)
-
-    module _ (ns : List ℕ) where
-      points-told : broken-by (rules t) ns ≡ pick (eqb (getD ns p 0) (getD ns (p + 2) 0) && eqb (getD ns (p + 1) 0) (getD ns (p + 3) 0)) 14 0
-      unfolding broken-by breaks
-      points-told = rw points-rule
-
-      pub types-apart : (getD ns p 0 ≡ getD ns (p + 2) 0 → ⊥) → 0 ≡ broken-by (rules t) ns
-      types-apart a = sym (points-told ∙ rw (ne-eqb (getD ns p 0) (getD ns (p + 2) 0) a))
-
-      pub places-apart : getD ns p 0 ≡ getD ns (p + 2) 0 → (getD ns (p + 1) 0 ≡ getD ns (p + 3) 0 → ⊥) → 0 ≡ broken-by (rules t) ns
-      places-apart a b = sym (points-told ∙ rw (eq-eqb (getD ns p 0) (getD ns (p + 2) 0) a, ne-eqb (getD ns (p + 1) 0) (getD ns (p + 3) 0) b))
-
-      pub points-same : getD ns p 0 ≡ getD ns (p + 2) 0 → getD ns (p + 1) 0 ≡ getD ns (p + 3) 0 → 14 ≡ broken-by (rules t) ns
-      points-same a b = sym (points-told ∙ rw (eq-eqb (getD ns p 0) (getD ns (p + 2) 0) a, eq-eqb (getD ns (p + 1) 0) (getD ns (p + 3) 0) b))
+-- what the code asks of a column is what its reading asks, by the column's entries in the rows
+pub column-told : (t k i : ℕ) (ks ms ls hs : List ℕ) → (ks ≡ kinds) × (ms ≡ marks) × (ls ≡ lows) × (hs ≡ highs) → i ≡ first-column t + k → k < width t
+    → (d : Column) → Said (getD ks i 0) (getD ms i 0) (getD ls i 0) (getD hs i 0) d → (f : Bytes) → fieldOf d f ≡ fieldOf (column-at t k) f
+column-told t k i ks ms ls hs x e h d s f =
+    column-asked (column-at t k) d (said-column t k i e h d (rw (x .0, x .1, x .2, x .3) at s)) f
 
 -- "each field from the left": no field is left, no column is left, or one of each
 
@@ -171,6 +174,12 @@ module _ (t : ℕ) (a : List ℕ) (x : Stands t a) where
     pub wrong-more : v ≡ 0 → first-wrong (drop k (standing t o)) fs ≡ first-wrong (drop (k + 1) (standing t o)) r
     wrong-more n = wrong-step ∙ rw (eq-eqb v 0 n)
 
+  -- the column at a place is one of the table's
+  pub column-within : (k : ℕ) → k < width t → getD a k 0 < width t
+  column-within k h =
+      let b : getD o k 0 < width t = arranged-below (width t) o (x .arranged) k (omega (arith, long)) in
+      rw (held-at t a k h) at b
+
   -- two places have two columns
   same-place : (p q : ℕ) → p < width t → q < width t → getD a p 0 ≡ getD a q 0 → p ≡ q
   same-place p q h k e = sym (at p h) ∙ ap (λ (c : ℕ). place c o) e ∙ at q k
@@ -182,26 +191,24 @@ module _ (t : ℕ) (a : List ℕ) (x : Stands t a) where
   pub numbers-more : (fs : List Bytes) (k : ℕ) (ns : List ℕ) (f : Bytes) (v : ℕ) → k < width t → length ns ≡ WIDEST → Numbers t a fs k ns
       → getD fs k [] ≡ f → field-number (fieldOf (column-at t (getD a k 0)) f) ≡ 0 → v ≡ number-of (fieldOf (column-at t (getD a k 0)) f)
       → Numbers t a fs (k + 1) (set ns (getD a k 0) v)
-  unfolding amount-at
-  numbers-more fs k ns f v h l m g z q p i e = by (eqb p k) refl
+  numbers-more fs k ns f v h l m g z q p i = by (eqb p k) refl
     where
-      by : (b : Bool) → eqb p k ≡ b → getD (set ns (getD a k 0) v) (getD a p 0) 0 ≡ amount (numberOf (getD fs p []))
+      by : (b : Bool) → eqb p k ≡ b → Kept (column-at t (getD a p 0)) (getD fs p []) (getD (set ns (getD a k 0) v) (getD a p 0) 0)
       by true d =
           let y : p ≡ k = eqb-true p k d in
           let n : getD a k 0 < length ns = omega (arith, x .orderly .small k) in
-          rw (y, getD-set-same ns (getD a k 0) v 0 n, g) (q ∙ number-known (column-at t (getD a k 0)) f z (rw y at e))
+          rw (y, getD-set-same ns (getD a k 0) v 0 n, g, q) (kept-of (column-at t (getD a k 0)) f z)
       by false d =
           let y : p ≡ k → ⊥ = eqb-false p k d in
           let n : getD a p 0 ≡ getD a k 0 → ⊥ = λ j. y (same-place p k (omega arith) h j) in
-          rw (getD-set-other ns (getD a k 0) (getD a p 0) v 0 n) (m p (omega arith) e)
+          rw (getD-set-other ns (getD a k 0) (getD a p 0) v 0 n) (m p (omega arith))
 
-  by-columns : (fs : List Bytes) (ns : List ℕ) → Numbers t a fs (width t) ns → Amounts t (by-column o fs) ns
-  unfolding amount-at
-  by-columns fs ns m c h e =
+  by-columns : (fs : List Bytes) (ns : List ℕ) → Numbers t a fs (width t) ns → Columns t (by-column o fs) ns
+  by-columns fs ns m c h =
       let l = place-in (width t) o (x .arranged) c h in
       let i : place c o < width t = omega (arith, l .0, long) in
       let d : getD a (place c o) 0 ≡ c = sym (held-at t a (place c o) i) ∙ l .1 in
-      let v = m (place c o) i (rw d e) in
+      let v = m (place c o) i in
       rw (by-column-at o fs c (omega (arith, long))) (rw d at v)
 
   -- a walk over a record's fields that has passed k of them: no field is left, or no column

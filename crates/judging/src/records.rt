@@ -5,62 +5,63 @@ ghost use Prim.Native.Nat.{_+_, _≤_};
 ghost use lib.Dec.{eqb};
 ghost use lib.ListN.{length, drop};
 ghost use Rattle.page.specs.Fields.{fields, field-size};
-ghost use Rattle.page.specs.Tables.{width, rules};
-ghost use Rattle.page.specs.Section.{empty-marked, rec-verdict};
+ghost use Rattle.page.specs.Tables.{width};
+ghost use Rattle.page.specs.Section.{fieldOf, field-number, empty-marked, rec-verdict};
 ghost use Rattle.digits.specs.Runs.{field-from};
 ghost use Rattle.tables.specs.Orders.{held, Stands};
-ghost use Rattle.judging.specs.Judging.{Tells, Judged, broken-by};
+ghost use Rattle.judging.specs.Judging.{number-of, Judged};
+use crate::rules::judge_rules;
 use page::Column;
 use page::Field;
+use tables::HIGHS;
+use tables::KINDS;
+use tables::LOWS;
+use tables::MARKS;
 use tables::WIDEST;
-use tables::find_highs;
-use tables::find_kinds;
-use tables::find_lows;
-use tables::find_points;
+use tables::column_of;
+use tables::find_first;
 use tables::find_width;
 
 // What one walk over a record's fields finds: the number of the first wrong one (0: none), whether they are known to be as many as the
-// columns, and the values of the number columns, by column.
+// columns, and a number of each, by column.
 struct Judgement {
     wrong: u32,
     whole: bool,
     numbers: [u64; WIDEST],
 }
 
-// What one field says: the number of what is wrong with it (0: nothing), its value if it is a number, and where it ends.
+// What one field says: the number of what is wrong with it (0: nothing), its value if it is a number or its size if it is a text, and where
+// it ends.
 struct Told {
     wrong: u32,
     value: u64,
     end: usize,
 }
 
-// The field that begins at a place of w, for a column of this kind and with these bounds.
-fn judge_field(w: &[u8], at: usize, text: bool, lo: u64, hi: u64) -> Told
+// The field that begins at a place of w.
+fn judge_field(w: &[u8], at: usize, column: Column) -> Told
     requires { ⌜ at ≤ length (now w) ⌝ }
     ensures { λ r. ⌜ (r .end ≡ at + field-size false (drop at (now (w .entry))))
-        × Tells text lo hi (field-from (now (w .entry)) at) (r .wrong) (r .value) ⌝ }
+        × (r .wrong ≡ field-number (fieldOf column (field-from (now (w .entry)) at)))
+        × (r .value ≡ number-of (fieldOf column (field-from (now (w .entry)) at))) ⌝ }
 {
-    let column = Column {
-        text: text,
-        lo: lo,
-        hi: hi,
-        size: 0,
-        primary: false,
-        second: false,
-        fillable: false,
-    };
     let r = fields::read_field(w, at, column);
     let f = r.field;
     let e = r.end;
     match f {
-        Field::Text(_) => Told {
+        Field::Text(sp) => Told {
             wrong: 0,
-            value: 0,
+            value: (sp.to - sp.from) as u64,
             end: e,
         },
         Field::Number(n) => Told {
             wrong: 0,
             value: n,
+            end: e,
+        },
+        Field::Missing => Told {
+            wrong: 0,
+            value: 0,
             end: e,
         },
         Field::Refused(v) => Told {
@@ -71,15 +72,17 @@ fn judge_field(w: &[u8], at: usize, text: bool, lo: u64, hi: u64) -> Told
     }
 }
 
-// "each field from the left (11 or 12, then 13)", as the columns stand: of a column this asks for kind and bounds alone.
+// "each field from the left (11 or 12, then 13)", as the columns stand.
 fn judge_fields(w: &[u8], t: usize, o: &[u8; WIDEST]) -> Judgement
     requires { ⌜ Stands t (now o) ⌝ }
     ensures { λ r. ⌜ Judged t (held t (now (o .entry))) (fields (now (w .entry))) (r .wrong) (r .whole) (r .numbers) ⌝ }
 {
     let n = find_width(t);
-    let kinds = find_kinds(t);
-    let lows = find_lows(t);
-    let highs = find_highs(t);
+    let first = find_first(t);
+    let kinds = KINDS;
+    let marks = MARKS;
+    let lows = LOWS;
+    let highs = HIGHS;
     let mut ns = [0; WIDEST];
     let mut k = 0;
     let mut at = 0;
@@ -92,7 +95,8 @@ fn judge_fields(w: &[u8], t: usize, o: &[u8; WIDEST]) -> Judgement
             };
         }
         let c = o[k] as usize;
-        let told = judge_field(w, at, kinds[c], lows[c], highs[c]);
+        let i = first + c;
+        let told = judge_field(w, at, column_of(kinds[i], marks[i], lows[i], highs[i]));
         let v = told.wrong;
         let value = told.value;
         let e = told.end;
@@ -125,24 +129,6 @@ fn has_width(w: &[u8], t: usize, whole: bool) -> bool
     commands::count_fields(w) == find_width(t)
 }
 
-// The number of the first rule of its table that a record with these numbers, by column, breaks, 0 if none: "In 225 and 247 the two points, type and number together,
-// differ."
-fn judge_rules(ns: [u64; WIDEST], t: usize) -> u32
-    ensures { λ r. ⌜ r ≡ broken-by (rules t) ns ⌝ }
-{
-    let p = find_points(t);
-    if p == 0 {
-        return 0;
-    }
-    if ns[p] != ns[p + 2] {
-        return 0;
-    }
-    if ns[p + 1] != ns[p + 3] {
-        return 0;
-    }
-    14
-}
-
 // "15 for a marked empty text": m is the field of the mark that waits, 0 if none does.
 pub fn marks_empty(w: &[u8], m: u64) -> bool
     ensures { λ r. ⌜ r ≡ empty-marked m (fields (now (w .entry))) ⌝ }
@@ -153,7 +139,7 @@ pub fn marks_empty(w: &[u8], m: u64) -> bool
     quoted::is_empty_text(commands::field_at(w, m as usize - 1))
 }
 
-// "`rec` 10, each field from the left, 14, 15 for a marked empty text"
+// "`rec` 10, each field from the left, 14, 15 for a marked empty text"; "25, wrong combination, after 14 and before 15"
 pub fn judge_record(w: &[u8], t: usize, o: &[u8; WIDEST], m: u64) -> u32
     requires { ⌜ Stands t (now o) ⌝ }
     ensures { λ r. ⌜ r ≡ rec-verdict t (held t (now (o .entry))) m (fields (now (w .entry))) ⌝ }
@@ -168,7 +154,7 @@ pub fn judge_record(w: &[u8], t: usize, o: &[u8; WIDEST], m: u64) -> u32
     if v != 0 {
         return v;
     }
-    let broken = judge_rules(ns, t);
+    let broken = judge_rules(&ns, t);
     if broken != 0 {
         return broken;
     }

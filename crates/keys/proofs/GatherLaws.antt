@@ -8,21 +8,21 @@ use native.Mathlib.Omega.{arith}
 use lib.Dec.{eqb, ltb, leb}
 use lib.ListN.{length, getD, set, drop, replicate, length-set, length-map, length-replicate, drop-of-length-le, List·getD-map, List·getD-eq-default}
 use lib.Seq.{drop-cons, ext-getD, getD-set-same, getD-set-other}
-use borrow.Author.Tests.{eqb-true, eqb-false, ltb-true, ltb-false, leb-true, leb-false, eq-eqb}
+use borrow.Author.Tests.{eqb-true, eqb-false, ltb-true, ltb-false, leb-true, leb-false, eq-eqb, ne-eqb}
 use Rattle.page.specs.Bytes.{Bytes, pick}
 use Rattle.page.specs.Fields.{numberOf, textOf, digits}
 use Rattle.page.specs.Tables.{Named, WIDEST, no-column, columns, column-at, width}
 use Rattle.page.specs.Order.{Order, often, arranged, place, by-column}
 use Rattle.page.specs.Marks.{owner-of}
-use Rattle.page.specs.Section.{wordsOf, record-text}
-use Rattle.page.specs.Records.{Datum, number, Record, datumOf, valuesOf}
+use Rattle.page.specs.Section.{wordsOf, record-text, left-out, amount}
+use Rattle.page.specs.Records.{Datum, number, missing, Record, datumOf, valuesOf}
 use Rattle.page.specs.File.{key-in, referred}
 use Rattle.page.specs.declared.Column.{Column}
 use Rattle.page.specs.declared.Owner.{Owner}
 use Rattle.page.proofs.OrderLaws.{arranged-long, arranged-once, arranged-below, by-column-length, by-column-at}
 use Rattle.page.proofs.TableLaws.{width-le}
 use Rattle.tables.specs.Arrays.{fill}
-use Rattle.tables.proofs.ArrayLaws.{fill-at}
+use Rattle.tables.proofs.ArrayLaws.{fill-at, fill-length}
 use Rattle.tables.specs.Keys.{by-key, key-columns, flags, reference-at, refer-columns}
 use Rattle.choices.specs.Choices.{coded, kind-of, total, rank, choice-of, key-choice, refer-choice}
 use Rattle.choices.proofs.ChoiceLaws.{rank-le, rank-lt, rank-up, rank-find, key-few, refer-few}
@@ -34,12 +34,6 @@ getD-zeros : (n s : ℕ) → _≡_ {A = ℕ} (getD (replicate n 0) s 0) 0
 getD-zeros zero s = List·getD-eq-default {A = ℕ} [] 0 {n = s} (omega arith)
 getD-zeros (suc n) zero = refl
 getD-zeros (suc n) (suc s) = getD-zeros n s
-
-fill-length : (n d : ℕ) (xs : List ℕ) → length (fill n d xs) ≡ n
-unfolding fill
-fill-length zero d xs = refl
-fill-length (suc n) d [] = ap suc (fill-length n d [])
-fill-length (suc n) d (x ∷ xs) = ap suc (fill-length n d xs)
 
 often-below : (n x : ℕ) (o : Order) → ((p : ℕ) → p < length o → getD o p 0 < n) → 1 ≤ often x o → x < n
 unfolding often
@@ -97,14 +91,6 @@ values-at m i (c ∷ cs) (f ∷ fs) (suc k) e h =
 abbrev taken-as : Column → Bytes → ℕ
 taken-as c f = field-as (kind-of true c) f
 
-taken-datum : (o : Owner) (c : Column) (f : Bytes) → datum-number (datumOf o c f) ≡ taken-as c f
-unfolding kind-of datumOf datum-number field-as
-taken-datum o c f = by (c .text) refl
-  where
-    by : (b : Bool) → c .text ≡ b → datum-number (datumOf o c f) ≡ taken-as c f
-    by true e = rw e
-    by false e = rw e
-
 -- a field that is not there is worth nothing
 taken-none : (c : Column) → taken-as c [] ≡ 0
 unfolding kind-of field-as numberOf record-text wordsOf textOf digits packed packed-from
@@ -113,6 +99,21 @@ taken-none c = by (c .text)
     by : (b : Bool) → field-as (pick b 2 1) [] ≡ 0
     by true = refl
     by false = refl
+
+-- nor is a missing number
+left-none : (optional : Bool) (f : Bytes) (v : ℕ) → (f ≡ [] → v ≡ 0) → datum-number (pick (left-out optional f) missing (number v)) ≡ v
+unfolding datum-number
+left-none true [] v h = sym (h refl)
+left-none true (b ∷ f) v h = rw (ne-eqb (suc (length f)) 0 (λ e. omega arith))
+left-none false f v h = refl
+
+taken-datum : (o : Owner) (c : Column) (f : Bytes) → datum-number (datumOf o c f) ≡ taken-as c f
+unfolding kind-of datumOf datum-number field-as
+taken-datum o c f = by (c .text) refl
+  where
+    by : (b : Bool) → c .text ≡ b → datum-number (datumOf o c f) ≡ taken-as c f
+    by true e = rw e
+    by false e = rw e (left-none (c .optional) f (amount (numberOf f)) (λ q. rw q (rw e at (taken-none c))))
 
 -- which column each number of a key is of is told by its rank
 rank-apart : (bs : List Bool) (c d : ℕ) → getD bs c false ≡ true → getD bs d false ≡ true → eqb c d ≡ false → rank bs c ≡ rank bs d → ⊥

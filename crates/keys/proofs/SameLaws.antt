@@ -1,16 +1,16 @@
 -- Two keys are the same exactly if their numbers are. Assumes nothing.
 use mathlib.Core.Path.{_≡_, refl, ap, sym, _∙_}
-use mathlib.Core.Bool.{Bool, true, false, not, _||_, false≢true}
+use mathlib.Core.Bool.{Bool, true, false, not, _&&_, _||_, false≢true}
 use mathlib.Core.List.{List, [], _∷_, map}
 use Prim.Native.Nat.{ℕ, zero, suc, _≤_}
 use native.Mathlib.Omega.{arith}
 use native.Mathlib.Nat.{le-trans}
-use lib.Dec.{eqb}
+use lib.Dec.{eqb, leb}
 use lib.ListN.{length, getD, length-map}
 use borrow.Author.Tests.{leb-true, not-true}
 use Rattle.page.specs.Bytes.{Bytes, bytes, pick, same, all}
-use Rattle.page.specs.Tables.{Named, no-column, columns, table-named}
-use Rattle.page.specs.Records.{Datum, number, words, Record}
+use Rattle.page.specs.Tables.{Named, columns, table-named}
+use Rattle.page.specs.Records.{Datum, number, missing, words, Record}
 use Rattle.page.specs.File.{same-datum, same-record, key-in, by-primary, referred}
 use Rattle.page.specs.declared.Column.{Column}
 use Rattle.page.specs.declared.Owner.{Owner}
@@ -20,11 +20,12 @@ use Rattle.tables.specs.Arrays.{fill}
 use Rattle.tables.specs.Keys.{reference-at}
 use Rattle.keys.specs.Numbers.{datum-number, seven, key-numbers, refer-numbers}
 use Rattle.keys.proofs.PackLaws.{byte, packed-same}
-use Rattle.tables.proofs.ReferenceLaws.{count, Small, short, plain-at, reference-size, reference-plain, primary-plain, small-primary}
+use Rattle.tables.proofs.ReferenceLaws.{count, Small, short, counts, counts-at, reference-size, reference-counts, primary-count, primary-counts, small-primary}
 
 -- a value as its column asks; its bytes are bytes
 pub data Fits (c : Column) : Datum → Type 0 where
   fits-number : {n : ℕ} → c .text ≡ false → Fits c (number n)
+  fits-missing : c .text ≡ false → c .optional ≡ true → Fits c missing
   fits-text : {o : Owner} {t : Bytes} → c .text ≡ true → length t ≤ c .hi → all byte t ≡ true → Fits c (words o t)
 
 -- one value a column
@@ -77,12 +78,25 @@ seven-same {us} {vs} a h =
 -- a key of two records of a table
 
 short-fits : (p : Column → Bool) (c : Named) → short p c ≡ true → p (c .column) ≡ true → {u v : Datum} → Fits (c .column) u → Fits (c .column) v → Alike u v
-short-fits p c s e (fits-number a) (fits-number b) = numbers
-short-fits p c s e (fits-number a) (fits-text b h q) = absurd (false≢true (sym a ∙ b))
-short-fits p c s e (fits-text a h q) (fits-number b) = absurd (false≢true (sym b ∙ a))
-short-fits p c s e (fits-text a h q) (fits-text b k r) =
-    let l : c .column .hi ≤ 7 = leb-true (c .column .hi) 7 (rw (e, a) at s) in
-    texts (le-trans h l) (le-trans k l) q r
+short-fits p c s e f g = by f g
+  where
+    parts : (c .column .optional ≡ false) × ((not (c .column .text) || leb (c .column .hi) 7) ≡ true)
+    parts =
+        let a : (not (c .column .optional) && (not (c .column .text) || leb (c .column .hi) 7)) ≡ true = rw e at s in (
+          not-true _ (and-left (not (c .column .optional)) (not (c .column .text) || leb (c .column .hi) 7) a),
+          and-right (not (c .column .optional)) (not (c .column .text) || leb (c .column .hi) 7) a,
+        )
+
+    by : {u v : Datum} → Fits (c .column) u → Fits (c .column) v → Alike u v
+    by (fits-number a) (fits-number b) = numbers
+    by (fits-number a) (fits-missing b o) = absurd (false≢true (sym (parts .0) ∙ o))
+    by (fits-number a) (fits-text b h q) = absurd (false≢true (sym a ∙ b))
+    by (fits-missing a o) g = absurd (false≢true (sym (parts .0) ∙ o))
+    by (fits-text a h q) (fits-number b) = absurd (false≢true (sym b ∙ a))
+    by (fits-text a h q) (fits-missing b o) = absurd (false≢true (sym (parts .0) ∙ o))
+    by (fits-text a h q) (fits-text b k r) =
+        let l : c .column .hi ≤ 7 = leb-true (c .column .hi) 7 (rw a at (parts .1)) in
+        texts (le-trans h l) (le-trans k l) q r
 
 keys-alike : (p : Column → Bool) (cs : List Named) → each (short p) cs ≡ true → {us vs : Record} → Fitting cs us → Fitting cs vs → Alikes (key-in p cs us) (key-in p cs vs)
 unfolding each key-in
@@ -117,42 +131,43 @@ data Plain : Record → Type 0 where
   all-plain : Plain []
   a-plain : {n : ℕ} {vs : Record} → Plain vs → Plain (number n ∷ vs)
 
+data IsNumber : Datum → Type 0 where
+  is-number : {n : ℕ} → IsNumber (number n)
+
+plain-first : {v : Datum} {vs : Record} → IsNumber v → Plain vs → Plain (v ∷ vs)
+plain-first is-number r = a-plain r
+
+counted : (c : Column) {v : Datum} → Fits c v → counts c ≡ true → IsNumber v
+counted c (fits-number t) e = is-number
+counted c (fits-missing t o) e = absurd (false≢true (sym (not-true (c .optional) (and-right (not (c .text)) (not (c .optional)) e)) ∙ o))
+counted c (fits-text t l q) e = absurd (false≢true (sym (not-true (c .text) (and-left (not (c .text)) (not (c .optional)) e)) ∙ t))
+
+counted-value : (cs : List Named) {vs : Record} → Fitting cs vs → (k : ℕ) → counts-at cs k ≡ true → IsNumber (getD vs k (number 0))
+counted-value [] no-value k e = is-number
+counted-value (c ∷ cs) (a-value f h) zero e = counted (c .column) f e
+counted-value (c ∷ cs) (a-value f h) (suc k) e = counted-value cs h k e
+
 plain-alike : {us vs : Record} → Plain us → Plain vs → length us ≡ length vs → Alikes us vs
 plain-alike all-plain all-plain e = none
 plain-alike all-plain (a-plain k) e = absurd (let z : ⊥ = omega arith in z)
 plain-alike (a-plain h) all-plain e = absurd (let z : ⊥ = omega arith in z)
 plain-alike (a-plain h) (a-plain k) e = more numbers (plain-alike h k (omega arith))
 
-primary-numbers : (cs : List Named) → each (λ (c : Named). not (c .column .primary) || not (c .column .text)) cs ≡ true → {us : Record} → Fitting cs us → Plain (key-in by-primary cs us)
+primary-numbers : (cs : List Named) → each primary-count cs ≡ true → {us : Record} → Fitting cs us → Plain (key-in by-primary cs us)
 unfolding each key-in
 primary-numbers [] s no-value = all-plain
-primary-numbers (c ∷ cs) s (a-value {v} {vs} h k) = by (c .column .primary) h (a .0) (primary-numbers cs (a .1) k)
+primary-numbers (c ∷ cs) s (a-value {v} {vs} h k) =
+    by (c .column .primary) (and-left (primary-count c) (each primary-count cs) s) (primary-numbers cs (and-right (primary-count c) (each primary-count cs) s) k)
   where
-    a : ((not (c .column .primary) || not (c .column .text)) ≡ true) × (each (λ (c : Named). not (c .column .primary) || not (c .column .text)) cs ≡ true)
-    a = (and-left (not (c .column .primary) || not (c .column .text)) (each (λ (c : Named). not (c .column .primary) || not (c .column .text)) cs) s, and-right (not (c .column .primary) || not (c .column .text)) (each (λ (c : Named). not (c .column .primary) || not (c .column .text)) cs) s)
+    by : (b : Bool) → (not b || counts (c .column)) ≡ true → Plain (key-in by-primary cs vs) → Plain (pick b (v ∷ key-in by-primary cs vs) (key-in by-primary cs vs))
+    by true e r = plain-first (counted (c .column) h e) r
+    by false e r = r
 
-    by : (b : Bool) {v : Datum} → Fits (c .column) v → (not b || not (c .column .text)) ≡ true → Plain (key-in by-primary cs vs) → Plain (pick b (v ∷ key-in by-primary cs vs) (key-in by-primary cs vs))
-    by true (fits-number t) e r = a-plain r
-    by true (fits-text t l q) e r = absurd (false≢true (sym (not-true (c .column .text) e) ∙ t))
-    by false f e r = r
-
-data IsNumber : Datum → Type 0 where
-  is-number : {n : ℕ} → IsNumber (number n)
-
-plain-value : (cs : List Named) {vs : Record} → Fitting cs vs → (k : ℕ) → getD cs k no-column .column .text ≡ false → IsNumber (getD vs k (number 0))
-plain-value [] no-value k e = is-number
-plain-value (c ∷ cs) (a-value (fits-number t) h) zero e = is-number
-plain-value (c ∷ cs) (a-value (fits-text t l q) h) zero e = absurd (false≢true (sym e ∙ t))
-plain-value (c ∷ cs) (a-value f h) (suc k) e = plain-value cs h k e
-
-referred-numbers : (cs : List Named) {vs : Record} → Fitting cs vs → (ks : List ℕ) → each (plain-at cs) ks ≡ true → Plain (referred ks vs)
+referred-numbers : (cs : List Named) {vs : Record} → Fitting cs vs → (ks : List ℕ) → each (counts-at cs) ks ≡ true → Plain (referred ks vs)
 unfolding each referred
 referred-numbers cs h [] e = all-plain
 referred-numbers cs {vs} h (k ∷ ks) e =
-    by (plain-value cs h k (not-true _ (and-left (plain-at cs k) (each (plain-at cs) ks) e))) (referred-numbers cs h ks (and-right (plain-at cs k) (each (plain-at cs) ks) e))
-  where
-    by : {v : Datum} → IsNumber v → Plain (map (λ (k : ℕ). getD vs k (number 0)) ks) → Plain (v ∷ map (λ (k : ℕ). getD vs k (number 0)) ks)
-    by is-number r = a-plain r
+    plain-first (counted-value cs h k (and-left (counts-at cs k) (each (counts-at cs) ks) e)) (referred-numbers cs h ks (and-right (counts-at cs k) (each (counts-at cs) ks) e))
 
 referred-length : (ks : List ℕ) (vs : Record) → length (referred ks vs) ≡ length ks
 unfolding referred
@@ -167,4 +182,4 @@ reference-same t r us vs h k =
     let ks = reference-at t r .columns in
     let l = key-length by-primary (columns u) k in
     let n : length (key-in by-primary (columns u) vs) ≡ length (referred ks us) = l ∙ sym (reference-size t r) ∙ sym (referred-length ks us) in
-    seven-same (plain-alike (primary-numbers (columns u) (primary-plain u) k) (referred-numbers (columns t) h ks (reference-plain t r)) n) (omega (arith, small-primary .few u))
+    seven-same (plain-alike (primary-numbers (columns u) (primary-counts u) k) (referred-numbers (columns t) h ks (reference-counts t r)) n) (omega (arith, small-primary .few u))

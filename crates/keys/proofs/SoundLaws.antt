@@ -15,7 +15,7 @@ use Rattle.page.specs.Tables.{Named, number-at, TABLES, columns, width}
 use Rattle.page.specs.Order.{Order, upto, arranged, place, by-column}
 use Rattle.page.specs.Section.{outcome, record-text}
 use Rattle.page.specs.Records.{Datum, number, Record, recordsOf, table-of, order-in}
-use Rattle.page.specs.Grammar.{fields-of, Says, Holds, a-number, a-text, Values, no-field, a-field, Then, found, skip, Records, pause, a-mark, a-record, the-end, Denotes}
+use Rattle.page.specs.Grammar.{fields-of, Says, Holds, a-number, no-number, a-text, Values, no-field, a-field, Then, found, skip, Records, pause, a-mark, a-record, the-end, Denotes}
 use Rattle.page.specs.Rules.{Every, none-left, one-more}
 use Rattle.page.specs.declared.Outcome.{Outcome}
 use Rattle.page.specs.declared.Owner.{Owner}
@@ -28,7 +28,7 @@ use Rattle.laws.specs.Begins.{begins}
 use Rattle.grammar.proofs.Accepts.{denotes-accepted}
 use Rattle.grammar.proofs.Readings.{handed-denoted, denoted-known, sound-arranged}
 use Rattle.keys.proofs.PackLaws.{byte}
-use Rattle.keys.proofs.SameLaws.{Fits, fits-number, fits-text, Fitting, no-value, a-value}
+use Rattle.keys.proofs.SameLaws.{Fits, fits-number, fits-missing, fits-text, Fitting, no-value, a-value}
 
 -- every byte of a line that is clean is a byte, and so is every byte of its fields and texts
 
@@ -130,6 +130,7 @@ column-bytes o fs e = go (upto 0 (length o))
 
 holds-fits : {o : Owner} {c : Column} {f : Bytes} {v : Datum} → all byte f ≡ true → Holds o c f v → Fits c v
 holds-fits e (a-number t q g h) = fits-number t
+holds-fits e (no-number t q g) = fits-missing t q
 holds-fits {f = f} e (a-text {t = u} t q h) = fits-text t h (all-text byte f u e q)
 
 values-fit : {ms : List ℕ} {i : ℕ} {cs : List Named} {fs : List Bytes} {vs : Record} → each (all byte) fs ≡ true → Values ms i cs fs vs → Fitting cs vs

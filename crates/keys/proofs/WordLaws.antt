@@ -1,6 +1,6 @@
 -- The own bytes of a text of a record are what stands in its span, each doubled quote counted once. Assumes nothing.
 use mathlib.Core.Path.{_≡_, refl, ap, sym, _∙_}
-use mathlib.Core.Bool.{true, false}
+use mathlib.Core.Bool.{Bool, true, false}
 use mathlib.Core.List.{[]}
 use mathlib.Core.Option.{Option, none, some}
 use Prim.Native.Nat.{ℕ, _+_, _-_, _≤_}
@@ -46,6 +46,12 @@ short f x e =
     let z = spanned f x e in
     let n = part-length (x .span .from) (x .span .to) f (z .within) in
     omega (arith, ap length (z .own), undoubled-length false (part (x .span) f))
+
+abbrev pub counted : Field → Bool
+counted (F.Text sp) = false
+counted (F.Number n) = true
+counted F.Missing = true
+counted (F.Refused v) = false
 
 -- the text of the field that begins at a place of w, in a column that takes a text of any size
 module _ (w : Bytes) (at : ℕ) (h : at ≤ length w) (c : Column) (x : c .text ≡ true) (g : length w ≤ c .hi) where
@@ -104,10 +110,11 @@ module _ (w : Bytes) (at : ℕ) (h : at ≤ length w) (c : Column) (x : c .text 
       by none y z = rw y
       by (some v) y z = absurd (let u = rw (y, small v y) at z in let m : _≡_ {A = ℕ} 0 1 = cc in omega arith)
 
-  pub text-only : (r : Field) → r ≡ later-field k (fieldOf c f) → (n : ℕ) → r ≡ F.Number n → ⊥
+  -- neither a number nor a missing one
+  pub text-only : (r : Field) → r ≡ later-field k (fieldOf c f) → counted r ≡ false
   unfolding text-field
-  text-only r q n e = by (wordsOf f) refl (sym e ∙ read-is r q)
+  text-only r q = by (wordsOf f) refl (read-is r q)
     where
-      by : (o : Option Wording) → wordsOf f ≡ o → F.Number n ≡ later-field k (text-field (c .hi) (wordsOf f)) → ⊥
-      by none y z = let u = rw y at z in let m : _≡_ {A = ℕ} 0 1 = cc in omega arith
-      by (some v) y z = let u = rw (y, small v y) at z in let m : _≡_ {A = ℕ} 0 1 = cc in omega arith
+      by : (o : Option Wording) → wordsOf f ≡ o → r ≡ later-field k (text-field (c .hi) (wordsOf f)) → counted r ≡ false
+      by none y z = rw (z, y)
+      by (some v) y z = rw (z, y, small v y)

@@ -8,7 +8,7 @@ use Rattle.page.specs.Bytes.{Bytes, pick}
 use Rattle.page.specs.Fields.{numberOf}
 use Rattle.page.specs.Tables.{columns}
 use Rattle.page.specs.Section.{record-text, amount}
-use Rattle.page.specs.Records.{Datum, number, words, Record, own-bytes}
+use Rattle.page.specs.Records.{Datum, number, missing, words, Record, own-bytes}
 use Rattle.page.specs.File.{key-in, referred}
 use Rattle.tables.specs.Arrays.{fill}
 use Rattle.choices.specs.declared.Choice.{Choice}
@@ -31,6 +31,7 @@ packed t = packed-from 1 t - 1
 
 unfoldable pub datum-number : Datum → ℕ
 datum-number (number n) = n
+datum-number missing = 0
 datum-number (words o t) = packed t
 
 abbrev pub places : ℕ

@@ -66,6 +66,7 @@ fn take_text(w: &[u8], at: usize) -> Taken
         primary: false,
         second: false,
         fillable: false,
+        optional: false,
     };
     let x = fields::read_field(w, at, column);
     let e = x.end;
@@ -80,6 +81,7 @@ fn take_text(w: &[u8], at: usize) -> Taken
             }
         }
         Field::Number(_) => Taken { value: 0, end: e },
+        Field::Missing => Taken { value: 0, end: e },
         Field::Refused(_) => Taken { value: 0, end: e },
     }
 }

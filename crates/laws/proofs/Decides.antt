@@ -1,6 +1,6 @@
 -- A test decides a statement: one proof serves both ways.
 use mathlib.Core.Path.{_≡_, refl}
-use mathlib.Core.Bool.{Bool, true, false, _&&_, _||_, false≢true}
+use mathlib.Core.Bool.{Bool, true, false, not, _&&_, _||_, false≢true}
 use mathlib.Core.Logic.{_⊎_, inl, inr}
 use Prim.Native.Nat.{ℕ, _≤_, _<_}
 use native.Mathlib.Nat.{not-le-of-lt}
@@ -26,6 +26,10 @@ untested (fails n) x = refl
 pub when : {A B : Type 0} {b : Bool} → (A → B) → (B → A) → Decides A b → Decides B b
 when f g (holds a) = holds (f a)
 when f g (fails n) = fails (λ b. n (g b))
+
+pub denied : {A : Type 0} {b : Bool} → Decides A b → Decides (¬ A) (not b)
+denied (holds a) = fails (λ n. n a)
+denied (fails n) = holds n
 
 pub both : {A B : Type 0} {a b : Bool} → Decides A a → Decides B b → Decides (A × B) (a && b)
 both (holds x) (holds y) = holds (x, y)

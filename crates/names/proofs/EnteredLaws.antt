@@ -18,6 +18,7 @@ use Rattle.page.proofs.TableLaws.{width-le}
 use Rattle.page.proofs.ArrangeLaws.{order-length, arrangement-arranged}
 use Rattle.tables.specs.Arrays.{fill}
 use Rattle.tables.specs.Orders.{held, Orderly}
+use Rattle.tables.proofs.ArrayLaws.{fill-length, fill-none}
 use Rattle.tables.proofs.OrderLaws.{held-length, held-at, listed-orderly}
 use Rattle.names.specs.Told.{column-named, Told}
 use Rattle.names.proofs.ToldLaws.{order-at}
@@ -48,21 +49,10 @@ marked-all (suc n) s e c h = by (marked-all n s) (getD s n false) refl e (eqb c 
     by ih true x y false q = let z = eqb-false c n q in ih (omega arith) c (omega arith)
     by ih false x y r q = absurd (omega (arith, marked-le n s))
 
-filled-length : (n : ℕ) → length (fill n false []) ≡ n
-unfolding fill
-filled-length zero = refl
-filled-length (suc n) = ap suc (filled-length n)
-
-unmarked : (m c : ℕ) → getD (fill m false []) c false ≡ false
-unfolding fill
-unmarked zero c = refl
-unmarked (suc m) zero = refl
-unmarked (suc m) (suc c) = unmarked m c
-
 marked-none : (n m : ℕ) → marked n (fill m false []) ≡ 0
 unfolding marked
 marked-none zero m = refl
-marked-none (suc n) m = rw (unmarked m n, marked-none n m)
+marked-none (suc n) m = rw (fill-none m false n, marked-none n m)
 
 marked-past : (n : ℕ) (s : List Bool) (c : ℕ) → n ≤ c → marked n (set s c true) ≡ marked n s
 unfolding marked
@@ -98,12 +88,12 @@ pub entered-none : (t : ℕ) (fs : List Bytes) (o : List ℕ) → o ≡ upto 0 W
 entered-none t fs o e =
     record {
       orderly = rw e listed-orderly;
-      wide = filled-length WIDEST;
+      wide = fill-length WIDEST false [];
       filled = λ p (h : p < 0). absurd (omega arith);
       below = λ p (h : p < 0). absurd (omega arith);
       apart = λ p q (h : p < 0) k x. absurd (omega arith);
       noted = λ p (h : p < 0). absurd (omega arith);
-      known = λ c x. absurd (false≢true (sym (unmarked WIDEST c) ∙ x));
+      known = λ c x. absurd (false≢true (sym (fill-none WIDEST false c) ∙ x));
       counted = marked-none (width t) WIDEST;
     }
 

@@ -31,6 +31,9 @@ pub fn is_word(f: &[u8], n: usize) -> bool
     let sp = find_word(n);
     let a = sp.from;
     let e = sp.to;
+    if f.len() != e - a {
+        return false;
+    }
     let names = NAMES;
     lines::equal(f, &names[a..e])
 }

@@ -1,8 +1,8 @@
 -- The fixed tables: what holds of each entry is computed over the one list of tables. Assumes nothing.
 use mathlib.Core.Path.{_≡_, refl, ap, sym, _∙_}
 use mathlib.Core.Logic.{⊎-elim}
-use mathlib.Core.Bool.{Bool, true, false, false≢true, not, _&&_}
-use mathlib.Core.List.{List, [], _∷_, map, List·Memᴰ, List·Memᴰ·not-nil, List·Memᴰ·cases-cons}
+use mathlib.Core.Bool.{Bool, true, false, false≢true, not, _&&_, _||_}
+use mathlib.Core.List.{List, [], _∷_, map, List·Memᴰ, List·Memᴰ·head, List·Memᴰ·tail, List·Memᴰ·not-nil, List·Memᴰ·cases-cons}
 use Prim.Native.Nat.{ℕ, zero, suc, _+_, _-_, _<_, _≤_}
 use native.Mathlib.Nat.{lt-of-not-le, eq-or-lt-of-le, le-of-suc-le-suc}
 use native.Mathlib.Omega.{arith}
@@ -12,7 +12,7 @@ use borrow.Author.Tests.{leb-true, not-true}
 use Rattle.page.specs.declared.Column.{Column}
 use Rattle.page.specs.Bytes.{Bytes, bytes, pick, same}
 use Rattle.page.specs.Lines.{find}
-use Rattle.page.specs.Tables.{Named, Rule, points-differ, rule-number, Table, all-tables, TABLES, WIDEST, MOST, no-table, no-column, table-at, number-at, columns, width, column-at, name-at, rules, table-named}
+use Rattle.page.specs.Tables.{Named, Rule, points-differ, feeder-combined, rule-number, Table, all-tables, TABLES, WIDEST, MOST, no-table, no-column, table-at, number-at, columns, width, column-at, name-at, rules, table-named}
 use Rattle.page.specs.Order.{Order, arranged, standing, place}
 use Rattle.page.specs.Marks.{may-mark}
 use Rattle.page.proofs.NameLaws.{found}
@@ -70,6 +70,21 @@ past-names t k h = ap (λ (c : Named). c .name) (List·getD-eq-default (columns 
 pub past-columns : (t k : ℕ) → width t ≤ k → column-at t k ≡ no-column .column
 unfolding column-at width
 past-columns t k h = ap (λ (c : Named). c .column) (List·getD-eq-default (columns t) no-column h)
+
+-- "Where a column there allows NULL": no text does, and no key
+pub optional-plain : (t k : ℕ) → column-at t k .optional ≡ true → (column-at t k .text ≡ false) × (column-at t k .primary ≡ false) × (column-at t k .second ≡ false)
+unfolding all-tables each
+optional-plain t k e =
+    let c = column-at t k in
+    let plain : Bool = not (c .text) && (not (c .primary) && not (c .second)) in
+    let a : (not (c .optional) || plain) ≡ true =
+    column-test (λ (x : Column). not (x .optional) || (not (x .text) && (not (x .primary) && not (x .second)))) refl refl t k in
+    let b : plain ≡ true = rw e at a in
+    let d = and-right (not (c .text)) (not (c .primary) && not (c .second)) b in (
+      not-true _ (and-left (not (c .text)) (not (c .primary) && not (c .second)) b),
+      not-true _ (and-left (not (c .primary)) (not (c .second)) d),
+      not-true _ (and-right (not (c .primary)) (not (c .second)) d),
+    )
 
 -- the fields that may be marked
 
@@ -181,40 +196,102 @@ named-is w h =
 
 pub rule-some : (r : Rule) → eqb (rule-number r) 0 ≡ false
 rule-some (points-differ p) = refl
+rule-some (feeder-combined c x) = refl
 
-each-in : {A : Type 0} (p : A → Bool) (l : List A) → each p l ≡ true → (x : A) → List·Memᴰ x l → p x ≡ true
+pub each-in : {A : Type 0} (p : A → Bool) (l : List A) → each p l ≡ true → (x : A) → List·Memᴰ x l → p x ≡ true
 unfolding each
 each-in p [] e x m = absurd (List·Memᴰ·not-nil m)
 each-in p (y ∷ l) e x m =
     ⊎-elim (λ (q : x ≡ y). rw q (and-left (p y) (each p l) e)) (λ (n : List·Memᴰ x l). each-in p l (and-right (p y) (each p l) e) x n) (List·Memᴰ·cases-cons m)
 
--- the four columns of the two points are there, and numbers
-pub record Pointed (cs : List Named) (p : ℕ) : Type 0 where
-  pub fits : p + 4 ≤ length cs
-  pub type-from : getD cs p no-column .column .text ≡ false
-  pub number-from : getD cs (p + 1) no-column .column .text ≡ false
-  pub type-to : getD cs (p + 2) no-column .column .text ≡ false
-  pub number-to : getD cs (p + 3) no-column .column .text ≡ false
+-- a column that is there and has a number that is never missing, and one that has a text that is never filled
+pub record Counted (cs : List Named) (k : ℕ) : Type 0 where
+  pub within : k < length cs
+  pub number : getD cs k no-column .column .text ≡ false
+  pub given : getD cs k no-column .column .optional ≡ false
 
-abbrev plain-at : List Named → ℕ → Bool
-plain-at cs k = not (getD cs k no-column .column .text)
+pub record Worded (cs : List Named) (k : ℕ) : Type 0 where
+  pub within : k < length cs
+  pub text : getD cs k no-column .column .text ≡ true
+  pub own : getD cs k no-column .column .fillable ≡ false
+
+counts : List Named → ℕ → Bool
+counts cs k = leb (suc k) (length cs) && (not (getD cs k no-column .column .text) && not (getD cs k no-column .column .optional))
+
+words : List Named → ℕ → Bool
+words cs k = leb (suc k) (length cs) && (getD cs k no-column .column .text && not (getD cs k no-column .column .fillable))
+
+counted : (cs : List Named) (k : ℕ) → counts cs k ≡ true → Counted cs k
+unfolding counts
+counted cs k e =
+    let c = getD cs k no-column .column in
+    let b = and-right (leb (suc k) (length cs)) (not (c .text) && not (c .optional)) e in
+    record {
+      within = leb-true (suc k) (length cs) (and-left (leb (suc k) (length cs)) (not (c .text) && not (c .optional)) e);
+      number = not-true _ (and-left (not (c .text)) (not (c .optional)) b);
+      given = not-true _ (and-right (not (c .text)) (not (c .optional)) b);
+    }
+
+worded : (cs : List Named) (k : ℕ) → words cs k ≡ true → Worded cs k
+unfolding words
+worded cs k e =
+    let c = getD cs k no-column .column in
+    let b = and-right (leb (suc k) (length cs)) (c .text && not (c .fillable)) e in
+    record {
+      within = leb-true (suc k) (length cs) (and-left (leb (suc k) (length cs)) (c .text && not (c .fillable)) e);
+      text = and-left (c .text) (not (c .fillable)) b;
+      own = not-true _ (and-right (c .text) (not (c .fillable)) b);
+    }
+
+abbrev four : ℕ → List ℕ
+four p = p ∷ (p + 1) ∷ (p + 2) ∷ (p + 3) ∷ []
+
+abbrev three : ℕ → List ℕ
+three x = x ∷ (x + 1) ∷ (x + 2) ∷ []
 
 abbrev rule-stands : List Named → Rule → Bool
-rule-stands cs (points-differ p) = leb (p + 4) (length cs) && (plain-at cs p && (plain-at cs (p + 1) && (plain-at cs (p + 2) && plain-at cs (p + 3))))
+rule-stands cs (points-differ p) = each (counts cs) (four p)
+rule-stands cs (feeder-combined c x) = each (counts cs) (four c) && each (words cs) (three x)
 
-pub points-there : (t p : ℕ) → List·Memᴰ (points-differ p) (rules t) → Pointed (columns t) p
-unfolding columns rules each all-tables
-points-there t p m =
-    let cs = columns t in
-    let a : rule-stands cs (points-differ p) ≡ true =
-    each-in (rule-stands cs) (rules t) (table-test (λ (x : Table). each (rule-stands (x .columns)) (x .rules)) refl refl t) (points-differ p) m in
-    let b = and-right (leb (p + 4) (length cs)) (plain-at cs p && (plain-at cs (p + 1) && (plain-at cs (p + 2) && plain-at cs (p + 3)))) a in
-    let d = and-right (plain-at cs p) (plain-at cs (p + 1) && (plain-at cs (p + 2) && plain-at cs (p + 3))) b in
-    let e = and-right (plain-at cs (p + 1)) (plain-at cs (p + 2) && plain-at cs (p + 3)) d in
+rule-there : (t : ℕ) (r : Rule) → List·Memᴰ r (rules t) → rule-stands (columns t) r ≡ true
+unfolding columns rules each all-tables counts words
+rule-there t r m = each-in (rule-stands (columns t)) (rules t) (table-test (λ (x : Table). each (rule-stands (x .columns)) (x .rules)) refl refl t) r m
+
+-- four columns, the first of them p, that are so
+pub record Four (cs : List Named) (p : ℕ) : Type 0 where
+  pub first : Counted cs p
+  pub second : Counted cs (p + 1)
+  pub third : Counted cs (p + 2)
+  pub fourth : Counted cs (p + 3)
+
+all-four : (cs : List Named) (p : ℕ) → each (counts cs) (four p) ≡ true → Four cs p
+all-four cs p e =
     record {
-      fits = leb-true (p + 4) (length cs) (and-left (leb (p + 4) (length cs)) _ a);
-      type-from = not-true _ (and-left (plain-at cs p) _ b);
-      number-from = not-true _ (and-left (plain-at cs (p + 1)) _ d);
-      type-to = not-true _ (and-left (plain-at cs (p + 2)) _ e);
-      number-to = not-true _ (and-right (plain-at cs (p + 2)) (plain-at cs (p + 3)) e);
+      first = counted cs p (each-in (counts cs) (four p) e p (List·Memᴰ·head refl));
+      second = counted cs (p + 1) (each-in (counts cs) (four p) e (p + 1) (List·Memᴰ·tail (List·Memᴰ·head refl)));
+      third = counted cs (p + 2) (each-in (counts cs) (four p) e (p + 2) (List·Memᴰ·tail (List·Memᴰ·tail (List·Memᴰ·head refl))));
+      fourth = counted cs (p + 3) (each-in (counts cs) (four p) e (p + 3) (List·Memᴰ·tail (List·Memᴰ·tail (List·Memᴰ·tail (List·Memᴰ·head refl)))));
+    }
+
+-- the four columns of the two points
+pub points-there : (t p : ℕ) → List·Memᴰ (points-differ p) (rules t) → Four (columns t) p
+points-there t p m = all-four (columns t) p (rule-there t (points-differ p) m)
+
+-- the four numbers and the three texts by which a feeder is told
+pub record Fed (cs : List Named) (c x : ℕ) : Type 0 where
+  pub numbers : Four cs c
+  pub line-id : Worded cs x
+  pub direction-id : Worded cs (x + 1)
+  pub area-id : Worded cs (x + 2)
+
+pub feeder-there : (t c x : ℕ) → List·Memᴰ (feeder-combined c x) (rules t) → Fed (columns t) c x
+feeder-there t c x m =
+    let cs = columns t in
+    let a = rule-there t (feeder-combined c x) m in
+    let e = and-right (each (counts cs) (four c)) (each (words cs) (three x)) a in
+    record {
+      numbers = all-four cs c (and-left (each (counts cs) (four c)) (each (words cs) (three x)) a);
+      line-id = worded cs x (each-in (words cs) (three x) e x (List·Memᴰ·head refl));
+      direction-id = worded cs (x + 1) (each-in (words cs) (three x) e (x + 1) (List·Memᴰ·tail (List·Memᴰ·head refl)));
+      area-id = worded cs (x + 2) (each-in (words cs) (three x) e (x + 2) (List·Memᴰ·tail (List·Memᴰ·tail (List·Memᴰ·head refl))));
     }

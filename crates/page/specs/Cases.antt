@@ -73,6 +73,19 @@ links more =
     bytes "tbl; REC_UEB\natr; BASIS_VERSION; BEREICH_NR; ONR_TYP_NR; ORT_NR; UEB_ZIEL_TYP; UEB_ZIEL; UEB_LAENGE\n" ++
     (bytes "frm; num[9.0]; num[3.0]; num[2.0]; num[6.0]; num[2.0]; num[6.0]; num[6.0]\n" ++ bytes more)
 
+unfoldable pub connections : String → Bytes
+connections more =
+    bytes "tbl; EINZELANSCHLUSS\natr; BASIS_VERSION; EINAN_NR; ANSCHLUSS_NAME; ANSCHLUSS_GRUPPE; LEITSTELLENKENNUNG; ZUB_LI_NR; ZUB_LI_RI_NR; " ++
+    (bytes "ZUB_ORT_REF_ORT; ZUB_ONR_TYP_NR; ZUB_ORT_NR; VON_ORT_REF_ORT; LinienID; RichtungsID; ASBID; ABB_LI_NR; ABB_LI_RI_NR; " ++
+    (bytes "ABB_ORT_REF_ORT; ABB_ONR_TYP_NR; ABB_ORT_NR; NACH_ORT_REF_ORT\nfrm; num[9.0]; num[5.0]; char[40]; char[6]; num[3.0]; num[6.0]; " ++
+    (bytes "num[3.0]; num[6.0]; num[2.0]; num[6.0]; num[6.0]; char[6]; char[6]; char[10]; num[6.0]; num[3.0]; num[6.0]; num[2.0]; num[6.0]; num[6.0]\n" ++
+    bytes more)))
+
+unfoldable pub transfers : String → Bytes
+transfers more =
+    bytes "tbl; REC_UMS\natr; BASIS_VERSION; EINAN_NR; TAGESART_NR; UMS_BEGINN; UMS_ENDE; UMS_MIN; UMS_MAX; MAX_VERZ_MAN; MAX_VERZ_AUTO\n" ++
+    (bytes "frm; num[9.0]; num[5.0]; num[3.0]; num[6.0]; num[6.0]; num[5.0]; num[5.0]; num[5.0]; num[5.0]\n" ++ bytes more)
+
 unfoldable pub head : Bytes
 head =
     bytes "mod; DD.MM.YYYY; HH:MM:SS; free\nsrc; \"Desk\"; \"01.02.2024\"; \"06:00:00\"\nchs; \"ISO8859-1\"\nver; \"1\"\nifv; \"1.0\"\n"

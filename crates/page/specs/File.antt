@@ -11,7 +11,7 @@ use Rattle.page.specs.Cut.{Section, sections, header-lines}
 use Rattle.page.specs.Header.{headOf}
 use Rattle.page.specs.Head.{latinOf}
 use Rattle.page.specs.Section.{outcome}
-use Rattle.page.specs.Records.{Datum, number, words, Record, Entry, entriesOf, table-of}
+use Rattle.page.specs.Records.{Datum, number, missing, words, Record, Entry, entriesOf, table-of}
 use Rattle.page.specs.Trailer.{trailerOf}
 use Rattle.page.specs.Answers.{refusal, sound, earlier, refuse-if, checked}
 use Rattle.page.specs.declared.Column.{Column}
@@ -87,8 +87,13 @@ filed latin i (x ∷ xs) = filed-in latin i x ++ filed latin (suc i) xs
 -- keys "compare by value", texts by their own bytes, whoever's they are
 abbrev pub same-datum : Datum → Datum → Bool
 same-datum (number a) (number b) = eqb a b
+same-datum (number a) missing = false
 same-datum (number a) (words o t) = false
+same-datum missing (number b) = false
+same-datum missing missing = true
+same-datum missing (words o t) = false
 same-datum (words o t) (number b) = false
+same-datum (words o t) missing = false
 same-datum (words o t) (words p u) = same t u
 
 unfoldable pub same-record : Record → Record → Bool

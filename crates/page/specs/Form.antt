@@ -10,7 +10,7 @@ use Rattle.page.specs.Bytes.{Bytes, bytes, pick}
 use Rattle.page.specs.Fields.{quote}
 use Rattle.page.specs.Tables.{Named, Table, table-at}
 use Rattle.page.specs.Head.{Head}
-use Rattle.page.specs.Records.{Datum, number, words, Record}
+use Rattle.page.specs.Records.{Datum, number, missing, words, Record}
 use Rattle.page.specs.Model.{Content, Model}
 use Rattle.page.specs.declared.LineEnd.{LineEnd}
 use Rattle.page.specs.declared.LineEnd.the-variants as E
@@ -83,8 +83,10 @@ unfoldable pub format-text : Column → Bytes
 format-text c =
     pick (c .text) (bytes "char[" ++ (decimal (c .size) ++ bytes "]")) (bytes "num[" ++ (decimal (c .size) ++ bytes ".0]"))
 
+-- a missing number is an empty field
 unfoldable pub datum-text : Datum → Bytes
 datum-text (number n) = decimal n
+datum-text missing = []
 datum-text (words o t) = quoted t
 
 -- a suggestion's mark, of field i
@@ -93,6 +95,7 @@ mark-line e i = line e "com" (quoted (bytes "SUGGESTED " ++ decimal i) ∷ [])
 
 unfoldable pub mark-of : LineEnd → ℕ → Datum → Bytes
 mark-of e i (number n) = []
+mark-of e i missing = []
 mark-of e i (words O.Operator t) = []
 mark-of e i (words O.Suggestion t) = mark-line e i
 

@@ -9,11 +9,11 @@ use lib.ListN.{length, getD}
 use Rattle.page.specs.Bytes.{Bytes, bytes, pick}
 use Rattle.page.specs.Lines.{content, blank, command, rest, clean, Tbl, Atr, Frm, Rec, End, Com}
 use Rattle.page.specs.Fields.{fields, numberOf}
-use Rattle.page.specs.Tables.{Named, Rule, points-differ, TABLES, table-at, width, columns, name-at, rules}
+use Rattle.page.specs.Tables.{Named, Rule, points-differ, feeder-combined, TABLES, table-at, width, columns, name-at, rules}
 use Rattle.page.specs.Order.{Order, standing, by-column, column-in}
 use Rattle.page.specs.Marks.{remarkOf, may-mark}
 use Rattle.page.specs.Section.{format-ok, record-text}
-use Rattle.page.specs.Records.{Datum, number, words, Record}
+use Rattle.page.specs.Records.{Datum, number, missing, words, Record}
 use Rattle.page.specs.declared.Number.the-variants as N
 use Rattle.page.specs.declared.Owner.{Owner}
 use Rattle.page.specs.declared.Owner.the-variants as O
@@ -60,9 +60,10 @@ pub record FrmLine (latin : Bool) (t : ℕ) (o : Order) (l : Bytes) : Type 0 whe
   pub says : Says latin Frm l
   pub formats : Formats (standing t o) (fields-of l)
 
--- a field holds a value of its column: a number in its range, a text of its size
+-- a field holds a value of its column: a number in its range, nothing where that is allowed, a text of its size
 pub data Holds (o : Owner) (c : Column) (f : Bytes) : Datum → Type 0 where
   a-number : {n : ℕ} → c .text ≡ false → numberOf f ≡ N.Plus n → c .lo ≤ n → n ≤ c .hi → Holds o c f (number n)
+  no-number : c .text ≡ false → c .optional ≡ true → f ≡ [] → Holds o c f missing
   a-text : {t : Bytes} → c .text ≡ true → record-text f ≡ some t → length t ≤ c .hi → Holds o c f (words o t)
 
 -- whose the text of column i is, where these are marked
@@ -79,9 +80,42 @@ pub data Values (ms : List ℕ) : ℕ → List Named → List Bytes → Record �
   a-field : {i : ℕ} {c : Named} {cs : List Named} {f : Bytes} {fs : List Bytes} {v : Datum} {vs : Record} →
       Holds (owner-by ms i) (c .column) f v → Values ms (suc i) cs fs vs → Values ms i (c ∷ cs) (f ∷ fs) (v ∷ vs)
 
--- a record's values break a rule: "the two points, type and number together", are the same
+-- column k, from 0, of a record is this number, lies above 0, is an empty text, is a filled one
+abbrev pub Is : Record → ℕ → ℕ → Type 0
+Is vs k n = getD vs k (number 0) ≡ number n
+
+abbrev pub Above : Record → ℕ → Type 0
+Above vs k = (n : ℕ) × Is vs k (suc n)
+
+abbrev pub Empty : Record → ℕ → Type 0
+Empty vs k = (o : Owner) × (getD vs k (number 0) ≡ words o [])
+
+abbrev pub Filled : Record → ℕ → Type 0
+Filled vs k = (o : Owner) × (b : ℕ) × (t : Bytes) × (getD vs k (number 0) ≡ words o (b ∷ t))
+
+-- "With LEITSTELLENKENNUNG 0, LinienID, RichtungsID and ASBID are empty, and ZUB_LI_NR and ZUB_ORT_REF_ORT lie above 0"
+pub record OwnFeeder (vs : Record) (c x : ℕ) : Type 0 where
+  pub centre : Is vs c 0
+  pub line : Above vs (c + 1)
+  pub stop : Above vs (c + 3)
+  pub line-id : Empty vs x
+  pub direction-id : Empty vs (x + 1)
+  pub area-id : Empty vs (x + 2)
+
+-- "with 1 to 255 the three texts are filled, and ZUB_LI_NR, ZUB_LI_RI_NR and ZUB_ORT_REF_ORT are 0"
+pub record ForeignFeeder (vs : Record) (c x : ℕ) : Type 0 where
+  pub centre : Above vs c
+  pub line : Is vs (c + 1) 0
+  pub direction : Is vs (c + 2) 0
+  pub stop : Is vs (c + 3) 0
+  pub line-id : Filled vs x
+  pub direction-id : Filled vs (x + 1)
+  pub area-id : Filled vs (x + 2)
+
+-- a record's values break a rule: "the two points, type and number together", are the same; the feeder is told in neither of the two ways
 pub data Breaks (vs : Record) : Rule → Type 0 where
   same-points : {p : ℕ} → getD vs p (number 0) ≡ getD vs (p + 2) (number 0) → getD vs (p + 1) (number 0) ≡ getD vs (p + 3) (number 0) → Breaks vs (points-differ p)
+  neither-way : {c x : ℕ} → ¬ OwnFeeder vs c x → ¬ ForeignFeeder vs c x → Breaks vs (feeder-combined c x)
 
 -- the values of a record's fields as they stand, after the marks ms
 pub record Reads (t : ℕ) (o : Order) (ms : List ℕ) (fs : List Bytes) (vs : Record) : Type 0 where

@@ -52,13 +52,14 @@ textOut s i r f room =
 unfoldable pub text-after : Bytes → ℕ → ℕ → ℕ → Bytes → Bytes
 text-after s i r f out = put-after (text-refusal s i r f) (own-text s i r f) out
 
--- a value as three numbers: 0, the number, 0; or 1 for the operator's text and 2 for a suggestion, and its span
+-- a value as three numbers: 0, the number, 0; 3, 0, 0 for a missing number; or 1 for the operator's text and 2 for a suggestion, and its span
 abbrev pub owner-cell : Owner → ℕ
 owner-cell O.Operator = 1
 owner-cell O.Suggestion = 2
 
 unfoldable pub cell-of : Value → List ℕ
 cell-of (Va.Number n) = 0 ∷ n ∷ 0 ∷ []
+cell-of Va.Missing = 3 ∷ 0 ∷ 0 ∷ []
 cell-of (Va.Words x) = owner-cell (x .owner) ∷ x .from ∷ x .to ∷ []
 
 -- the values of n columns of a record, the first counted as f

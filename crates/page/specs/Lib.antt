@@ -30,3 +30,4 @@ pub mod Refusals
 pub mod Settled
 pub mod Arranged
 pub mod Padded
+pub mod Connected

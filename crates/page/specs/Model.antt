@@ -6,7 +6,7 @@ use lib.ListN.{getD}
 use Rattle.page.specs.Bytes.{Bytes}
 use Rattle.page.specs.Cut.{Section, sections, header-lines}
 use Rattle.page.specs.Head.{Head, head-values, latinOf}
-use Rattle.page.specs.Records.{Datum, number, words, Record, recordsOf, table-of}
+use Rattle.page.specs.Records.{Datum, number, missing, words, Record, recordsOf, table-of}
 use Rattle.page.specs.declared.Owner.{Owner}
 use Rattle.page.specs.declared.Owner.the-variants as O
 use Rattle.page.specs.declared.Stays.{Stays}
@@ -51,6 +51,7 @@ strip-words O.Suggestion t = words O.Operator []
 
 unfoldable pub strip-datum : Datum → Datum
 strip-datum (number n) = number n
+strip-datum missing = missing
 strip-datum (words o t) = strip-words o t
 
 unfoldable pub strip-content : Content → Content

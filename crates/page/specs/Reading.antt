@@ -81,6 +81,7 @@ value-refusal s i r f =
 abbrev pub later-field : ℕ → Field → Field
 later-field k (F.Text sp) = F.Text (moved k sp)
 later-field k (F.Number n) = F.Number n
+later-field k F.Missing = F.Missing
 later-field k (F.Refused v) = F.Refused v
 
 -- the field at place p, from 0, of what follows a line's first `;`
@@ -91,6 +92,7 @@ field-at c w p = later-field (field-span w p .from) (fieldOf c (getD (fields w) 
 abbrev pub valued : Owner → Field → Value
 valued o (F.Text sp) = Va.Words (record { from = sp .from; to = sp .to; owner = o })
 valued o (F.Number n) = Va.Number n
+valued o F.Missing = Va.Missing
 valued o (F.Refused v) = Va.Number 0
 
 -- column f (from 1) of a record of table t that stands so

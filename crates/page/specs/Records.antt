@@ -11,15 +11,16 @@ use Rattle.page.specs.Fields.{fields, numberOf}
 use Rattle.page.specs.Tables.{Named, columns, table-named}
 use Rattle.page.specs.Order.{Order, order-of, by-column, column-in}
 use Rattle.page.specs.Marks.{remarkOf, owner-of}
-use Rattle.page.specs.Section.{record-text, amount, outcome}
+use Rattle.page.specs.Section.{record-text, left-out, amount, outcome}
 use Rattle.page.specs.declared.Owner.{Owner}
 use Rattle.page.specs.declared.Remark.{Remark}
 use Rattle.page.specs.declared.Remark.the-variants as R
 use Rattle.page.specs.declared.Column.{Column}
 
--- a record's value: a number, or a text with its owner
+-- "a record's value is from now on a number, a missing number or a text with its owner"
 pub data Datum : Type 0 where
   number : ℕ → Datum
+  missing : Datum
   words : Owner → Bytes → Datum
 
 abbrev pub Record : Type 0
@@ -35,7 +36,8 @@ own-bytes none = []
 own-bytes (some t) = t
 
 unfoldable pub datumOf : Owner → Column → Bytes → Datum
-datumOf o c f = pick (c .text) (words o (own-bytes (record-text f))) (number (amount (numberOf f)))
+datumOf o c f =
+    pick (c .text) (words o (own-bytes (record-text f))) (pick (left-out (c .optional) f) missing (number (amount (numberOf f))))
 
 -- the values of a record's fields, by column, the first counted as i, where a mark of column m waits
 unfoldable pub valuesOf : ℕ → ℕ → List Named → List Bytes → Record

@@ -57,22 +57,22 @@ abbrev pub One : List Bytes → Type 0
 One fs = (f : Bytes) × (fs ≡ f ∷ [])
 
 -- "each field from the left (11 or 12, then 13)"
-abbrev pub kind-law : Bool → Bytes → Law
-kind-law true f = law 11 (record-text f ≡ none)
-kind-law false f = law 12 (numberOf f ≡ N.Nothing)
+abbrev pub kind-law : Bool → Bool → Bytes → Law
+kind-law true optional f = law 11 (record-text f ≡ none)
+kind-law false optional f = law 12 ((numberOf f ≡ N.Nothing) × ¬ ((optional ≡ true) × (f ≡ [])))
 
 abbrev pub fields-laws : List Named → List Bytes → List Law
 fields-laws [] fs = []
 fields-laws (c ∷ cs) [] = []
 fields-laws (c ∷ cs) (f ∷ fs) =
-    kind-law (c .column .text) f ∷ law 13 (¬ ((v : Datum) × Holds O.Operator (c .column) f v)) ∷ fields-laws cs fs
+    kind-law (c .column .text) (c .column .optional) f ∷ law 13 (¬ ((v : Datum) × Holds O.Operator (c .column) f v)) ∷ fields-laws cs fs
 
 -- the rules of a table, in their order; B says what it is to break one
 abbrev pub rules-laws : (Rule → Type 0) → List Rule → List Law
 rules-laws B [] = []
 rules-laws B (r ∷ rs) = law (rule-number r) (B r) ∷ rules-laws B rs
 
--- "`rec` 10, each field from the left, 14, 15 for a marked empty text"
+-- "`rec` 10, each field from the left, 14, 15 for a marked empty text"; "25, wrong combination, after 14 and before 15"
 abbrev pub rec-laws : ℕ → Order → List ℕ → List Bytes → List Law
 rec-laws t o ms fs =
     law 10 (¬ (length fs ≡ length o)) ∷
@@ -147,7 +147,7 @@ pub data Refused (latin : Bool) (ls : List Bytes) (k v n : ℕ) : Type 0 where
 
 -- a section's: the numbers of the laws above
 abbrev pub section-numbers : List ℕ
-section-numbers = 4 ∷ 5 ∷ 6 ∷ 7 ∷ 8 ∷ 9 ∷ 10 ∷ 11 ∷ 12 ∷ 13 ∷ 14 ∷ 15 ∷ 16 ∷ []
+section-numbers = 4 ∷ 5 ∷ 6 ∷ 7 ∷ 8 ∷ 9 ∷ 10 ∷ 11 ∷ 12 ∷ 13 ∷ 14 ∷ 25 ∷ 15 ∷ 16 ∷ []
 
 -- "After 1 or 2 no section is read."
 abbrev pub header-numbers : List ℕ

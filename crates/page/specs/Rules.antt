@@ -12,7 +12,7 @@ use Rattle.page.specs.Tables.{Reference, columns, table-at}
 use Rattle.page.specs.Cut.{Section, sections, header-lines, trailer-lines}
 use Rattle.page.specs.Header.{mod-form, holds}
 use Rattle.page.specs.Head.{latinOf}
-use Rattle.page.specs.Records.{Datum, number, words, Record}
+use Rattle.page.specs.Records.{Datum, number, missing, words, Record}
 use Rattle.page.specs.File.{limit, by-primary, by-second, key-in, has-key, referred}
 use Rattle.page.specs.Model.{Content}
 use Rattle.page.specs.Grammar.{fields-of, Denotes}
@@ -71,6 +71,7 @@ pub data Tables (latin : Bool) : List Section → List Content → Type 0 where
 -- keys compare by value, whoever's a text is
 abbrev pub bare : Datum → Datum
 bare (number n) = number n
+bare missing = missing
 bare (words o t) = words O.Operator t
 
 unfoldable pub key : (Column → Bool) → ℕ → Record → Record

@@ -8,7 +8,7 @@ use lib.ListN.{length, getD, take, drop}
 use Rattle.page.specs.Bytes.{Bytes, bytes, pick, same, until, keep, space, unpadded}
 use Rattle.page.specs.Lines.{content, blank, command, rest, clean, Tbl, Atr, Frm, Rec, End, Com, Unknown}
 use Rattle.page.specs.Fields.{fields, textOf, numberOf, digit, digits, value}
-use Rattle.page.specs.Tables.{Named, Rule, points-differ, rule-number, TABLES, number-at, width, rules, table-named}
+use Rattle.page.specs.Tables.{Named, Rule, points-differ, feeder-combined, rule-number, TABLES, number-at, width, rules, table-named}
 use Rattle.page.specs.Order.{Order, order-of, arranged, standing, by-column}
 use Rattle.page.specs.Marks.{remarkOf, may-mark}
 use Rattle.page.specs.declared.Number.{Number}
@@ -104,13 +104,20 @@ number-field lo hi (N.Plus n) = pick (leb lo n && leb n hi) (F.Number n) (F.Refu
 number-field lo hi (N.Minus n) = F.Refused 13
 number-field lo hi N.Nothing = F.Refused 12
 
+-- "Where a column there allows NULL, an empty field is a missing number"; a field has no spaces around it
+abbrev pub left-out : Bool → Bytes → Bool
+left-out optional f = optional && eqb (length f) 0
+
 unfoldable pub fieldOf : Column → Bytes → Field
-fieldOf c f = pick (c .text) (text-field (c .hi) (wordsOf f)) (number-field (c .lo) (c .hi) (numberOf f))
+fieldOf c f =
+    pick (c .text) (text-field (c .hi) (wordsOf f))
+    (pick (left-out (c .optional) f) F.Missing (number-field (c .lo) (c .hi) (numberOf f)))
 
 -- the paper's number for what a field is read as
 unfoldable pub field-number : Field → ℕ
 field-number (F.Text sp) = 0
 field-number (F.Number n) = 0
+field-number F.Missing = 0
 field-number (F.Refused v) = v
 
 -- "each field from the left"
@@ -128,9 +135,31 @@ amount N.Nothing = 0
 unfoldable pub amount-at : List Bytes → ℕ → ℕ
 amount-at fs k = amount (numberOf (getD fs k []))
 
--- whether a record's fields, by column, break a rule: "the two points are the same"
+-- a record's text in field k, from 0, is empty
+abbrev pub no-bytes : Option Bytes → Bool
+no-bytes none = false
+no-bytes (some []) = true
+no-bytes (some (b ∷ bs)) = false
+
+abbrev pub empty-at : List Bytes → ℕ → Bool
+empty-at fs k = no-bytes (record-text (getD fs k []))
+
+-- "With LEITSTELLENKENNUNG 0, LinienID, RichtungsID and ASBID are empty, and ZUB_LI_NR and ZUB_ORT_REF_ORT lie above 0"
+unfoldable pub own-feeder : ℕ → ℕ → List Bytes → Bool
+own-feeder c x fs =
+    (empty-at fs x && (empty-at fs (x + 1) && empty-at fs (x + 2)))
+    && (not (eqb (amount-at fs (c + 1)) 0) && not (eqb (amount-at fs (c + 3)) 0))
+
+-- "with 1 to 255 the three texts are filled, and ZUB_LI_NR, ZUB_LI_RI_NR and ZUB_ORT_REF_ORT are 0"
+unfoldable pub foreign-feeder : ℕ → ℕ → List Bytes → Bool
+foreign-feeder c x fs =
+    (not (empty-at fs x) && (not (empty-at fs (x + 1)) && not (empty-at fs (x + 2))))
+    && (eqb (amount-at fs (c + 1)) 0 && (eqb (amount-at fs (c + 2)) 0 && eqb (amount-at fs (c + 3)) 0))
+
+-- whether a record's fields, by column, break a rule: "the two points are the same"; "wrong combination"
 unfoldable pub broken : Rule → List Bytes → Bool
 broken (points-differ p) fs = eqb (amount-at fs p) (amount-at fs (p + 2)) && eqb (amount-at fs (p + 1)) (amount-at fs (p + 3))
+broken (feeder-combined c x) fs = not (pick (eqb (amount-at fs c) 0) (own-feeder c x fs) (foreign-feeder c x fs))
 
 -- the number of the first rule that they break
 unfoldable pub first-broken : List Rule → List Bytes → ℕ
@@ -138,15 +167,10 @@ first-broken [] fs = 0
 first-broken (r ∷ rs) fs = pick (broken r fs) (rule-number r) (first-broken rs fs)
 
 -- 15: the text that is marked is empty
-abbrev pub no-bytes : Option Bytes → Bool
-no-bytes none = false
-no-bytes (some []) = true
-no-bytes (some (b ∷ bs)) = false
-
 unfoldable pub empty-marked : ℕ → List Bytes → Bool
-empty-marked m fs = leb 1 m && no-bytes (record-text (getD fs (m - 1) []))
+empty-marked m fs = leb 1 m && empty-at fs (m - 1)
 
--- "`rec` 10, each field from the left, 14, 15 for a marked empty text"
+-- "`rec` 10, each field from the left, 14, 15 for a marked empty text"; "25, wrong combination, after 14 and before 15"
 unfoldable pub rec-verdict : ℕ → Order → ℕ → List Bytes → ℕ
 rec-verdict t o m fs =
     pick (eqb (length fs) (width t))

@@ -1,4 +1,4 @@
--- The eight tables: "The columns, kinds, ranges and keys stand once".
+-- The eight tables of document 01, and the two of document 02 (E3): "The columns, kinds, ranges and keys stand once".
 use mathlib.Core.Bool.{Bool, true, false}
 use mathlib.Core.List.{List, [], _∷_, map}
 use Prim.Native.Nat.{ℕ}
@@ -21,10 +21,15 @@ pub record Reference : Type 0 where
 pub data Rule : Type 0 where
   -- "In 225 and 247 the two points, type and number together, differ": p is the column, from 0, where the four of them begin
   points-differ : (p : ℕ) → Rule
+  -- "With LEITSTELLENKENNUNG 0, LinienID, RichtungsID and ASBID are empty, and ZUB_LI_NR and ZUB_ORT_REF_ORT lie above 0; with 1 to 255 the
+  -- three texts are filled, and ZUB_LI_NR, ZUB_LI_RI_NR and ZUB_ORT_REF_ORT are 0": c is the column, from 0, of LEITSTELLENKENNUNG, with the
+  -- three numbers directly behind it, and x that where the three texts begin
+  feeder-combined : (c x : ℕ) → Rule
 
--- its number: 14 is "the two points are the same"
+-- its number: 14 is "the two points are the same", and "25, wrong combination"
 abbrev pub rule-number : Rule → ℕ
 rule-number (points-differ p) = 14
+rule-number (feeder-combined c x) = 25
 
 pub record Table : Type 0 where
   pub number : ℕ
@@ -33,9 +38,9 @@ pub record Table : Type 0 where
   pub references : List Reference
   pub rules : List Rule
 
--- "P marks the primary key, C the second key"; F a text that may be marked and filled
+-- "P marks the primary key, C the second key"; F a text that may be marked and filled; N a number that may be missing
 pub data Mark : Type 0 where
-  plain P C PC F : Mark
+  plain P C PC F N : Mark
 
 abbrev pub in-primary : Mark → Bool
 in-primary plain = false
@@ -43,6 +48,7 @@ in-primary P = true
 in-primary C = false
 in-primary PC = true
 in-primary F = false
+in-primary N = false
 
 abbrev pub in-second : Mark → Bool
 in-second plain = false
@@ -50,6 +56,7 @@ in-second P = false
 in-second C = true
 in-second PC = true
 in-second F = false
+in-second N = false
 
 abbrev pub may-fill : Mark → Bool
 may-fill plain = false
@@ -57,10 +64,29 @@ may-fill P = false
 may-fill C = false
 may-fill PC = false
 may-fill F = true
+may-fill N = false
+
+-- "Where a column there allows NULL"
+abbrev pub may-miss : Mark → Bool
+may-miss plain = false
+may-miss P = false
+may-miss C = false
+may-miss PC = false
+may-miss F = false
+may-miss N = true
 
 abbrev pub column-of : Bool → ℕ → ℕ → ℕ → Mark → Column
 column-of text lo hi size m =
-    record { text = text; lo = lo; hi = hi; size = size; primary = in-primary m; second = in-second m; fillable = may-fill m }
+    record {
+      text = text;
+      lo = lo;
+      hi = hi;
+      size = size;
+      primary = in-primary m;
+      second = in-second m;
+      fillable = may-fill m;
+      optional = may-miss m;
+    }
 
 -- a number from lo to hi, written with its 452 decimal size; a text of at most `size` bytes
 abbrev pub num : String → ℕ → ℕ → ℕ → Mark → Named
@@ -82,6 +108,30 @@ region = num "BEREICH_NR" 0 252 3 P
 abbrev pub points : List Named → List Named
 points more =
     num "ONR_TYP_NR" 1 2 2 P ∷ num "ORT_NR" 1 999999 6 P ∷ num "UEB_ZIEL_TYP" 1 2 2 P ∷ num "UEB_ZIEL" 1 999999 6 P ∷ more
+
+-- the columns that 432 and 232 share
+abbrev pub connection : Named
+connection = num "EINAN_NR" 1 32764 5 P
+
+-- the lines, directions, stops and points that 432 has, each for the feeder and for what it meets
+abbrev pub line-number : String → ℕ → Named
+line-number name lo = num name lo 999 6 plain
+
+abbrev pub direction : String → Named
+direction name = num name 0 2 3 plain
+
+abbrev pub stop : String → ℕ → Mark → Named
+stop name lo m = num name lo 999999 6 m
+
+abbrev pub point-type : String → Named
+point-type name = num name 1 99 2 N
+
+-- seconds since midnight, and seconds
+abbrev pub clock : String → Named
+clock name = num name 0 129599 6 P
+
+abbrev pub seconds : String → Named
+seconds name = num name 0 65532 5 plain
 
 abbrev pub to : List ℕ → String → Reference
 to columns target = record { columns = columns; target = target }
@@ -110,14 +160,26 @@ all-tables =
     (to-version ∷ to (0 ∷ 2 ∷ []) "MENGE_ONR_TYP" ∷ to (0 ∷ 4 ∷ []) "MENGE_ONR_TYP" ∷ []) (points-differ 2 ∷ []) ∷
     table 247 "UEB_FZT" (version P ∷ region ∷ num "FGR_NR" 1 999999999 9 P ∷ points (num "UEB_FAHRZEIT" 1 65532 6 plain ∷ []))
     (to-version ∷ to (0 ∷ 1 ∷ 3 ∷ 4 ∷ 5 ∷ 6 ∷ []) "REC_UEB" ∷ []) (points-differ 3 ∷ []) ∷
+    table 432 "EINZELANSCHLUSS"
+    (version P ∷ connection ∷ char "ANSCHLUSS_NAME" 40 F ∷ char "ANSCHLUSS_GRUPPE" 6 plain ∷ num "LEITSTELLENKENNUNG" 0 255 3 plain ∷
+    line-number "ZUB_LI_NR" 0 ∷ direction "ZUB_LI_RI_NR" ∷ stop "ZUB_ORT_REF_ORT" 0 plain ∷
+    point-type "ZUB_ONR_TYP_NR" ∷ stop "ZUB_ORT_NR" 1 N ∷ stop "VON_ORT_REF_ORT" 1 N ∷
+    char "LinienID" 6 plain ∷ char "RichtungsID" 6 plain ∷ char "ASBID" 10 plain ∷
+    line-number "ABB_LI_NR" 1 ∷ direction "ABB_LI_RI_NR" ∷ stop "ABB_ORT_REF_ORT" 1 plain ∷
+    point-type "ABB_ONR_TYP_NR" ∷ stop "ABB_ORT_NR" 1 N ∷ stop "NACH_ORT_REF_ORT" 1 N ∷ [])
+    (to-version ∷ []) (feeder-combined 4 11 ∷ []) ∷
+    table 232 "REC_UMS"
+    (version P ∷ connection ∷ day-type P ∷ clock "UMS_BEGINN" ∷ clock "UMS_ENDE" ∷
+    seconds "UMS_MIN" ∷ seconds "UMS_MAX" ∷ seconds "MAX_VERZ_MAN" ∷ seconds "MAX_VERZ_AUTO" ∷ [])
+    (to-version ∷ to (0 ∷ 1 ∷ []) "EINZELANSCHLUSS" ∷ to (0 ∷ 2 ∷ []) "MENGE_TAGESART" ∷ []) [] ∷
     []
 
 -- how many tables there are, the columns of the widest, and the most references of one; that it is so is computed in TableLaws
 abbrev pub TABLES : ℕ
-TABLES = 8
+TABLES = 10
 
 abbrev pub WIDEST : ℕ
-WIDEST = 8
+WIDEST = 20
 
 abbrev pub MOST : ℕ
 MOST = 3

@@ -9,7 +9,7 @@ use Rattle.page.specs.Lines.{allowed}
 use Rattle.page.specs.Tables.{column-at, width}
 use Rattle.page.specs.Cut.{sections}
 use Rattle.page.specs.Head.{latinOf}
-use Rattle.page.specs.Records.{Datum, number, words, table-of}
+use Rattle.page.specs.Records.{Datum, number, missing, words, table-of}
 use Rattle.page.specs.Answers.{earlier, refuse-if, written}
 use Rattle.page.specs.File.{limit, file-refusal}
 use Rattle.page.specs.Reading.{outside, section-at, row-at}
@@ -68,6 +68,7 @@ strip-after s out = put-after (file-refusal s) (strip-form s) out
 -- "Order: verdict, 24, 23, 22, text empty 11, text byte not allowed in a `rec` 4, over 40 bytes 13, 21."
 unfoldable pub empty-datum : Datum → Bool
 empty-datum (number n) = false
+empty-datum missing = false
 empty-datum (words o t) = eqb (length t) 0
 
 unfoldable pub fill-place : Bytes → ℕ → ℕ → ℕ → Bool

@@ -26,21 +26,24 @@ pub struct Text {
     pub owner: Owner,
 }
 
-// A record's value.
+// "a record's value is from now on a number, a missing number or a text with its owner"
 pub enum Value {
     Number(u64),
+    Missing,
     Words(Text),
 }
 
-// What a field of a record is read as: a text by its bytes between the quotes, a number by its value, or a refusal by its number.
+// What a field of a record is read as: a text by its bytes between the quotes, a number by its value, a missing number, or a refusal by
+// its number.
 pub enum Field {
     Text(Span),
     Number(u64),
+    Missing,
     Refused(u32),
 }
 
 // A column of the fixed tables: its kind (a text of at most `hi` bytes, or a number from `lo` to `hi`), the size written in `frm`,
-// its keys, and whether it may be marked and filled.
+// its keys, whether it may be marked and filled, and whether its number may be missing.
 pub struct Column {
     pub text: bool,
     pub lo: u64,
@@ -49,6 +52,7 @@ pub struct Column {
     pub primary: bool,
     pub second: bool,
     pub fillable: bool,
+    pub optional: bool,
 }
 
 // What a `com` line's rest says.

@@ -9,7 +9,7 @@ use Rattle.page.specs.Bytes.{Bytes, bytes, pick}
 use Rattle.page.specs.Fields.{fields, numberOf}
 use Rattle.page.specs.Tables.{columns, column-at, width}
 use Rattle.page.specs.Order.{Order, listed-order, standing, place, by-column}
-use Rattle.page.specs.Section.{fieldOf, field-number, first-wrong, amount}
+use Rattle.page.specs.Section.{left-out, fieldOf, field-number, first-wrong, amount}
 use Rattle.page.specs.Records.{valuesOf}
 use Rattle.page.specs.Places.{field-place, span-from}
 use Rattle.page.specs.Reading.{later-field}
@@ -22,11 +22,11 @@ use Rattle.page.specs.declared.Field.the-variants as F
 use Rattle.page.proofs.OrderLaws.{arranged-long, place-in, listed-standing, listed-column}
 use Rattle.tables.specs.Orders.{held, Stands}
 use Rattle.digits.specs.Runs.{field-from}
-use Rattle.judging.proofs.RecordLaws.{column-read}
+use Rattle.fields.proofs.ColumnLaws.{column-asked}
 use Rattle.copies.specs.Changed.{changed-values}
 use Rattle.copies.specs.Parts.{Whole}
 use Rattle.copies.proofs.FieldLaws.{column-sound}
-use Rattle.copies.proofs.ReadLaws.{Words, text-read, number-read, never-refused, field-begins, field-there}
+use Rattle.copies.proofs.ReadLaws.{Words, text-read, number-read, missing-read, never-refused, field-begins, field-there}
 use Rattle.copies.proofs.StandLaws.{record-kept, kept-length}
 
 -- a record that is copied whole
@@ -73,16 +73,19 @@ module _ (t : ℕ) (a : List ℕ) (x : Stands t a) (w : Bytes) (n : length (fiel
 
 -- what is read of a field, as what the code asks of its column
 module _ (t k : ℕ) (w : Bytes) (from : ℕ) (h : from ≤ length w) (ok : field-number (fieldOf (column-at t k) (field-from w from)) ≡ 0) (d : Column)
-    (x : (d .text ≡ column-at t k .text) × (d .lo ≡ column-at t k .lo) × (d .hi ≡ column-at t k .hi)) (r : Field)
+    (x : (d .text ≡ column-at t k .text) × (d .lo ≡ column-at t k .lo) × (d .hi ≡ column-at t k .hi) × (d .optional ≡ column-at t k .optional)) (r : Field)
     (q : r ≡ later-field (span-from w from .from) (fieldOf d (field-from w from))) where
   asked : r ≡ later-field (span-from w from .from) (fieldOf (column-at t k) (field-from w from))
-  asked = column-read (column-at t k) d (field-from w from) (x .0) (x .1) (x .2) (span-from w from .from) r q
+  asked = q ∙ ap (later-field (span-from w from .from)) (column-asked (column-at t k) d x (field-from w from))
 
   pub words-asked : (sp : Span) → r ≡ F.Text sp → Words (column-at t k) (field-from w from) w sp
   words-asked sp e = text-read (column-at t k) w from h ok sp (sym e ∙ asked)
 
-  pub number-asked : (n : ℕ) → r ≡ F.Number n → (column-at t k .text ≡ false) × (n ≡ amount (numberOf (field-from w from)))
+  pub number-asked : (n : ℕ) → r ≡ F.Number n → (column-at t k .text ≡ false) × (left-out (column-at t k .optional) (field-from w from) ≡ false) × (n ≡ amount (numberOf (field-from w from)))
   number-asked n e = number-read (column-at t k) w from h ok n (sym e ∙ asked)
+
+  pub missing-asked : r ≡ F.Missing → (column-at t k .text ≡ false) × (left-out (column-at t k .optional) (field-from w from) ≡ true)
+  missing-asked e = missing-read (column-at t k) w from h ok (sym e ∙ asked)
 
   pub refusal-asked : (v : ℕ) → r ≡ F.Refused v → ⊥
   refusal-asked v e = never-refused (column-at t k) w from h ok v (sym e ∙ asked)

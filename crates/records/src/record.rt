@@ -156,6 +156,7 @@ fn put_field(
     match f {
         Field::Text(place) => put_words(out, at, w, place, is_stripped(plan.strip, m, k)),
         Field::Number(n) => put_decimal(out, at, n),
+        Field::Missing => at,
         Field::Refused(_) => at,
     }
 }

@@ -13,7 +13,7 @@ use Rattle.page.specs.Lines.{lines, joined, allowed, Tbl, Eof}
 use Rattle.page.specs.Fields.{digit}
 use Rattle.page.specs.Tables.{table-at, TABLES}
 use Rattle.page.specs.Cut.{begins-table, begins-end, Piece, a-table, a-trailer, Cut, put, cut, Section, placed, header-lines, sections, from-end, trailer-lines}
-use Rattle.page.specs.Records.{number, words, Record}
+use Rattle.page.specs.Records.{number, missing, words, Record}
 use Rattle.page.specs.Model.{Content, Model}
 use Rattle.page.specs.Head.{Head}
 use Rattle.page.specs.Form.{separated, line, decimal, tables-form, formOf}
@@ -67,6 +67,7 @@ module _ (ends : LineEnd) (latin : Bool) (t : ℕ) (known : t < TABLES) where
   unfolding mark-lines mark-lines-of
   inner-marks i [] = none-left
   inner-marks i (number n ∷ vs) = inner-marks (suc i) vs
+  inner-marks i (missing ∷ vs) = inner-marks (suc i) vs
   inner-marks i (words O.Operator u ∷ vs) = inner-marks (suc i) vs
   inner-marks i (words O.Suggestion u ∷ vs) = one-more (inner-of (mark-seen ends latin t i) refl refl) (inner-marks (suc i) vs)
 

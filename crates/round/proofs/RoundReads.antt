@@ -21,7 +21,7 @@ use Rattle.page.specs.Grammar.{Says, marked, owner-by, Values, no-field, a-fiel
 use Rattle.page.specs.Rules.{Every, none-left, one-more}
 use Rattle.page.specs.declared.Column.{Column}
 use Rattle.page.specs.declared.Owner.the-variants as O
-use Rattle.round.specs.Round.{Fits, a-number, a-text, a-suggestion, FitAll, no-value, a-value, SoundRecord}
+use Rattle.round.specs.Round.{Fits, a-number, no-number, a-text, a-suggestion, FitAll, no-value, a-value, SoundRecord}
 use Rattle.round.proofs.WrittenTexts.{text-exactly, all-quoted}
 use Rattle.page.proofs.ScanLaws.{all-take}
 use Rattle.page.proofs.TestLaws.{and-left, and-right}
@@ -138,6 +138,8 @@ module _ (latin : Bool) (ms : List ℕ) where
   values-fit no-field p f n = no-value
   values-fit (a-field {i} {c} {cs} {f = w} {vs} (Grammar.a-number k r l h) g) (one-more q qs) f n =
       a-value (a-number k l h) (values-fit g qs (next-fit i c cs f) (λ (m : List·Memᴰ (words O.Suggestion []) vs). n (List·Memᴰ·tail m)))
+  values-fit (a-field {i} {c} {cs} {vs} (Grammar.no-number k o e) g) (one-more q qs) f n =
+      a-value (no-number k o) (values-fit g qs (next-fit i c cs f) (λ (m : List·Memᴰ (words O.Suggestion []) vs). n (List·Memᴰ·tail m)))
   values-fit (a-field {i} {c} {cs} {f = w} {vs} (Grammar.a-text {t} k r l) g) (one-more q qs) f n =
       a-value
       (text-fits i (c .column) t k l (own-all (allowed latin) w t q r) (record-trimmed w t r)

@@ -12,7 +12,7 @@ use Rattle.page.specs.Tables.{no-column, number-at, table-at, columns, TABLES}
 use Rattle.page.specs.Order.{listed-order}
 use Rattle.page.specs.Marks.{may-mark}
 use Rattle.page.specs.Section.{empty-marked, order-after, finish, continue, run, outcome}
-use Rattle.page.specs.Records.{Datum, number, words, Record, Entry, waits, record-in, entries, table-of, atr-in, order-in, entriesOf, recordsOf}
+use Rattle.page.specs.Records.{Datum, number, missing, words, Record, Entry, waits, record-in, entries, table-of, atr-in, order-in, entriesOf, recordsOf}
 use Rattle.page.specs.Model.{Content}
 use Rattle.page.specs.Form.{line, decimal, quoted, datum-text, mark-line, mark-of, marks, record-form, records-form, table-head, content-form}
 use Rattle.page.specs.Rules.{Every, none-left, one-more}
@@ -48,6 +48,7 @@ joined-marks : (ends : LineEnd) (i : ℕ) (vs : Record) → joined (mark-lines e
 unfolding mark-lines mark-lines-of joined marks mark-of
 joined-marks ends i [] = refl
 joined-marks ends i (number n ∷ vs) = joined-marks ends (suc i) vs
+joined-marks ends i (missing ∷ vs) = joined-marks ends (suc i) vs
 joined-marks ends i (words O.Operator t ∷ vs) = joined-marks ends (suc i) vs
 joined-marks ends i (words O.Suggestion t ∷ vs) = rw (joined-marks ends (suc i) vs)
 

@@ -13,28 +13,29 @@ use Rattle.page.specs.Tables.{Named, no-column, width, rules}
 use Rattle.page.specs.Order.{Order, listed-order, by-column}
 use Rattle.page.specs.Marks.{remarkOf, may-mark, owner-of}
 use Rattle.page.specs.Section.{choose, first-broken, empty-marked, rec-verdict, rec-step, count-step, end-step, mark-step, com-step, line-step, content-step, step}
-use Rattle.page.specs.Records.{Datum, number, words, Record}
+use Rattle.page.specs.Records.{Datum, number, missing, words, Record}
 use Rattle.page.specs.Form.{separated, line, decimal, quoted, datum-text, mark-line}
 use Rattle.page.specs.declared.LineEnd.{LineEnd}
 use Rattle.page.specs.declared.Owner.the-variants as O
 use Rattle.page.specs.declared.Phase.the-variants as P
 use Rattle.page.specs.declared.Remark.the-variants as R
 use Rattle.page.specs.declared.Step.the-variants as S
-use Rattle.round.specs.Round.{a-number, a-text, a-suggestion, FitAll, no-value, a-value, SoundRecord}
+use Rattle.round.specs.Round.{a-number, no-number, a-text, a-suggestion, FitAll, no-value, a-value, SoundRecord}
 use Rattle.laws.proofs.WrittenScans.{all-mono}
 use Rattle.round.proofs.WrittenNumbers.{number-decimal, decimal-all}
 use Rattle.round.proofs.WrittenTexts.{quoted-all}
 use Rattle.round.proofs.WrittenFields.{no-field, a-field, quoted-field, decimal-field}
 use Rattle.round.proofs.WrittenLines.{commands, Seen, seen, separated-more, separated-none, quote-allowed}
 use Rattle.round.proofs.WrittenDates.{mark-again}
-use Rattle.round.proofs.RoundRecords.{tame, fillable-in, one-fillable, digit-allowed, Owned, no-owner, of-number, of-words, wrong-back, width-back, fields-stand, separated-allowed, number-back}
+use Rattle.round.proofs.RoundRecords.{tame, fillable-in, one-fillable, digit-allowed, Owned, no-owner, of-number, of-missing, of-words, wrong-back, width-back, fields-stand, separated-allowed, held-back}
 use Rattle.page.proofs.TestLaws.{and-left, and-right, neither}
 use Rattle.page.proofs.OrderLaws.{listed-standing, listed-column}
-use Rattle.grammar.proofs.Values.{rule-decided, rules-kept}
+use Rattle.grammar.proofs.Rules.{rule-decided, rules-kept}
 
 -- the marks of a record, line by line
 unfoldable pub mark-lines-of : LineEnd → ℕ → Datum → List Bytes
 mark-lines-of ends i (number n) = []
+mark-lines-of ends i missing = []
 mark-lines-of ends i (words O.Operator t) = []
 mark-lines-of ends i (words O.Suggestion t) = mark-line ends i ∷ []
 
@@ -62,6 +63,7 @@ module _ (ends : LineEnd) (latin : Bool) where
   unfolding mark-lines mark-lines-of fillable-in
   none-marked i no-value e = refl
   none-marked i (a-value {c} {cs} (a-number x l h) g) e = none-marked (suc i) g (neither (c .column .fillable) (fillable-in cs) e .1)
+  none-marked i (a-value {c} {cs} (no-number x o) g) e = none-marked (suc i) g (neither (c .column .fillable) (fillable-in cs) e .1)
   none-marked i (a-value {c} {cs} (a-text x h a d) g) e = none-marked (suc i) g (neither (c .column .fillable) (fillable-in cs) e .1)
   none-marked i (a-value {c} {cs} (a-suggestion x f p h a d) g) e = absurd (false≢true (sym (neither (c .column .fillable) (fillable-in cs) e .0) ∙ f))
 
@@ -69,11 +71,12 @@ module _ (ends : LineEnd) (latin : Bool) where
   unfolding fillable-in
   none-owned m i no-value e h = no-owner
   none-owned m i (a-value {c} {cs} (a-number x l q) g) e h = of-number (none-owned m (suc i) g (neither (c .column .fillable) (fillable-in cs) e .1) (omega arith))
+  none-owned m i (a-value {c} {cs} (no-number x o) g) e h = of-missing (none-owned m (suc i) g (neither (c .column .fillable) (fillable-in cs) e .1) (omega arith))
   none-owned m i (a-value {c} {cs} (a-text x q a d) g) e h =
       of-words (sym (owner-other m i (λ (z : m ≡ i). omega arith))) (none-owned m (suc i) g (neither (c .column .fillable) (fillable-in cs) e .1) (omega arith))
   none-owned m i (a-value {c} {cs} (a-suggestion x f p q a d) g) e h = absurd (false≢true (sym (neither (c .column .fillable) (fillable-in cs) e .0) ∙ f))
 
-  -- a value of the operator's, or a number, in front
+  -- a value of the operator's, a number or none, in front
   onto : (i m : ℕ) (c : Named) {cs : List Named} {v : Datum} {vs : Record} → mark-lines-of ends i v ≡ [] →
       ((k : ℕ) → ¬ (k ≡ i) → Owned k (suc i) vs → Owned k i (v ∷ vs)) → 0 < i → Marked ends (suc i) cs vs m → Marked ends i (c ∷ cs) (v ∷ vs) m
   unfolding mark-lines
@@ -88,6 +91,9 @@ module _ (ends : LineEnd) (latin : Bool) where
   marks-back i p (a-value {c} {cs} (a-number x l q) g) e =
       let k = marks-back (suc i) (omega arith) g (and-right (not (c .column .fillable && fillable-in cs)) (one-fillable cs) e) in
       (k .0, onto i (k .0) c refl (λ n d o. of-number o) p (k .1))
+  marks-back i p (a-value {c} {cs} (no-number x o) g) e =
+      let k = marks-back (suc i) (omega arith) g (and-right (not (c .column .fillable && fillable-in cs)) (one-fillable cs) e) in
+      (k .0, onto i (k .0) c refl (λ n d o. of-missing o) p (k .1))
   marks-back i p (a-value {c} {cs} (a-text x q a d) g) e =
       let k = marks-back (suc i) (omega arith) g (and-right (not (c .column .fillable && fillable-in cs)) (one-fillable cs) e) in
       (k .0, onto i (k .0) c refl (λ n d o. of-words (sym (owner-other n i d)) o) p (k .1))
@@ -168,7 +174,7 @@ module _ (ends : LineEnd) (latin : Bool) (t : ℕ) (v : Datum) (vs : Record) (r 
   rules-back : first-broken (rules t) (map datum-text (v ∷ vs)) ≡ 0
   rules-back =
       rules-kept (map datum-text (v ∷ vs)) (v ∷ vs) (rules t)
-      (rule-decided t (map datum-text (v ∷ vs)) (v ∷ vs) (number-back latin (r .fit) (tame t .small))) (r .rules)
+      (rule-decided t (held-back latin (r .fit) (tame t .small))) (r .rules)
 
   -- its fields stand by column
   pub fields-back : by-column (listed-order t) (map datum-text (v ∷ vs)) ≡ map datum-text (v ∷ vs)

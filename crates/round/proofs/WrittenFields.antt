@@ -74,6 +74,11 @@ solid-closed (b ∷ w) h r =
     let d : solid b ≡ true = and-left (solid b) (all solid w) h in
     simp (differ solid b 59 d refl, differ solid b 34 d refl, solid-closed w (and-right (solid b) (all solid w) h) r, into-graft)
 
+-- a missing number
+pub empty-field : Field []
+unfolding trim keep until
+empty-field = record { shut = graft-split false; kept = refl }
+
 -- names, formats, numbers
 pub solid-field : (w : Bytes) → 0 < length w → all solid w ≡ true → Field w
 unfolding all solid

@@ -69,4 +69,5 @@ pub record SaysSame (s : Bytes) (x : Section) (u : Bytes) (y : Section) : Type 0
 -- a value whose text stands k bytes further on
 unfoldable pub later-value : ℕ → Value → Value
 later-value k (Va.Number n) = Va.Number n
+later-value k Va.Missing = Va.Missing
 later-value k (Va.Words t) = Va.Words (record { from = k + t .from; to = k + t .to; owner = t .owner })

@@ -1,14 +1,15 @@
 -- What the code asks of a table's keys, references and rules.
 use mathlib.Core.Bool.{Bool, true, false}
-use mathlib.Core.List.{List, [], _∷_, map}
+use mathlib.Core.List.{List, [], _∷_, _++_, map}
 use Prim.Native.Nat.{ℕ, zero, suc}
 use lib.Dec.{eqb}
 use lib.ListN.{getD}
 use Rattle.page.specs.Bytes.{bytes}
-use Rattle.page.specs.Tables.{Named, Reference, Rule, points-differ, WIDEST, columns, table-at, table-named, to}
+use Rattle.page.specs.Tables.{Named, Reference, Rule, points-differ, feeder-combined, WIDEST, columns, table-at, table-named, to}
 use Rattle.page.specs.File.{any, by-primary, by-second}
 use Rattle.page.specs.declared.Column.{Column}
 use Rattle.tables.specs.Arrays.{fill}
+use Rattle.tables.specs.declared.columns.Rules.{Rules}
 
 -- the primary key, or the second one
 abbrev pub by-key : Bool → Column → Bool
@@ -37,7 +38,14 @@ flags (suc n) i ks = any (eqb i) ks ∷ flags n (suc i) ks
 unfoldable pub refer-columns : ℕ → ℕ → List Bool
 refer-columns t r = flags WIDEST 0 (reference-at t r .columns)
 
--- the rules of a table, where its two points begin at column p; 0: it has none
-unfoldable pub rules-of : ℕ → List Rule
-rules-of zero = []
-rules-of (suc p) = points-differ (suc p) ∷ []
+-- the rules of a table by their columns; 0: it does not have the rule
+abbrev pub points-rule : ℕ → List Rule
+points-rule zero = []
+points-rule (suc p) = points-differ (suc p) ∷ []
+
+abbrev pub feeder-rule : ℕ → ℕ → List Rule
+feeder-rule zero x = []
+feeder-rule (suc c) x = feeder-combined (suc c) x ∷ []
+
+unfoldable pub rules-of : Rules → List Rule
+rules-of r = points-rule (r .points) ++ feeder-rule (r .feeder) (r .texts)

@@ -3,12 +3,17 @@ ghost use mathlib.Core.Path.{_≡_};
 ghost use Rattle.page.specs.Tables.{table-at, name-at};
 ghost use Rattle.tables.specs.Words.{word, Reads};
 use crate::COLUMNS;
-use crate::FIRST_TITLE;
 use crate::STARTS;
 use crate::TABLES;
-use crate::WIDEST;
 use crate::WORDS;
+use crate::columns::find_entry;
 use page::Span;
+
+fn widen(x: u16) -> usize
+    ensures { λ r. ⌜ r ≡ x ⌝ }
+{
+    x as usize
+}
 
 // A name's place in NAMES.
 pub fn find_word(n: usize) -> Span
@@ -17,8 +22,8 @@ pub fn find_word(n: usize) -> Span
     if n < WORDS {
         let starts = STARTS;
         return Span {
-            from: starts[n],
-            to: starts[n + 1],
+            from: widen(starts[n]),
+            to: widen(starts[n + 1]),
         };
     }
     Span { from: 0, to: 0 }
@@ -27,10 +32,9 @@ pub fn find_word(n: usize) -> Span
 pub fn look_name(t: usize, k: usize) -> usize
     ensures { λ r. ⌜ word r ≡ name-at t k ⌝ }
 {
-    if t < TABLES {
-        if k < WIDEST {
-            return COLUMNS[t][k];
-        }
+    let i = find_entry(t, k);
+    if i < COLUMNS {
+        return i + 1;
     }
     0
 }
@@ -39,7 +43,7 @@ pub fn look_title(t: usize) -> usize
     ensures { λ r. ⌜ word r ≡ table-at t .name ⌝ }
 {
     if t < TABLES {
-        return FIRST_TITLE + t;
+        return COLUMNS + 1 + t;
     }
     0
 }

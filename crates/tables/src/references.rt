@@ -4,26 +4,23 @@ ghost use lib.ListN.{length};
 ghost use Rattle.page.specs.Tables.{table-at};
 ghost use Rattle.tables.specs.Keys.{by-key, key-columns, refer-columns, target-at};
 use crate::COUNTS;
+use crate::MARKS;
 use crate::MOST;
 use crate::NONE;
-use crate::PRIMARY;
 use crate::REFERENCES;
-use crate::SECOND;
 use crate::TABLES;
 use crate::TARGETS;
 use crate::WIDEST;
+use crate::columns::flag_columns;
 
 // The columns of the primary key of table t, or of its second one.
 pub fn find_key(t: usize, second: bool) -> [bool; WIDEST]
     ensures { λ r. ⌜ r ≡ key-columns (by-key second) t ⌝ }
 {
-    if t < TABLES {
-        if second {
-            return SECOND[t];
-        }
-        return PRIMARY[t];
+    if second {
+        return flag_columns(MARKS, t, b'C', b'B');
     }
-    [false; WIDEST]
+    flag_columns(MARKS, t, b'P', b'B')
 }
 
 pub fn count_references(t: usize) -> usize
@@ -39,10 +36,8 @@ pub fn count_references(t: usize) -> usize
 pub fn find_reference(t: usize, r: usize) -> [bool; WIDEST]
     ensures { λ x. ⌜ x ≡ refer-columns t r ⌝ }
 {
-    if t < TABLES {
-        if r < MOST {
-            return REFERENCES[t][r];
-        }
+    if r < MOST {
+        return flag_columns(REFERENCES[r], t, b'x', b'x');
     }
     [false; WIDEST]
 }

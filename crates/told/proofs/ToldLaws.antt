@@ -88,14 +88,15 @@ text-read r x = handed-by (eqb (r .number) 0) r x refl
 pub text-same : (r r′ : Refusal) (x x′ : Copied) → told-handed (handed r x) ≡ told-handed (handed r′ x′) → handed r x ≡ handed r′ x′
 text-same r r′ x x′ e = sym (text-read r x) ∙ (ap text-again e ∙ text-read r′ x′)
 
--- a value: its kind tells a number from a text, and whose the text is
+-- a value: its kind tells a number, a missing number and a text, and whose the text is
 abbrev text-by : ℕ → ℕ → Owner → Value
 text-by from to owner = Va.Words (record { from = from; to = to; owner = owner })
 
 abbrev pub value-by : ValueAnswer → Value
 value-by x =
     pick (eqb (x .kind) 0) (Va.Number (x .amount))
-    (text-by (x .from) (x .to) (owner-by (x .kind)))
+    (pick (eqb (x .kind) 3) Va.Missing
+    (text-by (x .from) (x .to) (owner-by (x .kind))))
 
 words-back : (from to : ℕ) (o : Owner) → value-by (told-value (text-by from to o)) ≡ text-by from to o
 words-back from to O.Operator = refl
@@ -103,6 +104,7 @@ words-back from to O.Suggestion = refl
 
 value-back : (v : Value) → value-by (told-value v) ≡ v
 value-back (Va.Number n) = refl
+value-back Va.Missing = refl
 value-back (Va.Words x) = words-back (x .from) (x .to) (x .owner)
 
 abbrev pub value-again : ValueAnswer → Got
@@ -110,6 +112,7 @@ value-again x = pick (eqb (x .number) 0) (G.Is (value-by x)) (G.Refused (refusal
 
 accepted-value : (v : Value) → value-again (told-value v) ≡ G.Is (value-by (told-value v))
 accepted-value (Va.Number n) = refl
+accepted-value Va.Missing = refl
 accepted-value (Va.Words x) = refl
 
 got-by : (b : Bool) (r : Refusal) (v : Value) → eqb (r .number) 0 ≡ b → value-again (told-got (pick b (G.Is v) (G.Refused r))) ≡ pick b (G.Is v) (G.Refused r)

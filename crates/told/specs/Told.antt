@@ -105,9 +105,10 @@ abbrev pub told-headed : Headed → HeaderAnswer
 told-headed (H.Is h) = told-header h
 told-headed (H.Refused r) = no-header r
 
--- a value: kind 0 is a number, 1 the operator's text, 2 a suggestion
+-- a value: kind 0 is a number, 1 the operator's text, 2 a suggestion, 3 a missing number
 abbrev pub told-value : Value → ValueAnswer
 told-value (Va.Number n) = record { number = 0; section = 0; line = 0; kind = 0; amount = n; from = 0; to = 0 }
+told-value Va.Missing = record { number = 0; section = 0; line = 0; kind = 3; amount = 0; from = 0; to = 0 }
 told-value (Va.Words x) =
     record { number = 0; section = 0; line = 0; kind = owner-cell (x .owner); amount = 0; from = x .from; to = x .to }
 

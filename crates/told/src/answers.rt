@@ -50,7 +50,7 @@ pub struct RowAnswer {
     pub row: Row,
 }
 
-// A value, or a refusal: kind 0 is a number, 1 the operator's text, 2 a suggestion.
+// A value, or a refusal: kind 0 is a number, 1 the operator's text, 2 a suggestion, 3 a missing number.
 #[repr(C)]
 pub struct ValueAnswer {
     pub number: u32,
@@ -175,6 +175,15 @@ fn tell_accepted(x: Value) -> ValueAnswer
             line: 0,
             kind: 0,
             amount: n,
+            from: 0,
+            to: 0,
+        },
+        Value::Missing => ValueAnswer {
+            number: 0,
+            section: 0,
+            line: 0,
+            kind: 3,
+            amount: 0,
             from: 0,
             to: 0,
         },

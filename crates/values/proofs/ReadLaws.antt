@@ -8,7 +8,7 @@ use lib.Dec.{leb}
 use lib.ListN.{length}
 use Rattle.page.specs.Bytes.{Bytes, pick}
 use Rattle.page.specs.Fields.{numberOf}
-use Rattle.page.specs.Section.{Wording, wordsOf, text-field, number-field, fieldOf}
+use Rattle.page.specs.Section.{Wording, wordsOf, text-field, number-field, left-out, fieldOf}
 use Rattle.page.specs.declared.Column.{Column}
 use Rattle.page.specs.declared.Field.{Field}
 use Rattle.page.specs.declared.Field.the-variants as F
@@ -16,15 +16,16 @@ use Rattle.page.specs.declared.Number.{Number}
 use Rattle.page.specs.declared.Number.the-variants as N
 use Rattle.page.proofs.TextLaws.{words-there}
 
--- of a text column a text, with the place that its wording says; of another a number; or a refusal
+-- of a text column a text, with the place that its wording says; of another a number, or that it is missing; or a refusal
 pub data Read (c : Column) (f : Bytes) : Field → Type 0 where
   a-text : (x : Wording) → c .text ≡ true → wordsOf f ≡ some x → Read c f (F.Text (x .span))
   a-number : (n : ℕ) → c .text ≡ false → Read c f (F.Number n)
+  no-number : c .text ≡ false → Read c f F.Missing
   no-value : (v : ℕ) → (v ≡ 0 → ⊥) → Read c f (F.Refused v)
 
 pub read-of : (c : Column) (f : Bytes) → Read c f (fieldOf c f)
 unfolding fieldOf text-field number-field
-read-of c f = by (c .text) refl
+read-of c f = by (c .text) (left-out (c .optional) f) refl
   where
     over : Read c f (F.Refused 13)
     over = no-value 13 (λ (e : _≡_ {A = ℕ} 13 0). omega arith)
@@ -46,9 +47,10 @@ read-of c f = by (c .text) refl
     number (N.Minus n) t = over
     number N.Nothing t = no-value 12 (λ (e : _≡_ {A = ℕ} 12 0). omega arith)
 
-    by : (b : Bool) → c .text ≡ b → Read c f (pick b (text-field (c .hi) (wordsOf f)) (number-field (c .lo) (c .hi) (numberOf f)))
-    by true t = words (wordsOf f) refl t
-    by false t = number (numberOf f) t
+    by : (b d : Bool) → c .text ≡ b → Read c f (pick b (text-field (c .hi) (wordsOf f)) (pick d F.Missing (number-field (c .lo) (c .hi) (numberOf f))))
+    by true d t = words (wordsOf f) refl t
+    by false true t = no-number t
+    by false false t = number (numberOf f) t
 
 -- the text of a field lies within it
 pub wording-in : (f : Bytes) (x : Wording) → wordsOf f ≡ some x → (x .span .from ≤ x .span .to) × (x .span .to ≤ length f)

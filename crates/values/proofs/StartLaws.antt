@@ -12,22 +12,24 @@ use Rattle.page.specs.Fields.{field-size, fields, textOf, digits, numberOf}
 use Rattle.page.specs.Tables.{WIDEST, column-at}
 use Rattle.page.specs.Order.{Order, place}
 use Rattle.page.specs.Marks.{owner-of}
-use Rattle.page.specs.Section.{wordsOf, text-field, number-field, fieldOf}
+use Rattle.page.specs.Section.{wordsOf, text-field, number-field, left-out, fieldOf}
 use Rattle.page.specs.Places.{field-place, span-from, field-span}
 use Rattle.page.specs.File.{limit}
 use Rattle.page.specs.Reading.{later-field, field-at, valued, value-in}
 use Rattle.page.specs.declared.Column.{Column}
 use Rattle.page.specs.declared.Field.{Field}
+use Rattle.page.specs.declared.Field.the-variants as F
 use Rattle.page.specs.declared.Owner.{Owner}
+use Rattle.page.specs.declared.Owner.the-variants as O
 use Rattle.page.specs.declared.Span.{Span}
-use Rattle.page.specs.declared.Value.the-variants as Va
 use Rattle.page.proofs.ScanLaws.{part-length}
 use Rattle.page.proofs.FieldLaws.{from, from-more, from-end, from-all, end-in, field-end, head-left, none-left, place-left, span-in, span-part}
 use Rattle.page.proofs.TableLaws.{width-le}
+use Rattle.fields.proofs.ColumnLaws.{column-asked}
 use Rattle.tables.specs.Orders.{held, Orderly}
 use Rattle.tables.proofs.OrderLaws.{held-length}
 use Rattle.values.specs.Values.{Fits}
-use Rattle.values.proofs.ReadLaws.{Read, a-text, a-number, no-value, read-of, wording-in}
+use Rattle.values.proofs.ReadLaws.{Read, a-text, a-number, no-number, no-value, read-of, wording-in}
 
 -- a walk that has passed i fields has gone past the end by no more than those
 pub start-step : (w : Bytes) (at e i : ℕ) → e ≡ at + field-size false (drop at w) → at ≤ length w + 1 + i → e + 1 ≤ length w + 1 + (i + 1)
@@ -60,13 +62,17 @@ module _ (w : Bytes) (p start : ℕ) (e : start ≡ field-place p 0 w) where
   field-is h c f q = q ∙ rw (field-here h, e)
 
   -- past the end there is nothing to read
-  pub field-none : length w < start → (o : Owner) (at : ℕ) (c : Column) → Va.Number 0 ≡ valued o (later-field at (field-at c w p))
+  pub field-none : length w < start → (o : Owner) (at : ℕ) (c : Column) → valued O.Operator (fieldOf c []) ≡ valued o (later-field at (field-at c w p))
   unfolding field-at fieldOf wordsOf textOf text-field numberOf digits number-field
-  field-none h o at c = rw (field-past h) (by (c .text))
+  field-none h o at c = rw (field-past h) (by (c .text) (c .optional))
     where
-      by : (b : Bool) → Va.Number 0 ≡ valued o (later-field at (later-field (field-span w p .from) (pick b (text-field (c .hi) (wordsOf [])) (number-field (c .lo) (c .hi) (numberOf [])))))
-      by true = refl
-      by false = refl
+      read : Bool → Bool → Field
+      read b d = pick b (text-field (c .hi) (wordsOf [])) (pick (left-out d []) F.Missing (number-field (c .lo) (c .hi) (numberOf [])))
+
+      by : (b d : Bool) → valued O.Operator (read b d) ≡ valued o (later-field at (later-field (field-span w p .from) (read b d)))
+      by true d = refl
+      by false true = refl
+      by false false = refl
 
 -- the text that is read of the field at a place
 pub field-fits : (w : Bytes) (start at : ℕ) → start ≤ length w → at + length w ≤ limit → (c : Column) (f : Field)
@@ -98,6 +104,7 @@ field-fits w start at h l c f q = rw q (by (read-of c t))
     by : {g : Field} → Read c t g → Fits at (later-field (sp .from) g)
     by (a-text x a e) = let b = wording-in t x e in let i = inner in let k = long in (omega arith, omega arith)
     by (a-number x a) = tt
+    by (no-number a) = tt
     by (no-value x a) = tt
 
 -- where a column stands, or past the last place
@@ -115,7 +122,7 @@ place-few c t a p x e = omega (arith, place-le c (held t a), held-length t a x, 
 
 -- the value of a column, by the place where it stands
 pub column-value : (t f c p at m : ℕ) (o : Order) (w : Bytes) (d : Column) → c ≡ f - 1 → p ≡ place c o
-    → d .text ≡ column-at t c .text → d .lo ≡ column-at t c .lo → d .hi ≡ column-at t c .hi
+    → (d .text ≡ column-at t c .text) × (d .lo ≡ column-at t c .lo) × (d .hi ≡ column-at t c .hi) × (d .optional ≡ column-at t c .optional)
     → valued (owner-of m (suc p)) (later-field at (field-at d w p)) ≡ value-in t o (record { at = at; rest = w; mark = m }) f
-unfolding value-in field-at fieldOf
-column-value t f c p at m o w d k e x y z = rw (sym k, e, x, y, z)
+unfolding value-in field-at
+column-value t f c p at m o w d k e x = rw (sym k, e, column-asked (column-at t c) d x (getD (fields w) (place c o) []))

@@ -31,6 +31,7 @@ pub record Placed (s : Bytes) (x : Standing) (r : Place) : Type 0 where
 abbrev pub Fits : ℕ → Field → Type 0
 Fits at (F.Text sp) = (sp .from ≤ sp .to) × (at + sp .to ≤ limit)
 Fits at (F.Number n) = Unit {0}
+Fits at F.Missing = Unit {0}
 Fits at (F.Refused v) = Unit {0}
 
 -- "the section's verdict, 24 for the record or field", of the section at a place

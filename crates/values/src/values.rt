@@ -1,14 +1,17 @@
 // One value of a record.
 ghost use mathlib.Core.Path.{_≡_};
+ghost use mathlib.Core.List.{[]};
 ghost use Prim.Native.Nat.{suc, _+_, _-_, _<_, _≤_};
 ghost use lib.ListN.{length, take, drop};
 ghost use Rattle.page.specs.Lines.{lines, content, command, Rec};
 ghost use Rattle.page.specs.Tables.{WIDEST};
 ghost use Rattle.page.specs.Marks.{owner-of};
+ghost use Rattle.page.specs.Section.{fieldOf};
 ghost use Rattle.page.specs.Records.{waits};
 ghost use Rattle.page.specs.Places.{field-place, stands, record-at};
 ghost use Rattle.page.specs.File.{limit};
 ghost use Rattle.page.specs.Reading.{later-field, field-at, valued, value-in};
+ghost use Rattle.page.specs.declared.Owner.the-variants as O;
 ghost use Rattle.page.proofs.LineLaws.{line-size};
 ghost use Rattle.tables.specs.Orders.{held, Orderly};
 ghost use Rattle.values.specs.Values.{Placed, Fits};
@@ -119,8 +122,22 @@ fn hand_field(f: Field, at: usize, owner: Owner) -> Value
             owner: owner,
         }),
         Field::Number(n) => Value::Number(n),
+        Field::Missing => Value::Missing,
         Field::Refused(_) => Value::Number(0),
     }
+}
+
+// What a field that is not there is handed out as: that of nothing. No record of a sound section lacks one.
+fn hand_nothing(column: Column) -> Value
+    ensures { λ r. ⌜ r ≡ valued O.Operator (fieldOf column []) ⌝ }
+{
+    if column.text {
+        return Value::Number(0);
+    }
+    if column.optional {
+        return Value::Missing;
+    }
+    Value::Number(0)
 }
 
 // The field at place p, from 0, which begins at `start`, of the record whose fields are w and stand at a place of the file.
@@ -129,7 +146,7 @@ pub fn read_value(w: &[u8], at: usize, m: u64, p: usize, start: usize, column: C
     ensures { λ r. ⌜ r ≡ valued (owner-of m (suc p)) (later-field at (field-at column (now (w .entry)) p)) ⌝ }
 {
     if w.len() < start {
-        return Value::Number(0);
+        return hand_nothing(column);
     }
     let r = fields::read_field(w, start, column);
     let f = r.field;

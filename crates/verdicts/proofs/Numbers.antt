@@ -19,6 +19,7 @@ use Rattle.verdicts.specs.Headers.{HeaderFault}
 use Rattle.verdicts.specs.Trailers.{TrailerFault}
 use Rattle.verdicts.specs.Files.{Unsound, TableAgain, KeyAgain, Lost, FileRefused, too-long, header, trailer, section, table-again, primary-again, second-again, reference-lost}
 use Rattle.grammar.proofs.Refuses.{refused-ranged}
+use Rattle.grammar.proofs.Combined.{Miscombined, refused-25}
 use Rattle.verdicts.proofs.Files.{refuses-file-exactly}
 use Rattle.laws.proofs.Numbers.{other-number}
 
@@ -115,6 +116,15 @@ module _ (s : Bytes) where
 
       back : Opens s × ((x : Section) × (k : ℕ) × (f : First (Unsound (latinOf s)) [] (sections s) x) × Refused (latinOf s) (x .lines) k v n × (i ≡ suc (length (f .before)))) → FileRefused s v i n
       back x = section (x .0 .size) (x .0 .header) (x .0 .trailer) (x .1 .0) (x .1 .1) (x .1 .2) (x .1 .3) (x .1 .4)
+
+  -- 25, one of them: "wrong combination", where the section's first failing line is a record that tells its feeder in neither way
+  pub exactly-25 : (i n : ℕ) → file-refusal s ≡ refusal 25 i n ↔ (Opens s × ((x : Section) × (f : First (Unsound (latinOf s)) [] (sections s) x) × Miscombined (latinOf s) (x .lines) n × (i ≡ suc (length (f .before)))))
+  unfolding any
+  exactly-25 i n =
+      let y = exactly-section 25 i n refl in (
+        λ e. let z = y .0 e in (z .0, (z .1 .0, z .1 .2, refused-25 (latinOf s) (z .1 .0 .lines) (z .1 .1) n .0 (z .1 .3) .1, z .1 .4)),
+        λ z. y .1 (z .0, (z .1 .0, 432, z .1 .1, refused-25 (latinOf s) (z .1 .0 .lines) 432 n .1 (refl, z .1 .2), z .1 .3)),
+      )
 
   -- 17: "table a second time", at the second table's line 1
   pub exactly-17 : (i n : ℕ) → file-refusal s ≡ refusal 17 i n ↔ ((cs : List Content) × Reads s cs × ((c : Content) × (f : First TableAgain [] cs c) × (i ≡ suc (length (f .before)))) × (n ≡ 1))

@@ -8,8 +8,8 @@ use native.Mathlib.Omega.{arith}
 use lib.Dec.{eqb, ltb}
 use Rattle.page.specs.Bytes.{bytes, pick, same}
 use Rattle.page.specs.Lines.{find}
-use Rattle.page.specs.Tables.{Reference, all-tables, table-at, table-named, TABLES, columns}
-use Rattle.page.specs.Records.{Datum, number, words, Record}
+use Rattle.page.specs.Tables.{Reference, all-tables, table-at, table-named, TABLES}
+use Rattle.page.specs.Records.{Datum, number, missing, words, Record}
 use Rattle.page.specs.File.{any, Filed, same-datum, same-record, key-of, by-primary, has-key, repeats, referred, meets, lost, first-record}
 use Rattle.page.specs.Answers.{refusal, sound}
 use Rattle.page.specs.Rules.{Every, none-left, one-more, bare, key}
@@ -17,7 +17,7 @@ use Rattle.page.specs.declared.Column.{Column}
 use Rattle.page.proofs.TableLaws.{past-tables, listed, each-table, name-tells}
 use Rattle.verdicts.specs.First.{First, NoneOf}
 use Rattle.verdicts.specs.Files.{KeyAgain, Found, Lost}
-use Rattle.laws.proofs.Decides.{Decides, holds, fails, when, both, equal, below}
+use Rattle.laws.proofs.Decides.{Decides, holds, fails, when, denied, both, equal, below}
 use Rattle.laws.proofs.Tests.{same-d, is-d}
 use Rattle.laws.proofs.Lists.{every-at}
 use Rattle.verdicts.proofs.Firsts.{any-d, none-nil, none-cons, first-here, first-later}
@@ -25,8 +25,13 @@ use Rattle.verdicts.proofs.Firsts.{any-d, none-nil, none-cons, first-he
 -- keys compare by value
 same-datum-d : (u v : Datum) → Decides (bare u ≡ bare v) (same-datum u v)
 same-datum-d (number a) (number b) = when (λ e. ap number e) (λ e. cc) (equal a b)
+same-datum-d (number a) missing = fails (λ e. absurd (false≢true (cc)))
 same-datum-d (number a) (words o t) = fails (λ e. absurd (false≢true (cc)))
+same-datum-d missing (number b) = fails (λ e. absurd (false≢true (cc)))
+same-datum-d missing missing = holds refl
+same-datum-d missing (words o t) = fails (λ e. absurd (false≢true (cc)))
 same-datum-d (words o t) (number b) = fails (λ e. absurd (false≢true (cc)))
+same-datum-d (words o t) missing = fails (λ e. absurd (false≢true (cc)))
 same-datum-d (words o t) (words p u) = when (λ e. rw e) (λ e. cc) (same-d t u)
 
 -- two keys are the same by value, whoever's their texts are
@@ -126,13 +131,9 @@ found-d every k e r m =
     when (λ x. (x .0, x .1, x .2 .0, x .2 .1)) (λ x. (x .0, x .1, (x .2, x .3)))
     (any-d (meets e r) every (λ d i. meets-d e d r (every-at (table-at (e .table) .references) (targets (e .table)) m) (every-at every k i)))
 
-not-d : {A : Type 0} {b : Bool} → Decides A b → Decides (¬ A) (not b)
-not-d (holds a) = fails (λ n. n a)
-not-d (fails n) = holds n
-
 lost-d : (every : List Filed) → Every (λ d. d .table < TABLES) every → (ms ss : List Filed) (e : Filed) → Alike ms ss → Decides (Lost every ss e) (lost every e)
 unfolding lost
-lost-d every k ms ss e a = any-d (λ (r : Reference). not (any (meets e r) every)) (table-at (e .table) .references) (λ r m. not-d (found-d every k e r m))
+lost-d every k ms ss e a = any-d (λ (r : Reference). not (any (meets e r) every)) (table-at (e .table) .references) (λ r m. denied (found-d every k e r m))
 
 abbrev pub LostTold : List Filed → Type 0
 LostTold es =

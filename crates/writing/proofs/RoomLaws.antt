@@ -12,7 +12,7 @@ use Rattle.page.specs.Tables.{Named, WIDEST, no-column, columns, width, column-
 use Rattle.page.specs.Cut.{begins-table, begins-end, Piece, a-table, a-trailer, placed, put, cut, Section, sections, header-lines}
 use Rattle.page.specs.Head.{latinOf, head-values}
 use Rattle.page.specs.Order.{Order}
-use Rattle.page.specs.Records.{Datum, number, words, Record, waits, record-in, table-of, order-in}
+use Rattle.page.specs.Records.{Datum, number, missing, words, Record, waits, record-in, table-of, order-in}
 use Rattle.page.specs.Model.{Content, modelOf, strip-datum}
 use Rattle.page.specs.File.{limit, header-refusal, file-refusal, found}
 use Rattle.page.specs.Trailer.{trailerOf}
@@ -33,7 +33,7 @@ use Rattle.doubling.proofs.TextLaws.{quoted-length}
 use Rattle.decimals.proofs.DecimalLaws.{decimal-length}
 use Rattle.frames.proofs.LineLaws.{one-field-length, line-with-is, mark-length}
 use Rattle.frames.proofs.TitleLaws.{table-head-length}
-use Rattle.round.specs.Round.{Fits, a-number, a-text, a-suggestion, FitAll, no-value, a-value, SoundRecord, SoundContent}
+use Rattle.round.specs.Round.{Fits, a-number, no-number, a-text, a-suggestion, FitAll, no-value, a-value, SoundRecord, SoundContent}
 use Rattle.round.proofs.Round.{accepted-model}
 use Rattle.recording.specs.Said.{rows-of, said, said-in}
 use Rattle.copies.specs.Changed.{kept-content, kept-tables, changed-datum, changed-values, changed-records, changed-content, changed-tables}
@@ -52,6 +52,7 @@ Short v = length (datum-text v) ≤ 84
 fits-short : (latin : Bool) (c : Column) (v : Datum) → (c .text ≡ true → c .hi ≤ 40) → Fits latin c v → Short v
 unfolding datum-text
 fits-short latin c (number n) f (a-number x lo hi) = omega (arith, decimal-length n)
+fits-short latin c missing f (no-number x o) = omega arith
 fits-short latin c (words O.Operator t) f (a-text x h a e) = omega (arith, quoted-length t, f x)
 fits-short latin c (words O.Suggestion t) f (a-suggestion x y p h a e) = omega (arith, quoted-length t, f x)
 
@@ -78,6 +79,7 @@ sound-good latin t vs s =
 stripped-short : (v : Datum) → Short v → Short (strip-datum v)
 unfolding strip-datum datum-text quoted doubled
 stripped-short (number n) h = h
+stripped-short missing h = h
 stripped-short (words O.Operator t) h = h
 stripped-short (words O.Suggestion t) h = omega arith
 
@@ -100,6 +102,7 @@ values-few strip f t (v ∷ vs) = ap suc (values-few strip (f - 1) t vs)
 mark-short : (ends : LineEnd) (i : ℕ) (v : Datum) → length (mark-of ends i v) ≤ 39
 unfolding mark-of
 mark-short ends i (number n) = omega arith
+mark-short ends i missing = omega arith
 mark-short ends i (words O.Operator t) = omega arith
 mark-short ends i (words O.Suggestion t) = mark-length ends i
 
@@ -113,7 +116,7 @@ unfolding separated bytes
 texts-short none-left = omega arith
 texts-short (one-more h hs) = simp length-append (omega (arith, texts-short hs))
 
-form-short : (ends : LineEnd) (vs : Record) → Good vs → length (record-form ends vs) ≤ 1024
+form-short : (ends : LineEnd) (vs : Record) → Good vs → length (record-form ends vs) ≤ 2560
 unfolding record-form line bytes
 form-short ends vs g = simp length-append (omega (arith, marks-short ends 1 vs, texts-short (g .short), g .few, line-end-length ends))
 
@@ -122,7 +125,7 @@ changed-good strip f t vs l g = record { short = values-short strip f t l (g .sh
 
 -- a section
 
-records-short : (ends : LineEnd) (strip : Bool) (r f : ℕ) (t : Bytes) {rs : List Record} → length t ≤ 40 → Every Good rs → length (records-form ends (changed-records strip r f t rs)) ≤ 1024 * length rs
+records-short : (ends : LineEnd) (strip : Bool) (r f : ℕ) (t : Bytes) {rs : List Record} → length t ≤ 40 → Every Good rs → length (records-form ends (changed-records strip r f t rs)) ≤ 2560 * length rs
 unfolding changed-records records-form
 records-short ends strip r f t l none-left = omega arith
 records-short ends strip r f t l (one-more {x} g gs) =
@@ -133,7 +136,7 @@ pub record Small (c : Content) : Type 0 where
   pub good : Every Good (c .records)
   pub few : length (c .records) ≤ limit
 
-content-short : (ends : LineEnd) (strip : Bool) (r f : ℕ) (t : Bytes) (c : Content) → length t ≤ 40 → Small c → length (content-form ends (changed-content strip r f t c)) ≤ 17179870000
+content-short : (ends : LineEnd) (strip : Bool) (r f : ℕ) (t : Bytes) (c : Content) → length t ≤ 40 → Small c → length (content-form ends (changed-content strip r f t c)) ≤ 42950000000
 unfolding content-form changed-content bytes
 content-short ends strip r f t c l g =
     let n = length (changed-records strip r f t (c .records)) in
@@ -143,7 +146,7 @@ content-short ends strip r f t c l g =
     (omega (arith, table-head-length ends (c .table), records-short ends strip r f t l (g .good), g .few, ap length e, b, decimal-length n))
 
 tables-short : (ends : LineEnd) (strip : Bool) (i r f : ℕ) (t : Bytes) {cs : List Content} → length t ≤ 40 → Every Small cs
-    → length (tables-form ends (changed-tables strip i r f t cs)) ≤ 17179870000 * length cs
+    → length (tables-form ends (changed-tables strip i r f t cs)) ≤ 42950000000 * length cs
 unfolding changed-tables tables-form
 tables-short ends strip i r f t l none-left = omega arith
 tables-short ends strip i r f t l (one-more {x} g gs) =
@@ -239,7 +242,7 @@ module _ (s : Bytes) (h : file-refusal s .number ≡ 0) where
   unfolding modelOf head-values latinOf
   sound-contents = rw (accepted-said s h) at (accepted-model s h .tables)
 
-  pub accepted-room : (p : Plan) (t : Bytes) → length t ≤ 40 → length (tables-by p 0 t (map said-in (sections s))) ≤ 576460752303423488
+  pub accepted-room : (p : Plan) (t : Bytes) → length t ≤ 40 → length (tables-by p 0 t (map said-in (sections s))) ≤ 1152921504606846976
   unfolding tables-by
   accepted-room p t l =
       omega (

@@ -95,15 +95,26 @@ fn measure(
 mod tests {
     use super::*;
     use compare::command_line::{self, Wish};
+    use samples::large::Order;
 
-    /// The reader beside itself: both shapes hold what every call is to answer.
-    #[test]
-    fn arranged_columns_are_measured_with_document_01_s_order() {
+    /// The reader beside itself: the shape holds what every call is to answer.
+    fn bench_alone(shape: Shape) -> Result<(), String> {
         let words = ["--largest", "1", "--runs", "1"].map(str::to_owned);
         let Ok(Wish::Run(options)) = command_line::read::<Options>(words) else {
             panic!("no options");
         };
-        let libraries = [compare::baseline(); 2];
-        assert_eq!(bench_shape(&options, Shape::Arranged, libraries), Ok(()));
+        bench_shape(&options, shape, [compare::baseline(); 2])
+    }
+
+    #[test]
+    fn arranged_columns_are_measured_with_document_01_s_order() {
+        assert_eq!(bench_alone(Shape::Arranged), Ok(()));
+    }
+
+    #[test]
+    fn connections_are_measured() {
+        for order in [Order::Rising, Order::Shuffled] {
+            assert_eq!(bench_alone(Shape::Connections(order)), Ok(()));
+        }
     }
 }

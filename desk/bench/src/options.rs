@@ -17,24 +17,28 @@ usage: bench [--runs N] [--largest MIB | --small] [--call NAME] [--shape NAME]
   --small        256 files of 4 KiB instead, one after the other in each run
   --call NAME    one call: check, list, table, write, fill, strip
   --shape NAME   one shape: rising, shuffled, eight, eight-shuffled, arranged,
-                 many, huge, huge-shuffled
+                 connections, connections-shuffled, many, huge, huge-shuffled
 
 rising and shuffled have as many links as running times, in key order or not;
-eight is all eight tables with a share of the bytes each; arranged is the same
-records with the columns of each table in another order, measured in turn with
-eight; many is small tables again and again, which is refused by 17 and so only
-read, and never small; huge is one table, the calendar. Prints Markdown tables:
-MB/s of both, the subject's time by the baseline's, the time by that of half the
-size (2 is growth with the bytes), the most stack a call needed, in bytes, and
-for arranged the time by that of the same records in document 01's order.
+eight is document 01's eight tables with a share of the bytes each; arranged is
+the same records with the columns of each table in another order, measured in
+turn with eight; connections have four transfers each, and half of them miss the
+numbers that may be missing; many is small tables again and again, which is
+refused by 17 and so only read, and never small; huge is one table, the calendar.
+Prints Markdown tables: MB/s of both, the subject's time by the baseline's, the
+time by that of half the size (2 is growth with the bytes), the most stack a call
+needed, in bytes, and for arranged the time by that of the same records in
+document 01's order.
 ";
 
-const SHAPES: [(&str, Shape); 8] = [
+const SHAPES: [(&str, Shape); 10] = [
     ("rising", Shape::Network(Order::Rising)),
     ("shuffled", Shape::Network(Order::Shuffled)),
     ("eight", Shape::Eight(Order::Rising)),
     ("eight-shuffled", Shape::Eight(Order::Shuffled)),
     ("arranged", Shape::Arranged),
+    ("connections", Shape::Connections(Order::Rising)),
+    ("connections-shuffled", Shape::Connections(Order::Shuffled)),
     ("many", Shape::Small),
     ("huge", Shape::Calendar(Order::Rising)),
     ("huge-shuffled", Shape::Calendar(Order::Shuffled)),
@@ -146,7 +150,7 @@ mod tests {
     fn wishes() {
         let all = read("").unwrap();
         assert_eq!(all.sizes(), [1, 2, 4, 8, 16].map(Size::mebibytes));
-        assert_eq!(all.shapes().len(), 8);
+        assert_eq!(all.shapes().len(), 10);
         assert_eq!(all.calls(Shape::Eight(Order::Rising)).len(), 6);
         assert_eq!(
             all.calls(Shape::Small),
@@ -160,6 +164,8 @@ mod tests {
             read("--shape arranged").unwrap().shapes(),
             [Shape::Arranged]
         );
+        let shuffled = read("--shape connections-shuffled").unwrap().shapes();
+        assert_eq!(shuffled, [Shape::Connections(Order::Shuffled)]);
         let small = read("--small").unwrap();
         assert_eq!(small.sizes(), [Size::SMALL]);
         assert!(!small.shapes().contains(&Shape::Small));

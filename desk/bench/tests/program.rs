@@ -46,7 +46,7 @@ fn small_files_are_read_one_after_the_other() {
     let output = bench("--small --runs 1 --shape eight");
     let printed = String::from_utf8(output.stdout).unwrap();
     assert!(output.status.success(), "{printed}");
-    assert!(printed.contains("\n## all eight tables in key order, 256 small files\n"));
+    assert!(printed.contains("\n## document 01's eight tables in key order, 256 small files\n"));
     assert!(printed.contains("| call  | KiB |"), "{printed}");
     for call in ["check", "list", "table", "write", "fill", "strip"] {
         let lines = measured(&printed, call);
@@ -68,6 +68,17 @@ fn arranged_columns_are_measured_beside_document_01_s_order() {
             .map(|f| f.parse().unwrap())
             .collect();
         assert!(factors.iter().all(|factor| *factor > 0.0), "{printed}");
+    }
+}
+
+#[test]
+fn connections_are_measured() {
+    let output = bench("--largest 1 --runs 1 --shape connections-shuffled");
+    let printed = String::from_utf8(output.stdout).unwrap();
+    assert!(output.status.success(), "{printed}");
+    assert!(printed.contains("\n## connections and transfers shuffled\n"));
+    for call in ["check", "list", "table", "write", "fill", "strip"] {
+        assert_eq!(measured(&printed, call).len(), 1, "{printed}");
     }
 }
 

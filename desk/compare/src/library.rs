@@ -27,7 +27,7 @@ pub trait Library: Sync {
     fn value(&self, file: &[u8], at: At) -> Result<Value, Refusal>;
 
     /// A text's own bytes, doubled quotes undone, and whose it is: refused as
-    /// its value is, then 11 for a number, then 21.
+    /// its value is, then 11 for a number, there or missing, then 21.
     fn text(&self, file: &[u8], at: At, out: &mut [u8]) -> Result<Copied, Refusal>;
 
     /// Every value of a section, three cells each: refused as its values are,

@@ -1,6 +1,6 @@
-//! What only large files reach: every call on a file of just the limit and on a
-//! large one with its columns arranged, 1 one byte beyond the limit, and 21 for
-//! a form longer than any file may be.
+//! What only large files reach: every call on a file of just the limit and on
+//! large ones with arranged columns and with connections, 1 one byte beyond the
+//! limit, and 21 for a form longer than any file may be.
 
 use samples::large::{file, with_longer_source, without_spaces, Order, Shape, EMPTY};
 use vdv::{cells_of, number, At, Refusal, LIMIT};
@@ -11,8 +11,8 @@ use crate::library::{all_rows, Library};
 use crate::tally::Tally;
 use crate::Pair;
 
-/// Bytes of the file with arranged columns.
-const ARRANGED: usize = LIMIT / 8;
+/// Bytes of the files with arranged columns and with connections.
+const LARGE: usize = LIMIT / 8;
 
 /// Text and mark of the place that is filled.
 const TEXT: &[u8] = b"Vorschlag";
@@ -20,7 +20,8 @@ const TEXT: &[u8] = b"Vorschlag";
 pub fn compare_large(pair: Pair<'_>, tally: &mut Tally) -> Result<(), Difference> {
     let mut limit = Limit { pair, tally };
     limit.sound_file(&file(Shape::Calendar(Order::Rising), LIMIT, 1))?;
-    limit.sound_file(&file(Shape::Arranged, ARRANGED, 1))?;
+    limit.sound_file(&file(Shape::Arranged, LARGE, 1))?;
+    limit.sound_file(&file(Shape::Connections(Order::Shuffled), LARGE, 1))?;
     limit.one_byte_more()?;
     limit.form_of_the_limit()?;
     limit.many_sections()

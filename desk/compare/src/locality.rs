@@ -19,9 +19,11 @@ pub struct Replaced {
 }
 
 /// Lines that reach furthest: lost quotes, table lines, other orders, ends.
-const LINES: [&[u8]; 13] = [
+const LINES: [&[u8]; 15] = [
     b"tbl; MENGE_TAGESART\n",
     b"atr; TAGESART_TEXT; BASIS_VERSION; TAGESART_NR\n",
+    b"tbl; EINZELANSCHLUSS\n",
+    b"rec; 7; 1; ; 3; \n",
     b"tbl; REC_ORT\n",
     b"eof; 1\n",
     b"end; 0\n",
@@ -108,7 +110,7 @@ fn reading(library: &dyn Library, file: &[u8], section: usize, row: Row) -> Read
     let found = || cells.chunks(CELLS).filter_map(value_in);
     let text = |value| match value {
         Value::Text { span, .. } => Some(own_bytes(span.of(file))),
-        Value::Number(_) => None,
+        Value::Number(_) | Value::Missing => None,
     };
     Reading {
         row: Row { place: 0, ..row },

@@ -30,6 +30,7 @@ pub fn model_of(library: &dyn Library, file: &[u8]) -> Option<Model> {
 fn datum(file: &[u8], cells: &[u64]) -> Option<Datum> {
     Some(match value_in(cells)? {
         Value::Number(number) => Datum::Number(number),
+        Value::Missing => Datum::Missing,
         Value::Text { span, owner } => Datum::Text(own_bytes(span.of(file)), owner),
     })
 }

@@ -47,7 +47,9 @@ impl Library for Plain {
                 length: put(&bytes, out)?,
                 owner: self::owner(owner),
             }),
-            Ok(reader::Value::Number(_)) => Err(Refusal::placeless(number::NOT_A_TEXT)),
+            Ok(reader::Value::Number(_) | reader::Value::Missing) => {
+                Err(Refusal::placeless(number::NOT_A_TEXT))
+            }
             Err(answer) => Err(refusal(answer)),
         }
     }
@@ -135,6 +137,7 @@ fn value(value: &reader::Value<'_>) -> Value {
     match value {
         // No column's range lies below 0.
         reader::Value::Number(number) => Value::Number(number.unsigned_abs()),
+        reader::Value::Missing => Value::Missing,
         reader::Value::Text {
             span: range, owner, ..
         } => Value::Text {

@@ -61,14 +61,14 @@ impl Tally {
         self.others.get(number as usize).copied().unwrap_or(0)
     }
 
-    /// Numbers that should have been given and were not: 0 to 20 by files, all
-    /// but 1 also by arranged ones, the rest by calls of their own.
+    /// Numbers that should have been given and were not: 21 to 24 by calls of
+    /// their own, the others by files, all but 1 also by arranged ones.
     pub fn missed(&self) -> Vec<u32> {
         (number::SOUND..=number::LAST)
             .filter(|&n| match n {
                 number::FILE_TOO_LONG => self.checks(n) == 0,
-                ..number::NO_ROOM => self.checks(n) == 0 || self.arranged(n) == 0,
-                _ => self.others(n) == 0,
+                number::NO_ROOM..=number::NO_SUCH => self.others(n) == 0,
+                _ => self.checks(n) == 0 || self.arranged(n) == 0,
             })
             .collect()
     }
@@ -93,20 +93,21 @@ mod tests {
     #[test]
     fn what_was_never_given_is_missed() {
         let mut tally = Tally::default();
-        for number in number::SOUND..=number::REFERENCE {
+        for number in (number::SOUND..=number::REFERENCE).chain([number::COMBINATION]) {
             tally.add_check(Refusal::placeless(number));
         }
-        assert_eq!(tally.missed().len(), 24);
+        assert_eq!(tally.missed().len(), 25);
         for number in number::HEADER..=number::REFERENCE {
             tally.add_arranged(Refusal::placeless(number));
         }
-        assert_eq!(tally.missed(), [0, 21, 22, 23, 24]);
+        assert_eq!(tally.missed(), [0, 21, 22, 23, 24, 25]);
         tally.add_arranged(Refusal::SOUND);
-        for number in number::NO_ROOM..=number::LAST {
+        tally.add_arranged(Refusal::placeless(number::COMBINATION));
+        for number in number::NO_ROOM..=number::NO_SUCH {
             tally.add_call(Refusal::placeless(number));
         }
         assert!(tally.missed().is_empty());
-        assert_eq!(Tally::default().missed().len(), 25);
+        assert_eq!(Tally::default().missed().len(), 26);
         assert!(tally
             .to_string()
             .contains("    20          1          1          0  a reference"));

@@ -2,6 +2,7 @@
 //! otherwise right implementation a difference is reported soon.
 
 mod arranged;
+mod connections;
 mod padded;
 
 use std::borrow::Cow;
@@ -9,7 +10,7 @@ use std::path::Path;
 
 use compare::{all_rows, run, Library, Options, Pair, Plain};
 use samples::arrangement::is_arranged;
-use vdv::{number, At, Copied, Header, Owner, Refusal, Row, Value};
+use vdv::{number, At, Copied, Header, Owner, Refusal, Row, Value, CELLS};
 
 /// A right implementation but for one fault.
 struct Bent(Fault);
@@ -84,10 +85,28 @@ faults! {
     PaddingWritten,
     SpacesNotEmpty,
     FillUntrimmed,
+    MissingIsZero,
+    ZeroInCells,
+    TextOfMissing,
+    MissingRefused,
+    ZeroIsMissing,
+    NumberLeftOut,
+    CombinationPasses,
+    CombinationEarly,
+    CombinationLate,
+    CombinationByPlace,
+    SpacesCombined,
+    DirectionAboveZero,
+    NoConnections,
+    ZeroWritten,
+    LastSpaceLost,
+    NameNotFilled,
+    MissingNotEmpty,
+    MarksOfOneDigit,
 }
 
 /// Faults that show only in files whose columns are arranged.
-const OF_ARRANGED: [Fault; 10] = [
+const OF_ARRANGED: [Fault; 12] = [
     ArrangedRefused,
     FormatsByColumn,
     FieldsByColumn,
@@ -98,6 +117,8 @@ const OF_ARRANGED: [Fault; 10] = [
     FormInFileOrder,
     MarksKeepNumbers,
     FillByPlace,
+    CombinationByPlace,
+    MarksOfOneDigit,
 ];
 
 impl Bent {
@@ -131,6 +152,31 @@ impl Bent {
         match (self.0, right.number) {
             (PaddingMeasured, _) if kept().number == number::RANGE => kept(),
             (PaddingInKeys, number::SECOND_KEY) | (SpacesMarked, number::MARK) => kept(),
+            (SpacesCombined, number::SOUND) if kept().number == number::COMBINATION => kept(),
+            (SpacesCombined, number::COMBINATION) if kept().is_sound() => kept(),
+            _ => right,
+        }
+    }
+
+    /// The right answer with a rule judged otherwise that speaks of connections
+    /// or of missing numbers.
+    fn connected(&self, file: &[u8], right: Refusal) -> Refusal {
+        match (self.0, right.number) {
+            (MissingRefused, _) => Plain.check(&connections::with_missing_refused(file)),
+            (ZeroIsMissing, number::RANGE) => Plain.check(&connections::with_zeros_missing(file)),
+            (NumberLeftOut, number::NOT_A_NUMBER) => {
+                Plain.check(&connections::with_numbers_put_in(file))
+            }
+            (CombinationEarly, number::RANGE) => connections::judge_combination_first(file, right),
+            (CombinationLate, number::COMBINATION) => connections::judge_mark_first(file, right),
+            (CombinationByPlace, _) => connections::judge_combination_by_place(file, right),
+            (DirectionAboveZero, number::SOUND) => connections::refuse_no_direction(file, right),
+            (MarksOfOneDigit, number::SOUND) => connections::refuse_two_digits(file, right),
+            (NoConnections, number::REFERENCE)
+                if connections::lacks_connection_alone(file, right) =>
+            {
+                Refusal::SOUND
+            }
             _ => right,
         }
     }
@@ -142,6 +188,7 @@ impl Bent {
             (NoSecondKeys, number::SECOND_KEY) => Refusal::SOUND,
             (NoReferences, number::REFERENCE) => Refusal::SOUND,
             (NamesUnread, number::ATR) => Refusal::SOUND,
+            (CombinationPasses, number::COMBINATION) => Refusal::SOUND,
             (LineOff, number::ORDER) => Refusal::new(right.number, right.section, right.line + 1),
             (SectionOff, number::PRIMARY_KEY) => Refusal::new(right.number, 1, right.line),
             (LaterLine, number::TRAILER) if right.line == 2 => Refusal::new(3, 0, 3),
@@ -185,7 +232,8 @@ impl Library for Bent {
 
     fn check(&self, file: &[u8]) -> Refusal {
         let right = Plain.check(&self.taken(file));
-        self.answer(self.padded(file, self.unarranged(file, right)))
+        let right = self.padded(file, self.unarranged(file, right));
+        self.answer(self.connected(file, right))
     }
 
     fn header(&self, file: &[u8]) -> Result<Header, Refusal> {
@@ -260,6 +308,7 @@ impl Library for Bent {
                 span.to += 1;
                 Value::Text { span, owner }
             }
+            Value::Missing if self.is(MissingIsZero) => Value::Number(0),
             value => value,
         })
     }
@@ -286,6 +335,7 @@ impl Library for Bent {
             (TextOfNumber, Err(refusal), _) if refusal.number == number::NOT_A_TEXT => {
                 told(0, Owner::Operator)
             }
+            (TextOfMissing, _, Ok(Value::Missing)) => told(0, Owner::Operator),
             (OperatorsText, Ok(text), _) => told(text.length, Owner::Operator),
             _ => answer,
         }
@@ -299,6 +349,10 @@ impl Library for Bent {
         if self.is(SpareCell) && length < cells.len() {
             cells[length] = 0;
         }
+        if self.is(ZeroInCells) {
+            let values = cells[..length].chunks_mut(CELLS);
+            values.filter(|cells| cells[0] == 3).for_each(|c| c.fill(0));
+        }
         Ok(length)
     }
 
@@ -306,6 +360,8 @@ impl Library for Bent {
         let kept = padded::with_padding_kept(file);
         let answer = match self.0 {
             PaddingWritten if Plain.check(file).is_sound() => Plain.write(&kept, out),
+            ZeroWritten => connections::write_changed(file, out, connections::put_zeros),
+            LastSpaceLost => connections::write_changed(file, out, connections::lose_last_space),
             _ => Plain.write(&self.taken(file), out),
         };
         match (self.0, answer) {
@@ -337,6 +393,14 @@ impl Library for Bent {
                 Err(Refusal::placeless(number::RANGE))
             }
             (FillOverwrites, Err(number::NOT_EMPTY)) => Plain.write(file, out),
+            (NameNotFilled, Ok(_)) if Plain.section(file, at.section)?.table == 432 => {
+                Err(Refusal::placeless(number::MAY_NOT_FILL))
+            }
+            (MissingNotEmpty, Err(number::MAY_NOT_FILL))
+                if Plain.value(file, at) == Ok(Value::Missing) =>
+            {
+                Err(Refusal::placeless(number::NOT_EMPTY))
+            }
             (SpacesNotEmpty, Ok(_)) => {
                 let kept = padded::with_padding_kept(file);
                 let refused = Plain.fill(&kept, at, text, &mut [0; 1]);

@@ -3,8 +3,8 @@
 //! arrangement of the table's columns the library has said; this only looks
 //! which one, or why not, to show it.
 //!
-//! A `field` is a column's number in document 01's table, a `place` its number
-//! in the file's own order, both from 1.
+//! A `field` is a column's number in VDV 452's table, a `place` its number in
+//! the file's own order, both from 1.
 
 use std::ops::Range;
 
@@ -39,6 +39,10 @@ impl Standing {
     pub fn place_of(&self, field: usize) -> Option<usize> {
         let index = self.fields.iter().position(|other| *other == field)?;
         Some(index + 1)
+    }
+
+    pub fn place_named(&self, name: &str) -> Option<usize> {
+        self.place_of(field_of(self.table, name.as_bytes())?)
     }
 
     /// The only column that may be marked, and its place.

@@ -1,11 +1,16 @@
 //! Aligned columns.
 
+use std::mem;
+
 use crate::outlets::Outlets;
 use crate::terminal::Tone;
 use crate::trouble::Trouble;
 
 /// Columns of a terminal that nobody has widened.
 const TERMINAL: usize = 80;
+
+/// Columns of a sheet that no terminal shows: enough for every table but one.
+pub const WIDTH: usize = 120;
 
 /// Words in as many lines as they need, each behind an indent.
 pub fn wrapped(indent: usize, words: &str) -> String {
@@ -91,17 +96,55 @@ impl Sheet {
     }
 
     pub fn print(&self, outlets: &mut Outlets<'_>) -> Result<(), Trouble> {
+        let columns: Vec<usize> = (0..self.widths.len()).collect();
+        self.print_columns(&columns, outlets)
+    }
+
+    /// A sheet too wide to be seen at once goes on below: its columns in blocks,
+    /// each behind the first column again.
+    pub fn print_in_blocks(&self, outlets: &mut Outlets<'_>) -> Result<(), Trouble> {
+        for (index, columns) in self.blocks(outlets.width).iter().enumerate() {
+            if index > 0 {
+                outlets.print(&"\n")?;
+            }
+            self.print_columns(columns, outlets)?;
+        }
+        Ok(())
+    }
+
+    /// As many columns a block as there is room for, and one at least.
+    fn blocks(&self, room: usize) -> Vec<Vec<usize>> {
+        let mut blocks = Vec::new();
+        let mut block = vec![0];
+        for column in 1..self.widths.len() {
+            block.push(column);
+            if block.len() > 2 && self.width_of(&block) > room {
+                block.pop();
+                blocks.push(mem::replace(&mut block, vec![0, column]));
+            }
+        }
+        blocks.push(block);
+        blocks
+    }
+
+    fn width_of(&self, columns: &[usize]) -> usize {
+        let widths = columns.iter().map(|column| self.widths[*column]);
+        widths.sum::<usize>() + GAP.len() * columns.len().saturating_sub(1)
+    }
+
+    fn print_columns(&self, columns: &[usize], outlets: &mut Outlets<'_>) -> Result<(), Trouble> {
         for row in &self.rows {
-            let line = self.line(row, outlets);
+            let line = self.line(row, columns, outlets);
             outlets.print(&format_args!("{}\n", line.trim_end()))?;
         }
         Ok(())
     }
 
-    fn line(&self, row: &[Cell], outlets: &Outlets<'_>) -> String {
+    fn line(&self, row: &[Cell], columns: &[usize], outlets: &Outlets<'_>) -> String {
         let mut line = String::new();
-        for ((cell, width), side) in row.iter().zip(&self.widths).zip(&self.sides) {
-            let padding = " ".repeat(width - cell.width);
+        for &column in columns {
+            let (cell, side) = (&row[column], self.sides[column]);
+            let padding = " ".repeat(self.widths[column] - cell.width);
             let text = match cell.tone {
                 Some(tone) => outlets.paint_out.tone(tone, &cell.text),
                 None => cell.text.clone(),
@@ -113,5 +156,25 @@ impl Sheet {
             line.push_str(GAP);
         }
         line
+    }
+}
+
+#[cfg(test)]
+mod tests {
+    use super::*;
+
+    fn blocks(names: &[&str], room: usize) -> Vec<Vec<usize>> {
+        let heading: Vec<(&str, Side)> = names.iter().map(|name| (*name, Side::Left)).collect();
+        Sheet::new(&heading).blocks(room)
+    }
+
+    #[test]
+    fn columns_go_on_below_where_there_is_no_room() {
+        let names = ["aa", "bbb", "cccc", "d"];
+        assert_eq!(blocks(&names, 16), [[0, 1, 2, 3]]);
+        assert_eq!(blocks(&names, 15), [vec![0, 1, 2], vec![0, 3]]);
+        assert_eq!(blocks(&names, 12), [vec![0, 1], vec![0, 2, 3]]);
+        assert_eq!(blocks(&names, 0), [[0, 1], [0, 2], [0, 3]]);
+        assert_eq!(blocks(&names[..1], 0), [[0]]);
     }
 }

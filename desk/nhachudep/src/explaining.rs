@@ -1,11 +1,12 @@
 //! What a refusal's number leaves open: which column stands at the place, and
 //! what it asks. A column is called by its name, for its number in the file's
-//! own order need not be that in document 01's table.
+//! own order need not be that in VDV 452's table.
 
 use vdv::number;
 use vdv::tables::{Column, Kind};
 
 use crate::arrangement::Standing;
+use crate::combination::Broken;
 use crate::lines::{fields, rest};
 use crate::pointing::Line;
 
@@ -20,17 +21,31 @@ pub fn notes(line: &Line<'_>) -> Vec<String> {
             explain_field(line).into_iter().collect()
         }
         number::MARK => explain_mark(line),
+        number::COMBINATION => Broken::of(line).map_or(Vec::new(), |broken| broken.notes()),
         _ => Vec::new(),
     }
 }
 
 fn explain_field(line: &Line<'_>) -> Option<String> {
-    let column = line.standing.as_ref()?.column_at(line.odd_place()?)?;
-    let name = column.name;
-    Some(match column.kind {
-        Kind::Number { low, high } => format!("{name} stands here, a number from {low} to {high}"),
-        Kind::Text { size } => format!("{name} stands here, a text of up to {size} bytes"),
-    })
+    let place = line.odd_place()?;
+    let column = line.standing.as_ref()?.column_at(place)?;
+    let (name, is_empty) = (column.name, line.field(place)?.is_empty());
+    let asked = match column.kind {
+        Kind::Number { low, high } => format!("a number from {low} to {high}"),
+        Kind::Text { size } => format!("a text of up to {size} bytes"),
+    };
+    let empty = explain_empty(column, is_empty);
+    Some(format!("{name} stands here, {asked}{empty}"))
+}
+
+/// What an empty field means in a column, or that it means nothing there.
+fn explain_empty(column: &Column, is_empty: bool) -> &'static str {
+    match (column.is_text(), column.may_be_missing, is_empty) {
+        (false, true, _) => "; for a missing number the field is left empty",
+        (false, false, true) => ", and may not be left out",
+        (true, _, true) => "; an empty text is `\"\"`",
+        _ => "",
+    }
 }
 
 /// "`frm` with one format a column", as the columns stand.
@@ -164,6 +179,33 @@ mod tests {
         assert_eq!(said("rec; \"a\"; x; 7", 12), [day_type]);
         assert_eq!(said("rec; \"a\"; 1; 0", 13), [version]);
         assert!(said("end; x", 12).is_empty());
+    }
+
+    #[test]
+    fn what_is_left_out_is_said() {
+        let number = "TAGESART_NR stands here, a number from 1 to 999, and may not be left out";
+        assert_eq!(said("rec; \"a\"; ; 7", 12), [number]);
+        let text = "TAGESART_TEXT stands here, a text of up to 40 bytes; an empty text is `\"\"`";
+        assert_eq!(said("rec; ; 1; 7", 11), [text]);
+    }
+
+    /// An empty field there is none of the fields at fault.
+    #[test]
+    fn what_may_be_missing_is_said() {
+        let names: Vec<&str> = tables::CONNECTIONS.columns.iter().map(|c| c.name).collect();
+        let atr = format!("atr; {}", names.join("; "));
+        let said = |fields: &str, number| {
+            let content = format!("rec; 7; 1; \"\"; \"\"; 0; 12; 1; 5; ; {fields}");
+            notes(&line(&atr, &content, number, 432))
+        };
+        let point = "ZUB_ORT_NR stands here, a number from 1 to 999999; for a missing number \
+            the field is left empty";
+        assert_eq!(said("0; ; \"\"; \"\"; \"\"; 5; 0; 5; ; ; ", 13), [point]);
+        assert_eq!(said("x; ; \"\"; \"\"; \"\"; 5; 0; 5; ; ; ", 12), [point]);
+        let number = "ABB_LI_NR stands here, a number from 1 to 999, and may not be left out";
+        assert_eq!(said("; ; \"\"; \"\"; \"\"; ; 0; 5; ; ; ", 12), [number]);
+        let zero = "ABB_ORT_REF_ORT stands here, a number from 1 to 999999";
+        assert_eq!(said("; ; \"\"; \"\"; \"\"; 5; 0; 0; ; ; ", 13), [zero]);
     }
 
     #[test]

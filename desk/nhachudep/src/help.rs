@@ -138,14 +138,16 @@ With --json: one object with header, sections, and the file's answer.
 
 const SHOW: &str = "\
 Shows the records of every table, or of one, given by number or name, in
-aligned columns; these stand in document 01's order, whatever the file's. A
+aligned columns; these stand in VDV 452's order, whatever the file's. Columns
+that the terminal has no room for, or 120 characters where there is none, stand
+below, behind the records' numbers again. A missing number is left blank, and a
 suggestion has a `*` before it. Of a refused section no records are shown; those
 of the others are. A comment that looks like a mark and is none is told of on
 standard error.
 
   --strict  end with 1 if there is such a comment
-  --json    one object with the tables, each value with its owner, and the
-            advice
+  --json    one object with the tables, each text with its owner, a missing
+            number as null, and the advice
 ";
 
 const MARKS: &str = "\
@@ -162,11 +164,11 @@ mark and is none is told of on standard error, and counted.
 ";
 
 const WRITE: &str = "\
-Puts out the written form: header lines in their order, columns in document
-01's, one space after each separating `;`, numbers without leading zeros, texts
-without spaces at their end, no comments but marks, renumbered as the columns
-stand, LF. A comment that looks like a mark and is none is warned of before it
-goes.
+Puts out the written form: header lines in their order, columns in VDV 452's,
+one space after each separating `;`, numbers without leading zeros, a missing
+one as an empty field, texts without spaces at their end, no comments but marks,
+renumbered as the columns stand, LF. A comment that looks like a mark and is
+none is warned of before it goes.
 
   -o OUT      into this file instead of standard output
   --in-place  into the file itself
@@ -183,10 +185,10 @@ written. A read-only file is not replaced.
 const FILL: &str = "\
 Puts out the written form with TEXT in an empty field, marked as a suggestion.
 Section, record and field count from 1; `nhachudep show` counts them. FIELD is
-the column's number in document 01's table, wherever the file has the column,
-and whatever number a mark in the file gives it. TEXT is given in UTF-8 and put
-out in ISO 8859-1, without spaces at its end. One that begins with `-` stands
-after `--`.
+the column's number in VDV 452's table, wherever the file has the column, and
+whatever number a mark in the file gives it. TEXT is given in UTF-8 and put out
+in ISO 8859-1, without spaces at its end. One that begins with `-` stands after
+`--`.
 
   -o OUT      into this file instead of standard output
   --in-place  into the file itself; many fills at once wait for each other
@@ -195,7 +197,8 @@ after `--`.
 
 These may be filled: field 2 of MENGE_BASIS_VERSIONEN, BASIS_VERSION_TEXT;
 field 3 of FIRMENKALENDER, BETRIEBSTAG_TEXT; field 3 of MENGE_TAGESART,
-TAGESART_TEXT; field 4 of MENGE_ONR_TYP, ONR_TYP_TEXT.
+TAGESART_TEXT; field 4 of MENGE_ONR_TYP, ONR_TYP_TEXT; field 3 of
+EINZELANSCHLUSS, ANSCHLUSS_NAME. A missing number may not be.
 `nhachudep write --help` says how a file is replaced.
 ";
 
@@ -226,7 +229,7 @@ mod tests {
         assert_eq!(Topic::named("nhachudep"), None);
     }
 
-    /// The numbers by which `fill` names a column are document 01's.
+    /// The numbers by which `fill` names a column are VDV 452's.
     #[test]
     fn what_may_be_filled_is_said() {
         for table in vdv::tables::ALL {

@@ -5,6 +5,7 @@ mod advice;
 mod arguments;
 mod arrangement;
 mod columns;
+mod combination;
 mod commands;
 mod explaining;
 mod help;

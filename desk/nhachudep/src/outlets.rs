@@ -3,6 +3,8 @@
 use std::fmt::Display;
 use std::io::{self, IsTerminal, Write};
 
+use crate::columns::WIDTH;
+use crate::system;
 use crate::terminal::Paint;
 use crate::trouble::Trouble;
 
@@ -11,6 +13,8 @@ pub struct Outlets<'a> {
     pub err: &'a mut dyn Write,
     pub paint_out: Paint,
     pub paint_err: Paint,
+    /// Columns that a sheet on standard output may take.
+    pub width: usize,
     /// Progress is for people who look.
     pub shows_progress: bool,
 }
@@ -29,6 +33,7 @@ impl<'a> Outlets<'a> {
             err,
             paint_out,
             paint_err,
+            width: system::terminal_width().unwrap_or(WIDTH),
             shows_progress: io::stderr().is_terminal() && term.is_some_and(|t| t != "dumb"),
         }
     }

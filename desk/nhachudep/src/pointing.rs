@@ -7,6 +7,7 @@ use vdv::number;
 use vdv::tables::{Column, Kind, Table};
 
 use crate::arrangement::{Flaws, Standing};
+use crate::combination::Broken;
 use crate::lines::{command, fields};
 
 /// The columns that say where the two points lie, in each table that has them.
@@ -41,10 +42,14 @@ impl Line<'_> {
             number::ATR => self.flaws().map_or(Vec::new(), |flaws| flaws.parts()),
             number::NOT_A_NUMBER if self.has_command(b"end") => one(self.field(1)),
             number::FRM | number::NOT_A_TEXT | number::NOT_A_NUMBER | number::RANGE => {
-                one(self.odd_place().and_then(|place| self.field(place)))
+                one(self.odd_place().and_then(|place| self.field_or_gap(place)))
             }
             number::MARK => one(self.mark()),
-            number::SAME_POINTS => self.points(),
+            number::SAME_POINTS => {
+                let points = POINTS.iter();
+                points.filter_map(|name| self.field_named(name)).collect()
+            }
+            number::COMBINATION => one(Broken::of(self).map(|broken| broken.part)),
             number::PRIMARY_KEY => self.of_columns(self.table.map(|table| table.primary)),
             number::SECOND_KEY => self.of_columns(self.table.map(|table| table.second)),
             number::REFERENCE => self.of_columns(Some(self.lost)),
@@ -70,9 +75,10 @@ impl Line<'_> {
         let is_odd: fn(&Column, &[u8]) -> bool = match self.number {
             number::FRM => |column, format| !takes_format(column, format),
             number::NOT_A_TEXT => |column, text| column.is_text() && !is_text(text),
-            number::NOT_A_NUMBER => {
-                |column, value| !column.is_text() && read_number(value).is_none()
-            }
+            number::NOT_A_NUMBER => |column, value| {
+                let is_missing = column.may_be_missing && value.is_empty();
+                !column.is_text() && !is_missing && read_number(value).is_none()
+            },
             number::RANGE => |column, value| !fits(column, value),
             _ => return None,
         };
@@ -121,8 +127,24 @@ impl Line<'_> {
     }
 
     /// The field at a place.
-    fn field(&self, place: usize) -> Option<Range<usize>> {
+    pub fn field(&self, place: usize) -> Option<Range<usize>> {
         fields(self.content).get(place.checked_sub(1)?).cloned()
+    }
+
+    /// What a record has in a column, wherever it stands.
+    pub fn field_named(&self, name: &str) -> Option<Range<usize>> {
+        self.field(self.standing.as_ref()?.place_named(name)?)
+    }
+
+    /// The field at a place or, where it is empty, the byte behind its `;`; at
+    /// the line's end that `;` itself.
+    fn field_or_gap(&self, place: usize) -> Option<Range<usize>> {
+        let field = self.field(place)?;
+        let gap = field.start.min(self.content.len() - 1);
+        match field.is_empty() {
+            true => Some(gap..gap + 1),
+            false => Some(field),
+        }
     }
 
     /// A mark's own text, or the empty text it stands on.
@@ -136,14 +158,6 @@ impl Line<'_> {
             (b"rec", Some((_, place))) => self.field(place),
             _ => self.command(),
         }
-    }
-
-    fn points(&self) -> Vec<Range<usize>> {
-        let columns = self.table.map_or(&[][..], |table| table.columns);
-        let numbered = (1..).zip(columns);
-        let points = numbered.filter(|(_, column)| POINTS.contains(&column.name));
-        let points: Vec<usize> = points.map(|(field, _)| field).collect();
-        self.of_columns(Some(&points))
     }
 
     /// What a record has in these columns, wherever they stand.
@@ -161,7 +175,7 @@ pub fn is_text(field: &[u8]) -> bool {
 
 /// A closed text's own bytes, doubled quotes counted once and the spaces at
 /// its end not at all.
-fn own_size(field: &[u8]) -> Option<usize> {
+pub fn own_size(field: &[u8]) -> Option<usize> {
     let inner = field.strip_prefix(b"\"")?.strip_suffix(b"\"")?;
     let last = inner.iter().rposition(|byte| *byte != b' ');
     let (mut size, mut bytes) = (0, inner[..last.map_or(0, |last| last + 1)].iter());
@@ -174,7 +188,7 @@ fn own_size(field: &[u8]) -> Option<usize> {
     Some(size)
 }
 
-fn read_number(field: &[u8]) -> Option<i64> {
+pub fn read_number(field: &[u8]) -> Option<i64> {
     let digits = field.strip_prefix(b"-").unwrap_or(field);
     let all_digits = digits.iter().all(u8::is_ascii_digit);
     if !all_digits || digits.is_empty() || digits.len() > 18 {
@@ -200,8 +214,8 @@ mod tests {
     use super::*;
     use vdv::tables;
 
-    /// A line of a section whose names stand so; with none of them, as in
-    /// document 01.
+    /// A line of a section whose names stand so; with none of them, as in VDV
+    /// 452.
     fn line<'a>(atr: &str, content: &'a [u8], number: u32, table: u32) -> Line<'a> {
         let table = tables::numbered(table);
         let columns = table.map_or(&[][..], |table| table.columns);
@@ -254,6 +268,18 @@ mod tests {
             (b"end; 3", 16, 290, &[b"3"]),
             (b"rec; 7; -1; 1; 2; 1; 3; 4", 13, 225, &[b"-1"]),
         ]);
+    }
+
+    /// Where nothing stands, the gap is pointed at.
+    #[test]
+    fn fields_left_out() {
+        let place = |content, number, table| line("", content, number, table).parts().remove(0);
+        assert_eq!(place(b"rec; 7; ; \"a\"", 12, 290), 7..8);
+        assert_eq!(place(b"rec; 7;; \"a\"", 12, 290), 7..8);
+        assert_eq!(place(b"rec; 7; 1; ", 11, 290), 10..11);
+        assert_eq!(place(b"rec; 7; 1;", 11, 290), 9..10);
+        let own = b"rec; 7; 1; \"\"; \"\"; 0; 12; 1; 5; ; ; ; \"\"; \"\"; \"\"; ; 0; 5; ; ; ";
+        assert_eq!(place(own, 12, 432), 49..50);
     }
 
     #[test]

@@ -55,8 +55,8 @@ impl Lost {
     }
 }
 
-/// The numbers of each record of a section; a text counts as 0, for no
-/// reference goes by one.
+/// The numbers of each record of a section; a text or a missing number counts
+/// as 0, for no reference goes by one.
 fn numbers(file: &[u8], section: usize, row: Row) -> impl Iterator<Item = Vec<u64>> {
     let cells = table_cells(file, section, row).unwrap_or_default();
     let number = |cells: &[u64]| match value_in(cells) {

@@ -1,7 +1,8 @@
-//! What std has no way for: signals, access lists, and whether standard output
-//! was open at the start. The numbers are those of Linux on x86-64 and Arm.
+//! What std has no way for: signals, access lists, a terminal's width, and
+//! whether standard output was open at the start. The numbers are those of Linux
+//! on x86-64 and Arm.
 
-use std::ffi::{c_char, c_int, CStr};
+use std::ffi::{c_char, c_int, c_ulong, CStr};
 use std::fs::File;
 use std::io::{self, Write};
 use std::mem::ManuallyDrop;
@@ -15,6 +16,8 @@ const STANDARD_OUTPUT: c_int = 1;
 const GET_FLAGS: c_int = 3;
 const ACCESS: c_int = 3;
 const READ_ONLY: c_int = 0;
+
+const GET_WINDOW: c_ulong = 0x5413;
 
 const BROKEN_PIPE: c_int = 13;
 const FILE_SIZE: c_int = 25;
@@ -37,6 +40,10 @@ impl Signals {
     const ALL: Signals = Signals([u64::MAX; 16]);
 }
 
+/// `struct winsize`: rows, columns, and both in points.
+#[repr(C)]
+struct Window([u16; 4]);
+
 extern "C" {
     fn fcntl(descriptor: c_int, command: c_int, ...) -> c_int;
     fn fgetxattr(file: c_int, name: *const c_char, value: *mut u8, size: usize) -> isize;
@@ -48,6 +55,7 @@ extern "C" {
         size: usize,
         how: c_int,
     ) -> c_int;
+    fn ioctl(descriptor: c_int, request: c_ulong, ...) -> c_int;
     fn pthread_sigmask(how: c_int, new: *const Signals, old: *mut Signals) -> c_int;
     fn raise(signal: c_int) -> c_int;
     fn signal(signal: c_int, handler: usize) -> usize;
@@ -93,6 +101,15 @@ impl Write for Output {
     fn flush(&mut self) -> io::Result<()> {
         Ok(())
     }
+}
+
+/// How wide the terminal is that standard output leads to, if it leads to one.
+pub fn terminal_width() -> Option<usize> {
+    let mut window = Window([0; 4]);
+    // SAFETY: the place has the size of `struct winsize` and outlives the call.
+    let asked = unsafe { ioctl(STANDARD_OUTPUT, GET_WINDOW, ptr::from_mut(&mut window)) };
+    let Window([_, columns, ..]) = window;
+    (asked == 0 && columns > 0).then_some(columns.into())
 }
 
 /// Ends as programs do whose reader has gone: by SIGPIPE, which std ignores.

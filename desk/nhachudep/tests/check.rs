@@ -325,6 +325,12 @@ fn every_case() {
     let lost = told.iter().filter(|line| line.contains(": 20 ")).count();
     let named = run.err.matches("\n       = no record of ").count();
     assert!(lost > 0 && lost == named, "{lost} {named}");
+    let broken = told.iter().filter(|line| line.contains(": 25 ")).count();
+    let named = run
+        .err
+        .matches("\n       = with LEITSTELLENKENNUNG ")
+        .count();
+    assert_eq!(broken, named);
     assert!(!run.err.contains('\x1b'));
     assert_eq!(run.text().lines().count(), names.len() - expected.len());
 }

@@ -3,7 +3,7 @@
 /// "file over 16,777,216 bytes" is refused by 1; a form over it by 21.
 pub const LIMIT: usize = 16_777_216;
 
-/// Document 01's numbers by the names the code uses.
+/// The documents' numbers by the names the code uses.
 pub mod number {
     pub const SOUND: u8 = 0;
     pub const FILE_TOO_LONG: u8 = 1;
@@ -30,6 +30,7 @@ pub mod number {
     pub const NOT_EMPTY: u8 = 22;
     pub const MAY_NOT_FILL: u8 = 23;
     pub const NO_SUCH: u8 = 24;
+    pub const COMBINATION: u8 = 25;
 }
 
 /// What a file, or a request on it, gives back.

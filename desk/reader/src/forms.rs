@@ -229,6 +229,7 @@ fn put_record(out: &mut Vec<u8>, record: &Record<'_>, place: (usize, usize), cha
         out.extend_from_slice(b"; ");
         match value {
             Field::Number(value) => put_number(out, value.unsigned_abs() as usize),
+            Field::Missing => {}
             Field::Text(_) if strips && record.is_marked(field) => out.extend_from_slice(b"\"\""),
             Field::Text(text) => match filled(field) {
                 Some(filling) => put_own_bytes(out, filling.text),

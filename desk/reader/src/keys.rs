@@ -20,8 +20,8 @@ pub struct Sound {
     pub records: usize,
 }
 
-/// The keys of each of the eight tables.
-type KeySets = [HashSet<Key>; 8];
+/// The keys of each of the ten tables.
+type KeySets = [HashSet<Key>; 10];
 
 /// The first of 17, 18, 19, 20, each at its first place in file order.
 pub fn judge(file: &[u8], charset: Charset, sections: &[Sound]) -> Answer {
@@ -54,7 +54,7 @@ pub fn judge(file: &[u8], charset: Charset, sections: &[Sound]) -> Answer {
 }
 
 fn table_met_before(sections: &[Sound]) -> Option<usize> {
-    let mut met = [false; 8];
+    let mut met = [false; 10];
     sections
         .iter()
         .find(|section| std::mem::replace(&mut met[place_of(section.table.number)], true))
@@ -84,7 +84,7 @@ fn lost_reference(
 }
 
 fn place_of(table: u16) -> usize {
-    position(table).expect("a sound section's table is one of the eight")
+    position(table).expect("a sound section's table is one of the ten")
 }
 
 fn own_key(record: &Record<'_>, table: &Table, columns: &[usize]) -> Key {
@@ -114,7 +114,7 @@ fn extend(key: Key, field: Field<'_>, kind: Kind) -> Key {
                 key * 257 + bytes.next().map_or(0, |b| Key::from(b) + 1)
             })
         }
-        _ => unreachable!("a record's fields are of their columns' kinds"),
+        _ => unreachable!("no key has a missing number or another kind than its column"),
     }
 }
 

@@ -1,6 +1,6 @@
-//! An independent reader of VDV 451 planning files with the eight VDV 452
-//! tables, written from documents 01 and 02 alone. It shares no code, no tables
-//! and no expectations with the library it is compared with.
+//! An independent reader of VDV 451 planning files with ten VDV 452 tables,
+//! written from documents 01 and 02 alone. It shares no code, no tables and no
+//! expectations with the library it is compared with.
 //!
 //! Every place is a section (from 1; 0 for header and trailer) and a line.
 

@@ -28,7 +28,7 @@ impl Comment {
 }
 
 /// "the field number, without leading zeros, and nothing more". No table has
-/// a field of more than one digit, so a number too great for `usize` names
+/// a field of more than two digits, so a number too great for `usize` names
 /// none, as an unreadable one does: both are 15.
 fn field_number(digits: &[u8]) -> Option<usize> {
     if digits.is_empty() || digits[0] == b'0' {
@@ -44,7 +44,7 @@ fn field_number(digits: &[u8]) -> Option<usize> {
 /// that they speak of, and the place that the last of them named.
 #[derive(Clone, Copy, Debug, Default, PartialEq, Eq)]
 pub struct Marks {
-    bits: u16,
+    bits: u32,
     last: usize,
 }
 
@@ -54,7 +54,7 @@ impl Marks {
     }
 
     pub fn has(self, field: usize) -> bool {
-        field < 16 && self.bits >> field & 1 == 1
+        self.bits >> field & 1 == 1
     }
 
     /// "Several marks of one record rise strictly", and "A mark's number counts

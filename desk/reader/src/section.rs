@@ -9,7 +9,7 @@ use crate::fields::{read_number, Fields, Text};
 use crate::header::Charset;
 use crate::lines::{is_latin, is_plain, Command, Head, Lines, Part};
 use crate::marks::{Comment, Marks};
-use crate::tables::{self, Kind, Table, WIDEST};
+use crate::tables::{self, Column, Feeder, Kind, Table, WIDEST};
 
 /// Whose a text is.
 #[derive(Clone, Copy, Debug, PartialEq, Eq)]
@@ -18,10 +18,12 @@ pub enum Owner {
     Suggestion,
 }
 
-/// A field of a record as handed out.
+/// A field of a record as handed out: "a number, a missing number or a text
+/// with its owner".
 #[derive(Clone, Debug, PartialEq, Eq)]
 pub enum Value<'a> {
     Number(i64),
+    Missing,
     Text {
         /// The text with its doubled quotes undone.
         bytes: Cow<'a, [u8]>,
@@ -34,6 +36,7 @@ pub enum Value<'a> {
 #[derive(Clone, Copy, Debug, PartialEq, Eq)]
 pub enum Field<'a> {
     Number(i64),
+    Missing,
     Text(Text<'a>),
 }
 
@@ -61,6 +64,7 @@ impl<'a> Record<'a> {
         let value = self.fields().get(field.checked_sub(1)?)?;
         Some(match value {
             Field::Number(value) => Value::Number(*value),
+            Field::Missing => Value::Missing,
             Field::Text(text) => Value::Text {
                 bytes: text.undone(),
                 span: text.span(),
@@ -77,12 +81,17 @@ impl<'a> Record<'a> {
         &self.fields[..self.width]
     }
 
-    /// The number in a column, counted from 0; texts have none.
+    /// The number in a column, counted from 0; a missing one and texts have
+    /// none.
     pub(crate) fn number(&self, column: usize) -> i64 {
         match self.fields[column] {
             Field::Number(value) => value,
-            Field::Text(_) => 0,
+            Field::Missing | Field::Text(_) => 0,
         }
+    }
+
+    fn has_text(&self, column: usize) -> bool {
+        matches!(self.fields[column], Field::Text(text) if !text.is_empty())
     }
 
     pub(crate) fn is_marked(&self, field: usize) -> bool {
@@ -261,6 +270,9 @@ impl<'a> Records<'a> {
         if table.points.is_some_and(|points| meet(record, points)) {
             return Err(number::SAME_POINTS);
         }
+        if table.feeder.as_ref().is_some_and(|f| !combines(record, f)) {
+            return Err(number::COMBINATION);
+        }
         if has_marked_empty_text(record) {
             return Err(number::MARK);
         }
@@ -297,7 +309,7 @@ fn read_fields<'a>(
     for column in arrangement.columns() {
         let part = split.next().ok_or(number::FIELD_COUNT)?;
         if refusal.is_none() {
-            match read_field(part, table.columns[column].kind) {
+            match read_field(part, &table.columns[column]) {
                 Ok(value) => fields[column] = value,
                 Err(number) => refusal = Some(number),
             }
@@ -309,8 +321,9 @@ fn read_fields<'a>(
     refusal.map_or(Ok(()), Err)
 }
 
-fn read_field(part: Part<'_>, kind: Kind) -> Result<Field<'_>, u8> {
-    match kind {
+fn read_field<'a>(part: Part<'a>, column: &Column) -> Result<Field<'a>, u8> {
+    match column.kind {
+        Kind::Number { .. } if column.may_be_missing && part.bytes.is_empty() => Ok(Field::Missing),
         Kind::Number { low, high } => {
             let value = read_number(part.bytes).ok_or(number::NOT_A_NUMBER)?;
             if !(low..=high).contains(&value) {
@@ -332,6 +345,20 @@ fn read_field(part: Part<'_>, kind: Kind) -> Result<Field<'_>, u8> {
 fn meet(record: &Record<'_>, points: [(usize, usize); 2]) -> bool {
     let [from, to] = points;
     record.number(from.0) == record.number(to.0) && record.number(from.1) == record.number(to.1)
+}
+
+/// "With LEITSTELLENKENNUNG 0, LinienID, RichtungsID and ASBID are empty, and
+/// ZUB_LI_NR and ZUB_ORT_REF_ORT lie above 0; with 1 to 255 the three texts are
+/// filled, and ZUB_LI_NR, ZUB_LI_RI_NR and ZUB_ORT_REF_ORT are 0".
+fn combines(record: &Record<'_>, feeder: &Feeder) -> bool {
+    let [centre, line, direction, stop] =
+        [feeder.centre, feeder.line, feeder.direction, feeder.stop].map(|c| record.number(c));
+    let [line_id, direction_id, area_id] = feeder.texts.map(|column| record.has_text(column));
+    if centre == 0 {
+        !line_id && !direction_id && !area_id && line > 0 && stop > 0
+    } else {
+        line_id && direction_id && area_id && line == 0 && direction == 0 && stop == 0
+    }
 }
 
 fn has_marked_empty_text(record: &Record<'_>) -> bool {

@@ -4,13 +4,11 @@
 use std::io::{Result, Write};
 
 use crate::answer::Answer;
+use crate::tables::WIDEST;
 use crate::{check, fill, section, strip, write};
 
 /// The text that is filled in: a quote to double, a `;`, and spaces at its end.
 const TEXT: &[u8] = b"Tag \"neu\"; 1  ";
-
-/// As many fields as the widest table has.
-const WIDEST: usize = 8;
 
 type Form = std::result::Result<Vec<u8>, Answer>;
 

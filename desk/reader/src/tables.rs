@@ -1,5 +1,5 @@
-//! The eight tables of document 01: columns, kinds, ranges, sizes, keys and
-//! references.
+//! The eight tables of document 01 and the two of document 02's E3: columns,
+//! kinds, ranges, sizes, keys and references.
 
 /// Range or size of a column's values.
 #[derive(Clone, Copy, Debug, PartialEq, Eq)]
@@ -14,6 +14,8 @@ pub struct Column {
     pub kind: Kind,
     /// The size in a written `frm`: 452's decimal or char size.
     pub written: usize,
+    /// "Where a column there allows NULL, an empty field is a missing number".
+    pub may_be_missing: bool,
 }
 
 /// A reference to another table's primary key, by columns counted from 0.
@@ -36,16 +38,38 @@ pub struct Table {
     pub markable: Option<usize>,
     /// Columns of (type, number) of the two points that must differ.
     pub points: Option<[(usize, usize); 2]>,
+    pub feeder: Option<Feeder>,
+}
+
+/// How a connection names its feeder: by numbers of one's own, or by the texts
+/// agreed with another control centre. Columns, counted from 0.
+#[derive(Debug)]
+pub struct Feeder {
+    /// The other control centre, 0 if the feeder is one's own.
+    pub centre: usize,
+    pub line: usize,
+    pub direction: usize,
+    pub stop: usize,
+    pub texts: [usize; 3],
 }
 
 /// The most columns a table has.
-pub const WIDEST: usize = 8;
+pub const WIDEST: usize = 20;
 
 const fn num(name: &'static str, low: i64, high: i64, written: usize) -> Column {
     Column {
         name,
         kind: Kind::Number { low, high },
         written,
+        may_be_missing: false,
+    }
+}
+
+/// ">0, NULL": "up to the decimal size".
+const fn num_or_null(name: &'static str, size: u32) -> Column {
+    Column {
+        may_be_missing: true,
+        ..num(name, 1, 10i64.pow(size) - 1, size as usize)
     }
 }
 
@@ -54,6 +78,7 @@ const fn char(name: &'static str, size: usize) -> Column {
         name,
         kind: Kind::Text { size },
         written: size,
+        may_be_missing: false,
     }
 }
 
@@ -64,10 +89,11 @@ const LINK_ONR_TYP_NR: Column = num("ONR_TYP_NR", 1, 2, 2);
 const ORT_NR: Column = num("ORT_NR", 1, 999_999, 6);
 const UEB_ZIEL_TYP: Column = num("UEB_ZIEL_TYP", 1, 2, 2);
 const UEB_ZIEL: Column = num("UEB_ZIEL", 1, 999_999, 6);
+const EINAN_NR: Column = num("EINAN_NR", 1, 32_764, 5);
 
 const TO_VERSION: Reference = Reference { to: 485, by: &[0] };
 
-pub static ALL: [Table; 8] = [
+pub static ALL: [Table; 10] = [
     Table {
         number: 485,
         name: "MENGE_BASIS_VERSIONEN",
@@ -77,6 +103,7 @@ pub static ALL: [Table; 8] = [
         references: &[],
         markable: Some(2),
         points: None,
+        feeder: None,
     },
     Table {
         number: 993,
@@ -87,6 +114,7 @@ pub static ALL: [Table; 8] = [
         references: &[Reference { to: 485, by: &[1] }],
         markable: None,
         points: None,
+        feeder: None,
     },
     Table {
         number: 348,
@@ -108,6 +136,7 @@ pub static ALL: [Table; 8] = [
         ],
         markable: Some(3),
         points: None,
+        feeder: None,
     },
     Table {
         number: 290,
@@ -118,6 +147,7 @@ pub static ALL: [Table; 8] = [
         references: &[TO_VERSION],
         markable: Some(3),
         points: None,
+        feeder: None,
     },
     Table {
         number: 998,
@@ -133,6 +163,7 @@ pub static ALL: [Table; 8] = [
         references: &[TO_VERSION],
         markable: Some(4),
         points: None,
+        feeder: None,
     },
     Table {
         number: 332,
@@ -143,6 +174,7 @@ pub static ALL: [Table; 8] = [
         references: &[TO_VERSION],
         markable: None,
         points: None,
+        feeder: None,
     },
     Table {
         number: 225,
@@ -171,6 +203,7 @@ pub static ALL: [Table; 8] = [
         ],
         markable: None,
         points: Some([(2, 3), (4, 5)]),
+        feeder: None,
     },
     Table {
         number: 247,
@@ -196,10 +229,80 @@ pub static ALL: [Table; 8] = [
         ],
         markable: None,
         points: Some([(3, 4), (5, 6)]),
+        feeder: None,
+    },
+    Table {
+        number: 432,
+        name: "EINZELANSCHLUSS",
+        columns: &[
+            V,
+            EINAN_NR,
+            char("ANSCHLUSS_NAME", 40),
+            char("ANSCHLUSS_GRUPPE", 6),
+            num("LEITSTELLENKENNUNG", 0, 255, 3),
+            num("ZUB_LI_NR", 0, 999, 6),
+            num("ZUB_LI_RI_NR", 0, 2, 3),
+            num("ZUB_ORT_REF_ORT", 0, 999_999, 6),
+            num_or_null("ZUB_ONR_TYP_NR", 2),
+            num_or_null("ZUB_ORT_NR", 6),
+            num_or_null("VON_ORT_REF_ORT", 6),
+            char("LinienID", 6),
+            char("RichtungsID", 6),
+            char("ASBID", 10),
+            num("ABB_LI_NR", 1, 999, 6),
+            num("ABB_LI_RI_NR", 0, 2, 3),
+            num("ABB_ORT_REF_ORT", 1, 999_999, 6),
+            num_or_null("ABB_ONR_TYP_NR", 2),
+            num_or_null("ABB_ORT_NR", 6),
+            num_or_null("NACH_ORT_REF_ORT", 6),
+        ],
+        primary: &[0, 1],
+        second: &[],
+        references: &[TO_VERSION],
+        markable: Some(3),
+        points: None,
+        feeder: Some(Feeder {
+            centre: 4,
+            line: 5,
+            direction: 6,
+            stop: 7,
+            texts: [11, 12, 13],
+        }),
+    },
+    Table {
+        number: 232,
+        name: "REC_UMS",
+        columns: &[
+            V,
+            EINAN_NR,
+            TAGESART_NR,
+            num("UMS_BEGINN", 0, 129_599, 6),
+            num("UMS_ENDE", 0, 129_599, 6),
+            num("UMS_MIN", 0, 65_532, 5),
+            num("UMS_MAX", 0, 65_532, 5),
+            num("MAX_VERZ_MAN", 0, 65_532, 5),
+            num("MAX_VERZ_AUTO", 0, 65_532, 5),
+        ],
+        primary: &[0, 1, 2, 3, 4],
+        second: &[],
+        references: &[
+            TO_VERSION,
+            Reference {
+                to: 432,
+                by: &[0, 1],
+            },
+            Reference {
+                to: 290,
+                by: &[0, 2],
+            },
+        ],
+        markable: None,
+        points: None,
+        feeder: None,
     },
 ];
 
-/// Where the table stands among the eight.
+/// Where the table stands among the ten.
 pub fn position(number: u16) -> Option<usize> {
     ALL.iter().position(|t| t.number == number)
 }
@@ -279,11 +382,24 @@ mod tests {
             .iter()
             .filter_map(|t| t.markable.map(|f| (t.number, f)))
             .collect();
-        assert_eq!(fields, [(485, 2), (348, 3), (290, 3), (998, 4)]);
+        assert_eq!(fields, [(485, 2), (348, 3), (290, 3), (998, 4), (432, 3)]);
         for table in &ALL {
             if let Some(field) = table.markable {
                 assert_eq!(table.columns[field - 1].kind, Kind::Text { size: 40 });
             }
         }
+    }
+
+    #[test]
+    fn only_numbers_outside_keys_may_be_missing() {
+        for table in &ALL {
+            for (index, column) in table.columns.iter().enumerate() {
+                let keys = [table.primary, table.second].concat();
+                let is_number = matches!(column.kind, Kind::Number { low: 1, .. });
+                assert!(!column.may_be_missing || is_number && !keys.contains(&index));
+            }
+        }
+        let missing = |table: &Table| table.columns.iter().filter(|c| c.may_be_missing).count();
+        assert_eq!(ALL.each_ref().map(missing), [0, 0, 0, 0, 0, 0, 0, 0, 6, 0]);
     }
 }

@@ -66,11 +66,32 @@ fn suggestions_are_told_from_the_operator_s_texts() {
         .iter()
         .filter_map(|record| match record.value(3)? {
             Value::Text { owner, .. } => Some(owner),
-            Value::Number(_) => None,
+            Value::Number(_) | Value::Missing => None,
         })
         .collect();
     use Owner::{Operator, Suggestion};
     assert_eq!(owners, [Operator, Suggestion, Operator, Suggestion]);
+}
+
+#[test]
+fn connections_have_missing_numbers_and_a_suggestion() {
+    let file = example("connections.x10");
+    assert_eq!(answer(&file), (0, 0, 0));
+    let rows = list(&file).unwrap();
+    let tables: Vec<(u16, usize)> = rows.iter().map(|row| (row.table, row.records)).collect();
+    assert_eq!(tables, [(485, 1), (290, 3), (432, 5), (232, 6)]);
+    let connections = table(&file, 3).unwrap();
+    let Value::Text { bytes, owner, .. } = connections.records[1].value(3).unwrap() else {
+        panic!("not a text");
+    };
+    assert_eq!(
+        (&*bytes, owner),
+        (&b"S\xfcdring, 7 an Nachtbus"[..], Owner::Suggestion)
+    );
+    for field in [9, 10, 11, 18, 19, 20] {
+        let value = connections.records[1].value(field).unwrap();
+        assert!(matches!(value, Value::Missing), "{field}");
+    }
 }
 
 #[test]
@@ -79,6 +100,8 @@ fn sound_examples_are_written_and_stay_so() {
         "depot-week",
         "suggestions",
         "arranged",
+        "padded",
+        "connections",
         "451-1",
         "451-2",
         "451-3",

@@ -82,6 +82,8 @@ fn all_written_sizes() {
             .to_vec(),
         links(&[b"end;0"]),
         times(&[b"end;0"]),
+        connections(&[b"end;0"]),
+        transfers(&[b"end;0"]),
     ];
     let parts: Vec<&[u8]> = everything.iter().map(Vec::as_slice).collect();
     let form = written(&file(&parts));
@@ -89,13 +91,17 @@ fn all_written_sizes() {
         .split(|&b| b == b'\n')
         .filter(|line| line.starts_with(b"frm"))
         .collect();
-    let expected: [&[u8]; 6] = [
+    let expected: [&[u8]; 8] = [
         b"frm; num[8.0]; num[9.0]",
         b"frm; num[9.0]; num[8.0]; char[40]; num[3.0]",
         b"frm; num[9.0]; num[2.0]; char[6]; char[40]",
         b"frm; num[9.0]; num[2.0]; char[6]",
         b"frm; num[9.0]; num[3.0]; num[2.0]; num[6.0]; num[2.0]; num[6.0]; num[6.0]",
         b"frm; num[9.0]; num[3.0]; num[9.0]; num[2.0]; num[6.0]; num[2.0]; num[6.0]; num[6.0]",
+        b"frm; num[9.0]; num[5.0]; char[40]; char[6]; num[3.0]; num[6.0]; num[3.0]; num[6.0]; \
+          num[2.0]; num[6.0]; num[6.0]; char[6]; char[6]; char[10]; num[6.0]; num[3.0]; num[6.0]; \
+          num[2.0]; num[6.0]; num[6.0]",
+        b"frm; num[9.0]; num[5.0]; num[3.0]; num[6.0]; num[6.0]; num[5.0]; num[5.0]; num[5.0]; num[5.0]",
     ];
     assert_eq!(formats, expected);
 }
@@ -134,6 +140,7 @@ fn the_form_reads_as_the_file_does() {
 fn without_span(value: reader::Value<'_>) -> (Option<i64>, Vec<u8>, Option<reader::Owner>) {
     match value {
         reader::Value::Number(n) => (Some(n), Vec::new(), None),
+        reader::Value::Missing => (None, Vec::new(), None),
         reader::Value::Text { bytes, owner, .. } => (None, bytes.into_owned(), Some(owner)),
     }
 }

@@ -204,6 +204,7 @@ impl Dresser<'_> {
     fn datum(&mut self, datum: &Datum) -> Vec<u8> {
         match datum {
             Datum::Number(number) => self.number(*number),
+            Datum::Missing => Vec::new(),
             Datum::Text(text, Owner::Operator | Owner::Suggestion) => self.text(text),
         }
     }

@@ -69,6 +69,7 @@ impl Form {
         }
         let field = |datum: &Datum| match datum {
             Datum::Number(number) => plain(number),
+            Datum::Missing => Vec::new(),
             Datum::Text(bytes, _) => quoted(bytes),
         };
         self.line("rec", record.iter().map(field));

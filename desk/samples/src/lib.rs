@@ -5,6 +5,7 @@
 pub mod arrangement;
 pub mod damage;
 pub mod dress;
+mod feeder;
 pub mod form;
 pub mod large;
 pub mod meaning;
@@ -30,7 +31,7 @@ impl Sample {
     }
 }
 
-/// A small sound file over any of the eight tables, in any order and dress, in
+/// A small sound file over any of the ten tables, in any order and dress, in
 /// half of the files with columns in the sender's order.
 pub fn sound(random: &mut Random) -> Sample {
     let most = meaning::draw_size(random);

@@ -3,17 +3,19 @@
 use std::collections::BTreeSet;
 
 use vdv::tables::{
-    Column, Kind, Table, ALL, CALENDAR, DAY_TYPES, LINKS, POINT_TYPES, TIMES, TRIP_TYPES, VALIDITY,
-    VERSIONS,
+    Column, Kind, Table, ALL, CALENDAR, CONNECTIONS, DAY_TYPES, LINKS, POINT_TYPES, TIMES,
+    TRANSFERS, TRIP_TYPES, VALIDITY, VERSIONS,
 };
 use vdv::{Date, Owner, Time};
 
+use crate::feeder;
 use crate::model::{Content, Datum, Heading, Model, Record};
 use crate::random::Random;
 use crate::texts;
 
-/// What a record refers to is drawn before it.
-pub const PARENTS_FIRST: [&Table; 8] = [
+/// What a record refers to is drawn before it: document 01's tables, then the
+/// connections.
+pub const PARENTS_FIRST: [&Table; 10] = [
     &VERSIONS,
     &VALIDITY,
     &DAY_TYPES,
@@ -22,6 +24,8 @@ pub const PARENTS_FIRST: [&Table; 8] = [
     &TRIP_TYPES,
     &LINKS,
     &TIMES,
+    &CONNECTIONS,
+    &TRANSFERS,
 ];
 
 /// The most records a table has: few in most files.
@@ -57,7 +61,7 @@ pub fn draw(random: &mut Random, most: usize) -> Model {
     }
 }
 
-/// Numbers of the tables the file has: mostly all eight, else any of them.
+/// Numbers of the tables the file has: mostly all ten, else any of them.
 fn draw_tables(random: &mut Random) -> Vec<u32> {
     let share = random.pick(&[100, 100, 100, 85, 85, 50, 10]);
     let all = ALL.into_iter().map(|table| table.number);
@@ -136,8 +140,8 @@ impl Records<'_> {
     /// Tables that many records refer to are seldom left empty.
     fn draw_count(&mut self, table: &Table) -> usize {
         let count = self.random.below(self.most + 1);
-        let is_parent = [&VERSIONS, &DAY_TYPES, &POINT_TYPES, &LINKS].contains(&table);
-        if is_parent && self.random.percent(85) {
+        let parents = [&VERSIONS, &DAY_TYPES, &POINT_TYPES, &LINKS, &CONNECTIONS];
+        if parents.contains(&table) && self.random.percent(85) {
             self.most - count / 2
         } else {
             count
@@ -163,6 +167,7 @@ impl Records<'_> {
                 let shared = [0, 1, 3, 4, 5, 6].into_iter();
                 shared.zip(link.iter().map(Datum::number)).collect()
             }
+            232 => self.draw_transfer()?,
             _ => vec![(0, self.parent(&VERSIONS)?[0].number())],
         };
         Some(self.draw_values(table, &fixed))
@@ -217,12 +222,30 @@ impl Records<'_> {
 
     /// Versions and point types that a link may name.
     fn link_types(&self) -> Vec<(u64, u64)> {
-        let types = self.tables.iter().filter(|c| *c.table == POINT_TYPES);
+        let mut types = self.keys_of(&POINT_TYPES);
+        types.retain(|(_, point_type)| (1..=2).contains(point_type));
         types
+    }
+
+    /// Versions and numbers of a table drawn before.
+    fn keys_of(&self, table: &Table) -> Vec<(u64, u64)> {
+        let drawn = self.tables.iter().filter(|c| c.table == table);
+        drawn
             .flat_map(|content| &content.records)
             .map(|record| (record[0].number(), record[1].number()))
-            .filter(|(_, point_type)| (1..=2).contains(point_type))
             .collect()
+    }
+
+    /// Version, connection and day type of a transfer.
+    fn draw_transfer(&mut self) -> Option<Vec<(usize, u64)>> {
+        let connections = self.keys_of(&CONNECTIONS);
+        let mut days = self.keys_of(&DAY_TYPES);
+        days.retain(|(version, _)| connections.iter().any(|(v, _)| v == version));
+        let (version, day_type) = *self.random.choose(&days)?;
+        let of_version = connections.iter().filter(|(v, _)| *v == version);
+        let of_version: Vec<_> = of_version.collect();
+        let (_, connection) = *self.random.pick(&of_version);
+        Some(vec![(0, version), (1, connection), (2, day_type)])
     }
 
     fn draw_point(&mut self) -> u64 {
@@ -237,6 +260,9 @@ impl Records<'_> {
         for &(column, number) in fixed {
             record[column] = Datum::Number(number);
         }
+        if *table == CONNECTIONS {
+            feeder::draw(self.random, self.latin, &mut record);
+        }
         if let Some(field) = table.markable {
             self.draw_owner(&mut record[field - 1]);
         }
@@ -245,6 +271,7 @@ impl Records<'_> {
 
     fn draw_value(&mut self, column: &Column) -> Datum {
         match column.kind {
+            _ if column.may_be_missing && self.random.percent(40) => Datum::Missing,
             Kind::Number { low, high } => Datum::Number(match self.random.below(5) {
                 0 => low,
                 1 => high,
@@ -268,11 +295,12 @@ impl Records<'_> {
     }
 }
 
-/// A key's values; texts by their own bytes, whoever's they are.
+/// A key's values; texts by their own bytes, whoever's they are. No number of
+/// a key is missing.
 pub fn key(record: &Record, fields: &[usize]) -> Vec<(u64, Vec<u8>)> {
     let value = |field: &usize| match &record[field - 1] {
-        Datum::Number(number) => (*number, Vec::new()),
         Datum::Text(text, _) => (0, text.clone()),
+        number => (number.number(), Vec::new()),
     };
     fields.iter().map(value).collect()
 }

@@ -34,16 +34,17 @@ pub type Record = Vec<Datum>;
 #[derive(Clone, Debug, PartialEq, Eq)]
 pub enum Datum {
     Number(u64),
+    Missing,
     /// A text's own bytes, and whose it is.
     Text(Vec<u8>, Owner),
 }
 
 impl Datum {
-    /// The number; a text has none.
+    /// The number; 0 if it is missing, or a text.
     pub fn number(&self) -> u64 {
         match self {
             Datum::Number(number) => *number,
-            Datum::Text(..) => 0,
+            Datum::Missing | Datum::Text(..) => 0,
         }
     }
 

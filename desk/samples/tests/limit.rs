@@ -48,6 +48,16 @@ fn the_limit_and_one_more() {
         of_table(225)
     );
 
+    let connected = file(Shape::Connections(Order::Rising), LIMIT, 1);
+    let rows = list(&connected).unwrap();
+    let of_table = |number| rows.iter().find(|row| row.table == number).unwrap().records;
+    assert_eq!(of_table(432) * 4, of_table(232));
+    assert!(
+        (50_000..60_000).contains(&of_table(432)),
+        "{}",
+        of_table(432)
+    );
+
     let over = file(Shape::Calendar(Order::Shuffled), LIMIT + 1, 1);
     assert_eq!(check(&over), Answer::placeless(1));
 }

@@ -68,6 +68,7 @@ fn header_values_are_the_meant_ones() {
 fn datum(value: Value<'_>) -> Datum {
     match value {
         Value::Number(number) => Datum::Number(number.try_into().unwrap()),
+        Value::Missing => Datum::Missing,
         Value::Text { bytes, owner, .. } => Datum::Text(
             bytes.into_owned(),
             match owner {

@@ -46,7 +46,7 @@ fn every_dress_is_drawn() {
     assert!(share(|_, file| file.last() != Some(&b'\n')) >= 50);
     assert!(share(|_, file| holds(file, b"\r\n") && file.windows(2).any(lone_feed)) >= 50);
     assert!(share(|sample, _| sample.model.tables.is_empty()) >= 5);
-    assert!(share(|sample, _| sample.model.tables.len() == 8) >= 200);
+    assert!(share(|sample, _| sample.model.tables.len() == 10) >= 200);
     assert!(share(|sample, _| !sample.model.fillable().is_empty()) >= 200);
 }
 
@@ -129,7 +129,8 @@ fn every_number_of_a_file_is_reached() {
         *met.entry(u32::from(reader::check(&file).number))
             .or_insert(0) += 1;
     }
-    for number in (number::SOUND..=number::REFERENCE).filter(|n| *n != number::FILE_TOO_LONG) {
+    let of_files = (number::SOUND..=number::REFERENCE).chain([number::COMBINATION]);
+    for number in of_files.filter(|n| *n != number::FILE_TOO_LONG) {
         let count = met.get(&number).copied().unwrap_or(0);
         assert!(count >= 5, "{number}: {count} of {met:?}");
     }
@@ -147,6 +148,11 @@ fn damage_does_what_its_name_says() {
         ("value out of range", number::RANGE),
         ("text too long", number::RANGE),
         ("table twice", number::TABLE_TWICE),
+        ("number left out", number::NOT_A_NUMBER),
+        ("0 for a missing number", number::RANGE),
+        ("combination wrong", number::COMBINATION),
+        ("combination and more wrong", number::COMBINATION),
+        ("transfer astray", number::REFERENCE),
         ("record of too few fields", number::FIELD_COUNT),
         ("record of too many fields", number::FIELD_COUNT),
         ("end count wrong", number::END_COUNT),

@@ -4,12 +4,13 @@
  * null, also where the count is 0. What is lent to be written to overlaps nothing
  * else that is lent. There are no other conditions, and no call keeps anything
  * of what it is lent. Sections, records and fields count from 1. A field is a
- * column of document 01's table, by its number there, wherever the file's `atr`
- * has it; the bytes told of it lie where they lie in the file.
+ * column of VDV 452's table, by its number there, wherever the file's `atr` has
+ * it; the bytes told of it lie where they lie in the file. The tables are 485,
+ * 993, 348, 290, 998, 332, 225, 247, 432 and 232.
  *
- * Each answer begins with document 01's number, VDV_SOUND where the call was not
- * refused, and the place: section, 0 for header and trailer, and line. The
- * values that follow are 0 where the call was refused.
+ * Each answer begins with its number, VDV_SOUND where the call was not refused,
+ * and the place: section, 0 for header and trailer, and line. The values that
+ * follow are 0 where the call was refused.
  *
  * The library is built for Linux: on x86-64, and on an Arm machine for itself. */
 #ifndef VDV_H
@@ -23,7 +24,7 @@
 extern "C" {
 #endif
 
-/* Document 01's numbers. */
+/* The numbers of documents 01, 0 to 24, and 02. */
 enum vdv_number {
     VDV_SOUND = 0, /* sound */
     VDV_FILE_TOO_LONG = 1, /* file over 16,777,216 bytes */
@@ -50,6 +51,7 @@ enum vdv_number {
     VDV_NOT_EMPTY = 22, /* field to fill is not empty */
     VDV_MAY_NOT_FILL = 23, /* field may not be filled */
     VDV_NO_SUCH = 24, /* no such section, record or field */
+    VDV_COMBINATION = 25, /* wrong combination */
 };
 
 /* `number` is one of enum vdv_number, as in every answer. */
@@ -105,10 +107,12 @@ typedef struct vdv_row_answer {
     vdv_row row;
 } vdv_row_answer;
 
-enum vdv_kind { VDV_NUMBER = 0, VDV_OPERATOR = 1, VDV_SUGGESTION = 2 };
+enum vdv_kind { VDV_NUMBER = 0, VDV_OPERATOR = 1, VDV_SUGGESTION = 2, VDV_MISSING = 3 };
 
 /* `kind` is one of enum vdv_kind: a number has its amount, a text its bytes
- * between the quotes, doubled quotes still doubled, up to the spaces at its end. */
+ * between the quotes, doubled quotes still doubled, up to the spaces at its end.
+ * A missing number, an empty field of a column that allows it, has neither: what
+ * follows its kind is 0, and that is no amount. */
 typedef struct vdv_value_answer {
     uint32_t number;
     size_t section;
@@ -155,20 +159,21 @@ vdv_refusal vdv_list(const uint8_t *file, size_t length, vdv_row *rows, size_t r
 vdv_value_answer vdv_value(const uint8_t *file, size_t length, size_t section, size_t record, size_t field);
 
 /* A text's own bytes, doubled quotes undone and the spaces at its end off, and
- * whose it is: refused as its value is, then 11 for a number, then 21. A refused
- * call leaves what is lent as it was; so it is for every call below. */
+ * whose it is: refused as its value is, then 11 for a number, a missing one too,
+ * then 21. A refused call leaves what is lent as it was; so it is for every call
+ * below. */
 vdv_text_answer vdv_text(const uint8_t *file, size_t length, size_t section, size_t record, size_t field,
                          uint8_t *out, size_t room);
 
 /* Every value of a section into lent cells, three a value, record after record,
- * the values of each in the order of document 01's table whatever the file's: its
- * kind as in enum vdv_kind, then a number's amount and 0, or a text's first place
- * and the place after it. Refused as its values are, then 21. The length counts
- * cells. */
+ * the values of each in the order of VDV 452's table whatever the file's: its
+ * kind as in enum vdv_kind, then a number's amount and 0, a text's first place and
+ * the place after it, or, for a missing number, 0 and 0. Refused as its values
+ * are, then 21. The length counts cells. */
 vdv_length_answer vdv_table(const uint8_t *file, size_t length, size_t section, uint64_t *cells, size_t room);
 
 /* The written form: the file's verdict, then 21. Its columns stand in the order of
- * document 01's tables, and its marks count so. */
+ * VDV 452's tables, and its marks count so; a missing number is an empty field. */
 vdv_length_answer vdv_write(const uint8_t *file, size_t length, uint8_t *out, size_t room);
 
 /* The written form with one more suggestion: the file's verdict, 24, 23, 22, for

@@ -2,7 +2,7 @@
 
 use crate::{list, number, table, tables, Refusal, Row, CELLS, LIMIT};
 
-/// Rows lent at first; a sound file has eight at most.
+/// Rows lent at first; a sound file has ten at most.
 const FIRST_ROWS: usize = 16;
 
 /// A file's rows, and the file's answer.

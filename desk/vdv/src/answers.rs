@@ -10,7 +10,7 @@ use crate::number;
 pub const LIMIT: usize = 16_777_216;
 
 /// Cells a value takes: its kind, its number or first place, 0 or the place
-/// after it.
+/// after it; of a missing number the last two are 0.
 pub const CELLS: usize = 3;
 
 /// A number and its place: section from 1, 0 for header and trailer, and line.
@@ -102,8 +102,8 @@ impl Row {
 pub struct At {
     pub section: usize,
     pub record: usize,
-    /// The column's number in document 01's table, wherever the file's `atr`
-    /// has it, and whatever number a mark in the file gives it.
+    /// The column's number in VDV 452's table, wherever the file's `atr` has
+    /// it, and whatever number a mark in the file gives it.
     pub field: usize,
 }
 
@@ -167,9 +167,13 @@ pub enum Owner {
     Suggestion,
 }
 
+/// "a record's value is from now on a number, a missing number or a text with
+/// its owner".
 #[derive(Clone, Copy, Debug, PartialEq, Eq)]
 pub enum Value {
     Number(u64),
+    /// An empty field of a column whose number may be missing. It is not 0.
+    Missing,
     /// What stands between the quotes, doubled quotes still doubled, up to
     /// the spaces at its end.
     Text {
@@ -179,10 +183,12 @@ pub enum Value {
 }
 
 impl Value {
-    /// Kind 0 is a number, 1 the operator's text, 2 a suggestion.
+    /// Kind 0 is a number, 1 the operator's text, 2 a suggestion, 3 a missing
+    /// number.
     pub fn cells(self) -> [u64; CELLS] {
         match self {
             Value::Number(number) => [0, number, 0],
+            Value::Missing => [3, 0, 0],
             Value::Text { span, owner } => {
                 let kind = match owner {
                     Owner::Operator => 1,
@@ -202,6 +208,11 @@ pub struct Copied {
 }
 
 /// The value that three cells stand for.
+///
+/// ```
+/// assert_eq!(vdv::value_in(&[0, 0, 0]), Some(vdv::Value::Number(0)));
+/// assert_eq!(vdv::value_in(&[3, 0, 0]), Some(vdv::Value::Missing));
+/// ```
 pub fn value_in(cells: &[u64]) -> Option<Value> {
     let &[kind, from, to] = cells else {
         return None;
@@ -216,6 +227,7 @@ pub fn value_in(cells: &[u64]) -> Option<Value> {
         0 => return Some(Value::Number(from)),
         1 => Owner::Operator,
         2 => Owner::Suggestion,
+        3 => return Some(Value::Missing),
         _ => return None,
     };
     Some(Value::Text {
@@ -273,6 +285,7 @@ mod tests {
         let span = Span { from: 7, to: 9 };
         for value in [
             Value::Number(81_890),
+            Value::Missing,
             Value::Text {
                 span,
                 owner: Owner::Operator,
@@ -284,7 +297,7 @@ mod tests {
         ] {
             assert_eq!(value_in(&value.cells()), Some(value));
         }
-        assert_eq!(value_in(&[3, 0, 0]), None);
+        assert_eq!(value_in(&[4, 0, 0]), None);
         assert_eq!(value_in(&[0, 0]), None);
     }
 

@@ -1,6 +1,7 @@
 //! The proved library for VDV 451 planning files, for Rust programs. What each
-//! function answers is document 01's, and proved: see `docs/PROMISES.md` of
-//! the repository. Every call takes any bytes, and none keeps anything of them.
+//! function answers is said by documents 01 and 02, and proved: see
+//! `docs/PROMISES.md` of the repository. Every call takes any bytes, and none
+//! keeps anything of them.
 //!
 //! ```
 //! let file = b"mod; DD.MM.YYYY; HH:MM:SS; free\n\
@@ -112,8 +113,9 @@ pub fn list(file: &[u8], rows: &mut [Row]) -> Result<Refusal, Refusal> {
 
 /// One value: refused by the first of 1, 2, 24 for the section, the section's
 /// verdict, 24 for the record or field. The field is named by its number in
-/// document 01's table, wherever the file has it; a text's span lies where the
-/// text lies in the file.
+/// VDV 452's table, wherever the file has it; a text's span lies where the text
+/// lies in the file. An empty field is a missing number where the column allows
+/// it.
 ///
 /// ```
 /// let file = b"mod; DD.MM.YYYY; HH:MM:SS; free\n\
@@ -137,8 +139,8 @@ pub fn value(file: &[u8], at: At) -> Result<Value, Refusal> {
 
 /// A text's own bytes into lent room, doubled quotes undone and the spaces at
 /// its end off, and whose it is: refused as its value is, then 11 for a number,
-/// then 21. A refused call leaves lent room as it was; so it is for every call
-/// below.
+/// a missing one too, then 21. A refused call leaves lent room as it was; so it
+/// is for every call below.
 ///
 /// ```
 /// let file = b"mod; DD.MM.YYYY; HH:MM:SS; free\n\
@@ -178,7 +180,7 @@ pub fn text(file: &[u8], at: At, out: &mut [u8]) -> Result<Copied, Refusal> {
 }
 
 /// Every value of a section into lent cells, [`CELLS`] a value, record after
-/// record, the values of each in the order of document 01's table whatever the
+/// record, the values of each in the order of VDV 452's table whatever the
 /// file's; [`value_in`] reads them back. Refused as its values are, then 21.
 /// Answers how many cells are written.
 ///
@@ -216,7 +218,8 @@ pub fn table(file: &[u8], section: usize, cells: &mut [u64]) -> Result<usize, Re
 }
 
 /// The written form into lent room: the file's verdict, then 21. Its columns
-/// stand in the order of document 01's tables, and its marks count so.
+/// stand in the order of VDV 452's tables, and its marks count so; a missing
+/// number is an empty field.
 ///
 /// ```
 /// let file = b"mod; DD.MM.YYYY; HH:MM:SS; free\n\
@@ -339,11 +342,12 @@ fn header_of(answer: &HeaderAnswer) -> Header {
     }
 }
 
-/// Kind 0 is a number, 1 the operator's text, 2 a suggestion; there is no
-/// other.
+/// Kind 0 is a number, 1 the operator's text, 2 a suggestion, 3 a missing
+/// number; there is no other.
 fn value_of(answer: &ValueAnswer) -> Value {
     match answer.kind {
         0 => Value::Number(answer.amount),
+        3 => Value::Missing,
         kind => Value::Text {
             span: Span {
                 from: answer.from,

@@ -1,4 +1,4 @@
-//! Document 01's numbers by the names the code uses, and in words.
+//! The numbers of documents 01 and 02 by the names the code uses, and in words.
 //! `include/vdv.h` has the same.
 
 macro_rules! numbers {
@@ -12,7 +12,7 @@ macro_rules! numbers {
         pub fn in_words(number: u32) -> &'static str {
             match number {
                 $($name => $words,)*
-                _ => "a number document 01 does not know",
+                _ => "a number that is not given back",
             }
         }
 
@@ -47,10 +47,11 @@ numbers! {
     22 NOT_EMPTY "field to fill is not empty",
     23 MAY_NOT_FILL "field may not be filled",
     24 NO_SUCH "no such section, record or field",
+    25 COMBINATION "wrong combination",
 }
 
 /// The highest number given back.
-pub const LAST: u32 = NO_SUCH;
+pub const LAST: u32 = COMBINATION;
 
 #[cfg(test)]
 mod tests {

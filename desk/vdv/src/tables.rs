@@ -1,6 +1,6 @@
-//! The eight tables of document 01, as the desk's tools know them. A column is
-//! named by its number here, from 1, as calls name it; in a file it stands where
-//! the section's `atr` has it.
+//! The ten tables of documents 01 and 02, as the desk's tools know them. A column
+//! is named by its number here, from 1, as calls name it; in a file it stands
+//! where the section's `atr` has it.
 
 /// Range or size of a column's values.
 #[derive(Clone, Copy, Debug, PartialEq, Eq)]
@@ -15,6 +15,8 @@ pub struct Column {
     pub kind: Kind,
     /// The size in a written `frm`.
     pub written: usize,
+    /// "Where a column there allows NULL, an empty field is a missing number".
+    pub may_be_missing: bool,
 }
 
 #[derive(Debug, PartialEq, Eq)]
@@ -50,6 +52,15 @@ const fn num(name: &'static str, low: u64, high: u64, written: usize) -> Column 
         name,
         kind,
         written,
+        may_be_missing: false,
+    }
+}
+
+/// A number from 1, or none.
+const fn num_or_null(name: &'static str, high: u64, written: usize) -> Column {
+    Column {
+        may_be_missing: true,
+        ..num(name, 1, high, written)
     }
 }
 
@@ -60,6 +71,7 @@ const fn text(name: &'static str, size: usize) -> Column {
         name,
         kind,
         written,
+        may_be_missing: false,
     }
 }
 
@@ -172,7 +184,62 @@ pub static TIMES: Table = Table {
     references: &[to(485, &[1]), to(225, &[1, 2, 4, 5, 6, 7])],
 };
 
-pub static ALL: [&Table; 8] = [
+/// What a connection is called by, in both of its tables.
+const EINAN_NR: Column = num("EINAN_NR", 1, 32_764, 5);
+
+/// The feeder's columns begin with ZUB, those of the line that it feeds with ABB.
+pub static CONNECTIONS: Table = Table {
+    number: 432,
+    name: "EINZELANSCHLUSS",
+    columns: &[
+        V,
+        EINAN_NR,
+        text("ANSCHLUSS_NAME", 40),
+        text("ANSCHLUSS_GRUPPE", 6),
+        num("LEITSTELLENKENNUNG", 0, 255, 3),
+        num("ZUB_LI_NR", 0, 999, 6),
+        num("ZUB_LI_RI_NR", 0, 2, 3),
+        num("ZUB_ORT_REF_ORT", 0, 999_999, 6),
+        num_or_null("ZUB_ONR_TYP_NR", 99, 2),
+        num_or_null("ZUB_ORT_NR", 999_999, 6),
+        num_or_null("VON_ORT_REF_ORT", 999_999, 6),
+        text("LinienID", 6),
+        text("RichtungsID", 6),
+        text("ASBID", 10),
+        num("ABB_LI_NR", 1, 999, 6),
+        num("ABB_LI_RI_NR", 0, 2, 3),
+        num("ABB_ORT_REF_ORT", 1, 999_999, 6),
+        num_or_null("ABB_ONR_TYP_NR", 99, 2),
+        num_or_null("ABB_ORT_NR", 999_999, 6),
+        num_or_null("NACH_ORT_REF_ORT", 999_999, 6),
+    ],
+    primary: &[1, 2],
+    second: &[],
+    markable: Some(3),
+    references: &[to(485, &[1])],
+};
+
+pub static TRANSFERS: Table = Table {
+    number: 232,
+    name: "REC_UMS",
+    columns: &[
+        V,
+        EINAN_NR,
+        num("TAGESART_NR", 1, 999, 3),
+        num("UMS_BEGINN", 0, 129_599, 6),
+        num("UMS_ENDE", 0, 129_599, 6),
+        num("UMS_MIN", 0, 65_532, 5),
+        num("UMS_MAX", 0, 65_532, 5),
+        num("MAX_VERZ_MAN", 0, 65_532, 5),
+        num("MAX_VERZ_AUTO", 0, 65_532, 5),
+    ],
+    primary: &[1, 2, 3, 4, 5],
+    second: &[],
+    markable: None,
+    references: &[to(485, &[1]), to(432, &[1, 2]), to(290, &[1, 3])],
+};
+
+pub static ALL: [&Table; 10] = [
     &VERSIONS,
     &VALIDITY,
     &CALENDAR,
@@ -181,6 +248,8 @@ pub static ALL: [&Table; 8] = [
     &TRIP_TYPES,
     &LINKS,
     &TIMES,
+    &CONNECTIONS,
+    &TRANSFERS,
 ];
 
 pub fn numbered(number: u32) -> Option<&'static Table> {
@@ -242,5 +311,23 @@ mod tests {
                 assert_eq!(table.columns[field - 1].kind, Kind::Text { size: 40 });
             }
         }
+    }
+
+    /// What no key and no reference goes by, and 0 is never in its stead.
+    #[test]
+    fn numbers_that_may_be_missing() {
+        for table in ALL {
+            for (field, column) in (1..).zip(table.columns) {
+                if !column.may_be_missing {
+                    continue;
+                }
+                assert!(matches!(column.kind, Kind::Number { low: 1, .. }));
+                let mut references = table.references.iter();
+                assert!(!table.primary.contains(&field) && !table.second.contains(&field));
+                assert!(references.all(|reference| !reference.fields.contains(&field)));
+            }
+        }
+        let columns = ALL.iter().flat_map(|table| table.columns);
+        assert_eq!(columns.filter(|column| column.may_be_missing).count(), 6);
     }
 }

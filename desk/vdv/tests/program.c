@@ -14,7 +14,8 @@ _Static_assert(sizeof(vdv_value_answer) == 56 && offsetof(vdv_value_answer, amou
 _Static_assert(sizeof(vdv_length_answer) == 32 && offsetof(vdv_length_answer, length) == 24, "length");
 _Static_assert(sizeof(vdv_text_answer) == 40 && offsetof(vdv_text_answer, owner) == 32, "text");
 
-_Static_assert(VDV_SOUND == 0 && VDV_NO_SUCH == 24, "numbers");
+_Static_assert(VDV_SOUND == 0 && VDV_NO_SUCH == 24 && VDV_COMBINATION == 25, "numbers");
+_Static_assert(VDV_NUMBER == 0 && VDV_OPERATOR == 1 && VDV_SUGGESTION == 2 && VDV_MISSING == 3, "kinds");
 
 static uint8_t file[65536];
 static uint8_t out[65536];
@@ -39,6 +40,22 @@ static void say_table(size_t length)
     vdv_length_answer table = vdv_table(file, length, 1, cells, 7);
     printf("table;%u;%zu", (unsigned)table.number, table.length);
     for (size_t cell = 0; cell < 7; cell++)
+        printf(";%llu", (unsigned long long)cells[cell]);
+    printf("\n");
+}
+
+/* A connection's last column, in section 2, where the number may be missing: its
+ * value, what asking for it as a text gives, and its cells. */
+static void say_last(size_t length)
+{
+    enum { COLUMNS = 20, CELLS = 3 * COLUMNS };
+    vdv_value_answer value = vdv_value(file, length, 2, 1, COLUMNS);
+    vdv_text_answer text = vdv_text(file, length, 2, 1, COLUMNS, out, sizeof out);
+    uint64_t cells[CELLS] = {0};
+    vdv_length_answer table = vdv_table(file, length, 2, cells, CELLS);
+    printf("last;%u;%u;%llu;%zu;%zu;%u;%u", (unsigned)value.number, (unsigned)value.kind,
+           (unsigned long long)value.amount, value.from, value.to, (unsigned)text.number, (unsigned)table.number);
+    for (size_t cell = CELLS - 3; cell < CELLS; cell++)
         printf(";%llu", (unsigned long long)cells[cell]);
     printf("\n");
 }
@@ -85,6 +102,7 @@ int main(void)
     say_value(length, 3);
     say_text(length);
     say_table(length);
+    say_last(length);
     say_form("write", vdv_write(file, length, out, sizeof out));
     vdv_length_answer stripped = vdv_strip(file, length, out, sizeof out);
     say_form("strip", stripped);

@@ -1,6 +1,6 @@
 //! Wrong readings of files whose columns are arranged. Most take a file for
 //! another one, which a right implementation then reads: such a file has the
-//! same lines of the same length.
+//! same lines, and where more than its answer is asked for, of the same length.
 
 use std::collections::BTreeSet;
 
@@ -9,17 +9,27 @@ use samples::Arrangement;
 use vdv::tables::{named, Table};
 use vdv::{number, At, Refusal};
 
-/// A line from `atr` on of a section whose columns are arranged.
-struct Place<'a> {
-    table: &'static Table,
-    arrangement: &'a Arrangement,
-    section: usize,
-    line: usize,
+/// A line of a section from its `atr` on, which names an arrangement.
+pub struct Place<'a> {
+    pub table: &'static Table,
+    pub arrangement: &'a Arrangement,
+    pub section: usize,
+    pub line: usize,
 }
 
 /// Every line of the file with its end, first changed if it stands in an
 /// arranged section.
 fn walk(file: &[u8], mut see: impl FnMut(&mut Line, Place<'_>)) -> Vec<u8> {
+    walk_sections(file, |line, place| {
+        if !place.arrangement.is_plain() {
+            see(line, place);
+        }
+    })
+}
+
+/// Every line of the file with its end, first changed if its section says which
+/// column stands where.
+pub fn walk_sections(file: &[u8], mut see: impl FnMut(&mut Line, Place<'_>)) -> Vec<u8> {
     let mut out = Vec::with_capacity(file.len());
     let (mut table, mut arrangement) = (None, None);
     let (mut section, mut number) = (0, 0);
@@ -36,8 +46,7 @@ fn walk(file: &[u8], mut see: impl FnMut(&mut Line, Place<'_>)) -> Vec<u8> {
             }
             b"eof" => (table, arrangement) = (None, None),
             b"atr" if arrangement.is_none() => {
-                let found = table.and_then(|table| Arrangement::named(&line.fields(), table));
-                arrangement = found.filter(|arrangement| !arrangement.is_plain());
+                arrangement = table.and_then(|table| Arrangement::named(&line.fields(), table));
             }
             _ => {}
         }
@@ -68,7 +77,7 @@ fn arrangement_of(file: &[u8], section: usize) -> Option<Arrangement> {
 }
 
 /// The line with other fields behind the same command, spaces and all.
-fn put_fields(line: &mut Line, fields: &[Vec<u8>]) {
+pub fn put_fields(line: &mut Line, fields: &[Vec<u8>]) {
     let stop = line.content.iter().position(|byte| *byte == b';');
     line.content.truncate(stop.unwrap_or(0));
     for field in fields {
@@ -77,17 +86,33 @@ fn put_fields(line: &mut Line, fields: &[Vec<u8>]) {
     }
 }
 
-/// A mark's number, if it has one digit, changed.
+/// A mark's number changed.
 fn renumber(line: &mut Line, change: impl FnOnce(usize) -> Option<usize>) {
     const WORD: &[u8] = b"\"SUGGESTED ";
     let mut words = line.content.windows(WORD.len());
     let Some(at) = words.position(|word| word == WORD) else {
         return;
     };
-    if let [digit @ b'1'..=b'9', b'"', ..] = &mut line.content[at + WORD.len()..] {
-        if let Some(number) = change(usize::from(*digit - b'0')) {
-            *digit = b'0' + number as u8;
+    let from = at + WORD.len();
+    let digits = line.content[from..]
+        .iter()
+        .take_while(|b| b.is_ascii_digit());
+    let to = from + digits.count();
+    let number = std::str::from_utf8(&line.content[from..to]).map(str::parse);
+    if let (Ok(Ok(number)), Some(b'"')) = (number, line.content.get(to)) {
+        if let Some(number) = change(number) {
+            let digits = number.to_string().into_bytes();
+            line.content.splice(from..to, digits);
         }
+    }
+}
+
+/// A mark's number changed, if the line keeps its length.
+fn renumber_in_place(line: &mut Line, change: impl FnOnce(usize) -> Option<usize>) {
+    let mut changed = line.clone();
+    renumber(&mut changed, change);
+    if changed.content.len() == line.content.len() {
+        *line = changed;
     }
 }
 
@@ -100,7 +125,7 @@ fn field_at(arrangement: &Arrangement, place: usize) -> Option<usize> {
 pub fn with_marks_by_column(file: &[u8]) -> Vec<u8> {
     walk(file, |line, place| {
         if line.command() == b"com" {
-            renumber(line, |number| place.arrangement.place_of(number));
+            renumber_in_place(line, |number| place.arrangement.place_of(number));
         }
     })
 }
@@ -156,7 +181,7 @@ fn walk_form(form: &mut [u8], file: &[u8], change: impl Fn(&mut Line, &Arrangeme
 pub fn rearrange(form: &mut [u8], file: &[u8]) {
     walk_form(form, file, |line, arrangement| match line.command() {
         b"atr" | b"frm" | b"rec" => put_fields(line, &arrangement.arrange(&line.fields())),
-        b"com" => renumber(line, |number| arrangement.place_of(number)),
+        b"com" => renumber_in_place(line, |number| arrangement.place_of(number)),
         _ => {}
     });
 }
@@ -165,14 +190,14 @@ pub fn rearrange(form: &mut [u8], file: &[u8]) {
 pub fn number_as_before(form: &mut [u8], file: &[u8]) {
     walk_form(form, file, |line, arrangement| {
         if line.command() == b"com" {
-            renumber(line, |number| arrangement.place_of(number));
+            renumber_in_place(line, |number| arrangement.place_of(number));
         }
     });
 }
 
 /// The file's answer with this rule judged in arranged sections by what
 /// `breaks` says of a record's fields from the left.
-fn judge_by_place(
+pub fn judge_by_place(
     file: &[u8],
     right: Refusal,
     rule: u32,
@@ -194,7 +219,7 @@ fn judge_by_place(
 }
 
 /// A field without spaces and leading zeros.
-fn value_of(field: &[u8]) -> Vec<u8> {
+pub fn value_of(field: &[u8]) -> Vec<u8> {
     let field = field.trim_ascii();
     let digits = field.iter().position(|byte| *byte != b'0');
     field[digits.unwrap_or(0)..].to_vec()

@@ -20,7 +20,7 @@ use crate::trouble::{Outcome, Trouble};
 struct Sentence {
     key: Vec<u64>,
     record: usize,
-    /// The column's number in document 01's table.
+    /// The column's number in VDV 452's table.
     field: usize,
     /// The record's line in its section.
     line: usize,
@@ -163,7 +163,7 @@ fn sentences(file: &[u8], section: &Section, lines: &mut LineCount<'_>) -> Vec<S
 fn span_of(value: &Value) -> Span {
     match value {
         Value::Text { span, .. } => *span,
-        Value::Number(_) => Span::default(),
+        Value::Number(_) | Value::Missing => Span::default(),
     }
 }
 
@@ -173,7 +173,8 @@ fn markable(section: &Section, record: &[Value]) -> Option<Span> {
     record.get(field - 1).map(span_of)
 }
 
-/// A primary key holds numbers only, in each of the eight tables.
+/// A primary key holds numbers only, in each of the ten tables, and none of
+/// them may be missing.
 fn key(table: &Table, record: &[Value]) -> Vec<u64> {
     let number = |field: &usize| match record.get(field - 1) {
         Some(Value::Number(number)) => Some(*number),

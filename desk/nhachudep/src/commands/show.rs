@@ -141,7 +141,7 @@ fn print_section(work: &mut Work<'_, '_>, file: &[u8], section: &Section) -> Res
             .print(&format_args!("{title}: refused, {words}\n"));
     };
     work.outlets.print(&format_args!("{title}\n"))?;
-    sheet(file, section, table).print(work.outlets)
+    sheet(file, section, table).print_in_blocks(work.outlets)
 }
 
 fn sheet(file: &[u8], section: &Section, table: &Table) -> Sheet {
@@ -178,6 +178,7 @@ fn cell(file: &[u8], value: &Value, sign: &str) -> Cell {
     let text = |span: &Span| shown(&own_bytes(span.of(file)));
     match value {
         Value::Number(number) => Cell::plain(number),
+        Value::Missing => Cell::plain(""),
         Value::Text { span, owner } => match owner {
             Owner::Operator => Cell::plain(format_args!("{sign}\"{}\"", text(span))),
             Owner::Suggestion => {
@@ -212,6 +213,7 @@ fn section_json(file: &[u8], section: &Section) -> Json {
 fn value_json(file: &[u8], value: &Value) -> Json {
     match value {
         Value::Number(number) => Json::Number(*number),
+        Value::Missing => Json::Null,
         Value::Text { span, owner } => Json::Object(vec![
             ("text", Json::Text(characters(&own_bytes(span.of(file))))),
             ("suggestion", Json::Bool(*owner == Owner::Suggestion)),

@@ -48,6 +48,40 @@ const CALENDAR_HEAD: &[u8] = b"tbl; FIRMENKALENDER\n\
 atr; BASIS_VERSION; BETRIEBSTAG; BETRIEBSTAG_TEXT; TAGESART_NR\n\
 frm; num[9.0]; num[8.0]; char[40]; num[3.0]\n";
 
+pub const CONNECTION_COLUMNS: [&str; 20] = [
+    "BASIS_VERSION",
+    "EINAN_NR",
+    "ANSCHLUSS_NAME",
+    "ANSCHLUSS_GRUPPE",
+    "LEITSTELLENKENNUNG",
+    "ZUB_LI_NR",
+    "ZUB_LI_RI_NR",
+    "ZUB_ORT_REF_ORT",
+    "ZUB_ONR_TYP_NR",
+    "ZUB_ORT_NR",
+    "VON_ORT_REF_ORT",
+    "LinienID",
+    "RichtungsID",
+    "ASBID",
+    "ABB_LI_NR",
+    "ABB_LI_RI_NR",
+    "ABB_ORT_REF_ORT",
+    "ABB_ONR_TYP_NR",
+    "ABB_ORT_NR",
+    "NACH_ORT_REF_ORT",
+];
+
+pub const CONNECTION_FORMATS: [&str; 20] = [
+    "num[9.0]", "num[5.0]", "char[40]", "char[6]", "num[3.0]", "num[6.0]", "num[3.0]", "num[6.0]",
+    "num[2.0]", "num[6.0]", "num[6.0]", "char[6]", "char[6]", "char[10]", "num[6.0]", "num[3.0]",
+    "num[6.0]", "num[2.0]", "num[6.0]", "num[6.0]",
+];
+
+const TRANSFER_HEAD: &[u8] = b"tbl; REC_UMS\n\
+atr; BASIS_VERSION; EINAN_NR; TAGESART_NR; UMS_BEGINN; UMS_ENDE; UMS_MIN; UMS_MAX; \
+MAX_VERZ_MAN; MAX_VERZ_AUTO\n\
+frm; num[9.0]; num[5.0]; num[3.0]; num[6.0]; num[6.0]; num[5.0]; num[5.0]; num[5.0]; num[5.0]\n";
+
 /// A section of this heading whose lines after `frm` are given.
 fn section(head: &[u8], lines: &[&[u8]]) -> Vec<u8> {
     let mut out = head.to_vec();
@@ -76,6 +110,77 @@ pub fn times(lines: &[&[u8]]) -> Vec<u8> {
 
 pub fn calendar(lines: &[&[u8]]) -> Vec<u8> {
     section(CALENDAR_HEAD, lines)
+}
+
+pub fn connections(lines: &[&[u8]]) -> Vec<u8> {
+    let [names, formats] = [CONNECTION_COLUMNS, CONNECTION_FORMATS].map(|all| all.join("; "));
+    let head = format!("tbl; EINZELANSCHLUSS\natr; {names}\nfrm; {formats}\n");
+    section(head.as_bytes(), lines)
+}
+
+pub fn transfers(lines: &[&[u8]]) -> Vec<u8> {
+    section(TRANSFER_HEAD, lines)
+}
+
+/// A connection from a line of one's own, and from one that another control
+/// centre runs. What may be missing is.
+pub const OWN: [&str; 20] = [
+    "7",
+    "1",
+    "\"Markt\"",
+    "\"\"",
+    "0",
+    "12",
+    "1",
+    "500",
+    "",
+    "",
+    "",
+    "\"\"",
+    "\"\"",
+    "\"\"",
+    "4",
+    "2",
+    "600",
+    "",
+    "",
+    "",
+];
+pub const FOREIGN: [&str; 20] = [
+    "7",
+    "2",
+    "\"\"",
+    "\"A\"",
+    "31",
+    "0",
+    "0",
+    "0",
+    "",
+    "",
+    "",
+    "\"S1\"",
+    "\"Nord\"",
+    "\"Bahnhof\"",
+    "4",
+    "0",
+    "600",
+    "",
+    "",
+    "",
+];
+
+/// The record with other fields, each by its number from 1.
+pub fn with<'f>(record: [&'f str; 20], changes: &[(usize, &'f str)]) -> [&'f str; 20] {
+    let mut changed = record;
+    for &(field, value) in changes {
+        changed[field - 1] = value;
+    }
+    changed
+}
+
+/// As a `rec` line.
+pub fn rec(fields: &[&str]) -> Vec<u8> {
+    format!("rec; {}", fields.join("; ")).into_bytes()
 }
 
 /// The sections between a header and an `eof` that counts them.

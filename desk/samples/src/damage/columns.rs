@@ -13,13 +13,14 @@ use crate::page::{Line, Page};
 use crate::random::Random;
 
 /// Names that no table has, or only another one.
-const ODD_NAMES: [&[u8]; 9] = [
+const ODD_NAMES: [&[u8]; 10] = [
     b"",
     b" basis_version",
     b" \"BASIS_VERSION\"",
     b" BASIS VERSION",
     b" BASIS_VERSIO",
     b" BASIS_VERSION2",
+    b" LINIENID",
     b" BASIS_VERSION, TAGESART_NR",
     b" num[9.0]",
     b" 1",

@@ -23,7 +23,7 @@ fn mark(random: &mut Random) -> Vec<u8> {
     match random.below(3) {
         0 => random.pick(&MALFORMED).to_vec(),
         1 => format!("com; \"SUGGESTED {}\"", random.between(1, 4)).into_bytes(),
-        _ => format!("com;\"SUGGESTED {}\" ", random.below(12)).into_bytes(),
+        _ => format!("com;\"SUGGESTED {}\" ", random.below(24)).into_bytes(),
     }
 }
 

@@ -1,7 +1,7 @@
 //! Damage to what a file says: keys, references, points, ranges. Counts stay
 //! right, so that the file breaks this rule and no other.
 
-use vdv::tables::{Kind, Table, DAY_TYPES, LINKS, POINT_TYPES, VERSIONS};
+use vdv::tables::{Kind, Table, CONNECTIONS, DAY_TYPES, LINKS, POINT_TYPES, VERSIONS};
 use vdv::Owner;
 
 use crate::model::{Datum, Model, Record};
@@ -9,7 +9,7 @@ use crate::random::Random;
 use crate::texts;
 
 /// A record of a table that passes, by table and record from 0.
-fn pick_record(
+pub(super) fn pick_record(
     random: &mut Random,
     model: &Model,
     passes: impl Fn(&Table) -> bool,
@@ -61,7 +61,7 @@ pub fn repeat_second_key(random: &mut Random, model: &mut Model) {
 }
 
 pub fn lose_parent(random: &mut Random, model: &mut Model) {
-    let parents = [&VERSIONS, &DAY_TYPES, &POINT_TYPES, &LINKS];
+    let parents = [&VERSIONS, &DAY_TYPES, &POINT_TYPES, &LINKS, &CONNECTIONS];
     if let Some((table, record)) = pick_record(random, model, |t| parents.contains(&t)) {
         model.tables[table].records.remove(record);
     }

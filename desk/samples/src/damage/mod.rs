@@ -3,6 +3,7 @@
 
 mod bytes;
 mod columns;
+mod connections;
 mod header;
 mod lines;
 mod marks;
@@ -44,7 +45,7 @@ const fn to_bytes(name: &'static str, damage: fn(&mut Random, &mut Vec<u8>)) -> 
     Damage { name, level }
 }
 
-pub const ALL: [Damage; 49] = [
+pub const ALL: [Damage; 54] = [
     to_meaning("primary key repeated", meaning::repeat_primary_key),
     to_meaning("second key repeated", meaning::repeat_second_key),
     to_meaning("parent lost", meaning::lose_parent),
@@ -53,6 +54,14 @@ pub const ALL: [Damage; 49] = [
     to_meaning("value out of range", meaning::leave_range),
     to_meaning("text too long", meaning::lengthen_text),
     to_meaning("table twice", meaning::repeat_table),
+    to_meaning("number left out", connections::leave_number_out),
+    to_meaning("0 for a missing number", connections::put_zero),
+    to_meaning("combination wrong", connections::break_combination),
+    to_meaning(
+        "combination and more wrong",
+        connections::break_combination_and_more,
+    ),
+    to_meaning("transfer astray", connections::lead_transfer_astray),
     to_lines("line dropped", lines::drop_line),
     to_lines("line doubled", lines::double_line),
     to_lines("lines swapped", lines::swap_lines),

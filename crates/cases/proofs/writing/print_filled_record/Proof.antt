@@ -1,13 +1,14 @@
 use borrow.Author.Needs.{needs}
-use Prim.Native.Nat.{_-_, _≤_}
+use Prim.Native.Nat.{_+_, _-_, _≤_}
+use Rattle.page.specs.Tables.{WIDEST}
 use Rattle.cases.proofs.writing.print_filled_record.Statement.{statement}
 use Rattle.cases.proofs.writing.print_filled_record.Tie as tie
 
 abbrev Inv-loop : tie.InvT-loop
-Inv-loop s section «record» field₀ field = field ≤ 9
+Inv-loop s section «record» field₀ field = field ≤ WIDEST + 1
 
 abbrev μ-loop : tie.MeasureT-loop
-μ-loop s section «record» field₀ field = 9 - field
+μ-loop s section «record» field₀ field = WIDEST + 1 - field
 
 loop-holds : tie.Need-loop-holds Inv-loop μ-loop
 loop-holds c = search needs

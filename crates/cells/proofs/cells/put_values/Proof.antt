@@ -92,7 +92,7 @@ loop-again c =
     let d = c .before .before .before .before .find-column in
     let n : l .c ≡ l .c + 1 - 1 = omega arith in
     let v = c .before .before .before .read-value .ensures
-    ∙ column-value (a .t) (l .c + 1) (l .c) (p .result) (a .at) (a .m) o (a .w .now) (d .result) n (p .ensures) (d .ensures .0) (d .ensures .1) (d .ensures .2) in
+    ∙ column-value (a .t) (l .c + 1) (l .c) (p .result) (a .at) (a .m) o (a .w .now) (d .result) n (p .ensures) (d .ensures) in
     (omega arith, next-by (values-more (a .t) o x (width (a .t)) (l .c) h) (l .inv .1) (rw v at (c .before .before .put-value .ensures)))
 
 same-length : tie.Need-same-length Inv-loop μ-loop

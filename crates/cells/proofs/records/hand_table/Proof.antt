@@ -1,6 +1,6 @@
 -- `cells::records::hand_table` meets its contract. Assumes nothing.
 use lib.Seq.{length-take-le}
-use Rattle.page.specs.Tables.{width}
+use Rattle.page.specs.Tables.{WIDEST, width}
 use Rattle.page.specs.Answers.{refusal, sound, refuse-if}
 use Rattle.page.specs.Reading.{section-at}
 use Rattle.page.specs.Handing.{cellsOf, cells-refusal}
@@ -49,7 +49,7 @@ mul-if2 c =
     let x = c .before .before .before .before .before .read-section in
     let b = c .before .before .before .before .before .before .before .before .before .pre in
     let q = row-is s (a .at) _ _ (c .before .before .before .before .before .before .read-charset .ensures) (x .ensures) in
-    let w : c .before .find-width .result * 3 ≤ 24 = omega (arith, c .before .find-width .ensures, width-le (c .before .before .table-at .result)) in
+    let w : c .before .find-width .result * 3 ≤ WIDEST * 3 = omega (arith, c .before .find-width .ensures, width-le (c .before .before .table-at .result)) in
     let f = cells-few s (a .section) (a .at) b (x .result) q (c .before .before .before .if1 .left) (c .before .find-width .result * 3) w in
     omega arith
 

@@ -7,8 +7,11 @@ use Rattle.copies.proofs.StandLaws.{spaced-of}
 use Rattle.copies.proofs.standing.is_spaced.Statement.{statement}
 use Rattle.copies.proofs.standing.is_spaced.Tie as tie
 
+is-space-requires : tie.Need-is-space-requires
+is-space-requires c κs = search needs
+
 returns : tie.Need-returns
-returns c = λ e. absurd (false≢true e)
+returns c = c .is-space .ensures
 
 sub-last : tie.Need-sub-last
 sub-last c = search needs
@@ -52,6 +55,7 @@ pub is-spaced-spec : {M : Type 1} → statement M
 is-spaced-spec =
     tie.close
     (tie.spec
+    is-space-requires
     returns
     sub-last
     shared-slice-read-if2

@@ -1,10 +1,10 @@
 use Rattle.frames.proofs.PlainLaws.{part-length}
 use Rattle.tables.proofs.WordLaws.{row-length}
-use Rattle.tables.specs.Words.{column-names, once, words, row}
+use Rattle.tables.specs.Arrays.{flat, row-of}
+use Rattle.tables.specs.Words.{words, row}
 use Rattle.page.specs.Lines.{joined}
-use Rattle.page.specs.Bytes.{bytes, same}
+use Rattle.page.specs.Bytes.{bytes}
 use Rattle.page.specs.Tables.{all-tables}
-use Rattle.page.specs.File.{any}
 use Rattle.output.proofs.PutLaws.{put-as}
 use native.Mathlib.Omega.{arith}
 use borrow.Author.Needs.{needs}
@@ -24,14 +24,14 @@ part-put-bytes-end : tie.Need-part-put-bytes-end
 part-put-bytes-end c = search (needs, row-length)
 
 put-bytes-requires : tie.Need-put-bytes-requires
-unfolding row joined words column-names once any all-tables bytes same
+unfolding row joined words row-of flat all-tables bytes
 put-bytes-requires c κs = omega (arith, part-length (c .before .before .before .find-word .result) row, row-length)
 
 same-length : tie.Need-same-length
 same-length c = search needs
 
 returns : tie.Need-returns
-unfolding row joined words column-names once any all-tables bytes same
+unfolding row joined words row-of flat all-tables bytes
 returns c = put-as (c .before .before .before .before .before .before .find-word .ensures .is) (c .before .before .put-bytes .ensures)
 
 pub put-word-spec : {M : Type 1} → statement M

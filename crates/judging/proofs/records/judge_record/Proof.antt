@@ -6,7 +6,7 @@ use Rattle.page.specs.Tables.{width}
 use Rattle.page.specs.Order.{by-column}
 use Rattle.page.specs.Section.{rec-verdict}
 use Rattle.tables.specs.Orders.{held}
-use Rattle.judging.proofs.RecordLaws.{rules-known}
+use Rattle.judging.proofs.RuleLaws.{rules-known}
 use mathlib.Core.Path.{_≡_, sym, _∙_}
 use mathlib.Core.Bool.{true}
 use lib.ListN.{length}
@@ -36,33 +36,36 @@ judge-rules-requires c κs = search needs
 
 returns-3 : tie.Need-returns-3
 unfolding rec-verdict
-returns-3 c = let a = c .before .before .before .before .before .before .before .before .args in
-    let j = c .before .before .before .before .before .before .judge-fields in
-    let n : eqb (length (fields (a .w .now))) (width (a .t)) ≡ true = sym (c .before .before .before .before .has-width .ensures) ∙ not-false _ (c .before .before .before .if1 .left) in
-    let p = rules-known (a .t) (by-column (held (a .t) (a .o .now)) (fields (a .w .now))) (j .result .numbers) (j .ensures .numbers (c .before .before .if2 .left) (eqb-true _ _ n)) in
+returns-3 c =
+    let a = c .before .before .before .before .before .before .before .before .before .args in
+    let j = c .before .before .before .before .before .before .before .judge-fields in
+    let n : eqb (length (fields (a .w .now))) (width (a .t)) ≡ true = sym (c .before .before .before .before .before .has-width .ensures) ∙ not-false _ (c .before .before .before .before .if1 .left) in
+    let p = rules-known (a .t) (by-column (held (a .t) (a .o .now)) (fields (a .w .now))) (j .result .numbers) (j .ensures .numbers (c .before .before .before .if2 .left) (eqb-true _ _ n)) in
     let s = sym p ∙ sym (c .before .judge-rules .ensures) in
-    rw (n, sym (j .ensures .first), eq-eqb (j .result .wrong) 0 (c .before .before .if2 .left), s, ne-eqb (c .before .judge-rules .result) 0 (c .if3 .taken))
+    rw (n, sym (j .ensures .first), eq-eqb (j .result .wrong) 0 (c .before .before .before .if2 .left), s, ne-eqb (c .before .judge-rules .result) 0 (c .if3 .taken))
 
 marks-empty-requires : tie.Need-marks-empty-requires
 marks-empty-requires c κs = search needs
 
 returns-4 : tie.Need-returns-4
 unfolding rec-verdict
-returns-4 c = let a = c .before .before .before .before .before .before .before .before .before .before .args in
-    let j = c .before .before .before .before .before .before .before .before .judge-fields in
-    let n : eqb (length (fields (a .w .now))) (width (a .t)) ≡ true = sym (c .before .before .before .before .before .before .has-width .ensures) ∙ not-false _ (c .before .before .before .before .before .if1 .left) in
-    let p = rules-known (a .t) (by-column (held (a .t) (a .o .now)) (fields (a .w .now))) (j .result .numbers) (j .ensures .numbers (c .before .before .before .before .if2 .left) (eqb-true _ _ n)) in
+returns-4 c =
+    let a = c .before .before .before .before .before .before .before .before .before .before .before .args in
+    let j = c .before .before .before .before .before .before .before .before .before .judge-fields in
+    let n : eqb (length (fields (a .w .now))) (width (a .t)) ≡ true = sym (c .before .before .before .before .before .before .before .has-width .ensures) ∙ not-false _ (c .before .before .before .before .before .before .if1 .left) in
+    let p = rules-known (a .t) (by-column (held (a .t) (a .o .now)) (fields (a .w .now))) (j .result .numbers) (j .ensures .numbers (c .before .before .before .before .before .if2 .left) (eqb-true _ _ n)) in
     let s = sym p ∙ sym (c .before .before .before .judge-rules .ensures) in
-    rw (n, sym (j .ensures .first), eq-eqb (j .result .wrong) 0 (c .before .before .before .before .if2 .left), s, eq-eqb (c .before .before .before .judge-rules .result) 0 (c .before .before .if3 .left), sym (c .before .marks-empty .ensures) ∙ c .if4 .taken)
+    rw (n, sym (j .ensures .first), eq-eqb (j .result .wrong) 0 (c .before .before .before .before .before .if2 .left), s, eq-eqb (c .before .before .before .judge-rules .result) 0 (c .before .before .if3 .left), sym (c .before .marks-empty .ensures) ∙ c .if4 .taken)
 
 returns-5 : tie.Need-returns-5
 unfolding rec-verdict
-returns-5 c = let a = c .before .before .before .before .before .before .before .before .before .before .args in
-    let j = c .before .before .before .before .before .before .before .before .judge-fields in
-    let n : eqb (length (fields (a .w .now))) (width (a .t)) ≡ true = sym (c .before .before .before .before .before .before .has-width .ensures) ∙ not-false _ (c .before .before .before .before .before .if1 .left) in
-    let p = rules-known (a .t) (by-column (held (a .t) (a .o .now)) (fields (a .w .now))) (j .result .numbers) (j .ensures .numbers (c .before .before .before .before .if2 .left) (eqb-true _ _ n)) in
+returns-5 c =
+    let a = c .before .before .before .before .before .before .before .before .before .before .before .args in
+    let j = c .before .before .before .before .before .before .before .before .before .judge-fields in
+    let n : eqb (length (fields (a .w .now))) (width (a .t)) ≡ true = sym (c .before .before .before .before .before .before .before .has-width .ensures) ∙ not-false _ (c .before .before .before .before .before .before .if1 .left) in
+    let p = rules-known (a .t) (by-column (held (a .t) (a .o .now)) (fields (a .w .now))) (j .result .numbers) (j .ensures .numbers (c .before .before .before .before .before .if2 .left) (eqb-true _ _ n)) in
     let s = sym p ∙ sym (c .before .before .before .judge-rules .ensures) in
-    rw (n, sym (j .ensures .first), eq-eqb (j .result .wrong) 0 (c .before .before .before .before .if2 .left), s, eq-eqb (c .before .before .before .judge-rules .result) 0 (c .before .before .if3 .left), sym (c .before .marks-empty .ensures) ∙ c .if4 .left)
+    rw (n, sym (j .ensures .first), eq-eqb (j .result .wrong) 0 (c .before .before .before .before .before .if2 .left), s, eq-eqb (c .before .before .before .judge-rules .result) 0 (c .before .before .if3 .left), sym (c .before .marks-empty .ensures) ∙ c .if4 .left)
 
 pub judge-record-spec : {M : Type 1} → statement M
 judge-record-spec =

@@ -1,8 +1,8 @@
 use borrow.Author.Needs.{needs}
 use native.Mathlib.Omega.{arith}
-use Rattle.output.proofs.PutLaws.{put-as}
-use Rattle.copies.proofs.FieldLaws.{text-narrow, field-filled, field-text, field-amount}
-use Rattle.records.proofs.RecordLaws.{words-asked, number-asked, refusal-asked}
+use Rattle.output.proofs.PutLaws.{put-as, put-none}
+use Rattle.copies.proofs.FieldLaws.{text-narrow, field-filled, field-text, field-amount, field-missing}
+use Rattle.records.proofs.RecordLaws.{words-asked, number-asked, missing-asked, refusal-asked}
 use Rattle.records.proofs.record.put_field.Statement.{statement}
 use Rattle.records.proofs.record.put_field.Tie as tie
 
@@ -48,6 +48,9 @@ put-decimal-requires c κs = search needs
 enum-told : tie.Need-enum-told
 enum-told c = search needs
 
+enum-told-2 : tie.Need-enum-told-2
+enum-told-2 c = search needs
+
 same-length-2 : tie.Need-same-length-2
 same-length-2 c = search needs
 
@@ -68,14 +71,22 @@ returns-3 c =
     let q = c .before .before .before .before .before .before .before .before .before .before .before .before .before .before .pre in
     let r = c .before .before .before .before .before .before .before .read-field in
     let x = number-asked (a .t) (a .k) (a .w .now) (a .from) (q .2) (q .4) (c .before .before .before .before .before .before .before .before .find-column .result) (c .before .before .before .before .before .before .before .before .find-column .ensures) (r .result .field) (r .ensures .1) (c .before .before .before .before .before .f2 .given .0 .0) (c .before .before .before .before .before .f2 .given .1) in
-    put-as (field-amount _ _ _ _ _ _ _ (c .before .before .before .before .before .before .before .before .before .if1 .left) (x .0) _ (x .1)) (c .before .before .put-decimal .ensures)
+    put-as (field-amount _ _ _ _ _ _ _ (c .before .before .before .before .before .before .before .before .before .if1 .left) (x .0) (x .1) _ (x .2)) (c .before .before .put-decimal .ensures)
 
 returns-4 : tie.Need-returns-4
 returns-4 c =
     let a = c .before .before .before .before .before .before .before .before .before .args in
     let q = c .before .before .before .before .before .before .before .before .before .pre in
     let r = c .before .before .read-field in
-    absurd (refusal-asked (a .t) (a .k) (a .w .now) (a .from) (q .2) (q .4) (c .before .before .before .find-column .result) (c .before .before .before .find-column .ensures) (r .result .field) (r .ensures .1) (c .enum-told .given .0 .0) (c .enum-told .given .1))
+    let x = missing-asked (a .t) (a .k) (a .w .now) (a .from) (q .2) (q .4) (c .before .before .before .find-column .result) (c .before .before .before .find-column .ensures) (r .result .field) (r .ensures .1) (c .enum-told .given .1) in
+    put-as (field-missing _ _ _ _ _ _ _ (c .before .before .before .before .if1 .left) (x .0) (x .1)) put-none
+
+returns-5 : tie.Need-returns-5
+returns-5 c =
+    let a = c .before .before .before .before .before .before .before .before .before .args in
+    let q = c .before .before .before .before .before .before .before .before .before .pre in
+    let r = c .before .before .read-field in
+    absurd (refusal-asked (a .t) (a .k) (a .w .now) (a .from) (q .2) (q .4) (c .before .before .before .find-column .result) (c .before .before .before .find-column .ensures) (r .result .field) (r .ensures .1) (c .enum-told2 .given .0 .0) (c .enum-told2 .given .1))
 
 pub put-field-spec : {M : Type 1} → statement M
 put-field-spec =
@@ -93,8 +104,10 @@ put-field-spec =
     enum-known-f-2
     put-decimal-requires
     enum-told
+    enum-told-2
     same-length-2
     returns-2
     same-length-3
     returns-3
-    returns-4)
+    returns-4
+    returns-5)

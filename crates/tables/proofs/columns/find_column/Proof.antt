@@ -1,47 +1,66 @@
+-- `tables::columns::find_column` meets its contract. Assumes nothing.
+use mathlib.Core.Path.{_∙_}
+use Rattle.page.specs.Tables.{Named, all-tables, column-at}
+use Rattle.tables.specs.Arrays.{flat, row-of, kinds, marks, lows, highs}
+use Rattle.tables.proofs.ArrayLaws.{said-column, no-entry}
 use borrow.Author.Needs.{needs}
 use Rattle.tables.proofs.columns.find_column.Statement.{statement}
 use Rattle.tables.proofs.columns.find_column.Tie as tie
 
-find-kinds-requires : tie.Need-find-kinds-requires
-find-kinds-requires c κs = search needs
+find-entry-requires : tie.Need-find-entry-requires
+find-entry-requires c κs = search needs
 
-find-lows-requires : tie.Need-find-lows-requires
-find-lows-requires c κs = search needs
+array-read-column-of : tie.Need-array-read-column-of
+array-read-column-of c = search needs
 
-find-highs-requires : tie.Need-find-highs-requires
-find-highs-requires c κs = search needs
+array-read-column-of-2 : tie.Need-array-read-column-of-2
+array-read-column-of-2 c = search needs
 
-array-read-t10 : tie.Need-array-read-t10
-array-read-t10 c = search needs
+array-read-column-of-3 : tie.Need-array-read-column-of-3
+array-read-column-of-3 c = search needs
 
-mul-t11 : tie.Need-mul-t11
-mul-t11 c = search needs
+mul-column-of : tie.Need-mul-column-of
+mul-column-of c = search needs
 
-array-read-t14 : tie.Need-array-read-t14
-array-read-t14 c = search needs
+array-read-column-of-4 : tie.Need-array-read-column-of-4
+array-read-column-of-4 c = search needs
 
-mul-t15 : tie.Need-mul-t15
-mul-t15 c = search needs
-
-array-read-t18 : tie.Need-array-read-t18
-array-read-t18 c = search needs
+column-of-requires : tie.Need-column-of-requires
+column-of-requires c κs = search needs
 
 returns : tie.Need-returns
+unfolding kinds marks lows highs row-of flat all-tables
 returns c =
-    let k = c .before .before .before .args .k in
-    let h = c .before .before .before .pre in
-    (c .before .before .find-kinds .ensures k h, c .before .find-lows .ensures k h, c .find-highs .ensures k h)
+    let a = c .before .before .before .args in
+    let y = c .before .before .find-entry .ensures .there (c .before .if1 .taken) in
+    said-column (a .t) (a .k) (c .before .before .find-entry .result) (y .1) (y .0) (c .column-of .result) (c .column-of .ensures)
+
+column-of-requires-2 : tie.Need-column-of-requires-2
+column-of-requires-2 c κs = search needs
+
+returns-2 : tie.Need-returns-2
+unfolding column-at
+returns-2 c =
+    let s = c .column-of2 .ensures in
+    let x = c .before .before .find-entry .ensures in
+    let h = c .before .if1 .left in (
+      s .text ∙ no-entry (λ (n : Named). n .column .text) x h,
+      s .lo ∙ no-entry (λ (n : Named). n .column .lo) x h,
+      s .hi ∙ no-entry (λ (n : Named). n .column .hi) x h,
+      s .optional ∙ no-entry (λ (n : Named). n .column .optional) x h,
+    )
 
 pub find-column-spec : {M : Type 1} → statement M
 find-column-spec =
     tie.close
     (tie.spec
-    find-kinds-requires
-    find-lows-requires
-    find-highs-requires
-    array-read-t10
-    mul-t11
-    array-read-t14
-    mul-t15
-    array-read-t18
-    returns)
+    find-entry-requires
+    array-read-column-of
+    array-read-column-of-2
+    array-read-column-of-3
+    mul-column-of
+    array-read-column-of-4
+    column-of-requires
+    returns
+    column-of-requires-2
+    returns-2)

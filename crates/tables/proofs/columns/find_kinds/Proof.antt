@@ -1,25 +1,17 @@
-use mathlib.Core.Bool.{false}
-use borrow.Author.Needs.{needs}
-use Rattle.page.specs.declared.Column.{Column}
+-- `tables::columns::find_kinds` meets its contract. Assumes nothing.
 use Rattle.page.specs.Tables.{all-tables}
-use Rattle.tables.specs.Arrays.{fill, rows}
-use Rattle.tables.proofs.ArrayLaws.{column-entry, none-at}
+use Rattle.tables.specs.Arrays.{flat, row-of, kinds}
+use Rattle.tables.proofs.ArrayLaws.{texts-flagged}
+use borrow.Author.Needs.{needs}
 use Rattle.tables.proofs.columns.find_kinds.Statement.{statement}
 use Rattle.tables.proofs.columns.find_kinds.Tie as tie
 
-mul-result : tie.Need-mul-result
-mul-result c = search needs
-
-array-copy-out-result : tie.Need-array-copy-out-result
-array-copy-out-result c = search needs
+flag-columns-requires : tie.Need-flag-columns-requires
+flag-columns-requires c κs = search needs
 
 returns : tie.Need-returns
-unfolding rows fill all-tables
-returns c = λ k h. column-entry (λ (x : Column). x .text) (c .before .before .args .t) k false (c .before .if1 .taken) h
-
-returns-2 : tie.Need-returns-2
-unfolding fill
-returns-2 c = λ k h. none-at (λ (x : Column). x .text) (c .before .args .t) k (c .if1 .left) h
+unfolding kinds row-of flat all-tables
+returns c = texts-flagged (c .before .args .t) (c .flag-columns .result) (c .flag-columns .ensures)
 
 pub find-kinds-spec : {M : Type 1} → statement M
-find-kinds-spec = tie.close (tie.spec mul-result array-copy-out-result returns returns-2)
+find-kinds-spec = tie.close (tie.spec flag-columns-requires returns)

@@ -1,36 +1,50 @@
+-- `tables::columns::find_size` meets its contract. Assumes nothing.
+use mathlib.Core.Path.{_∙_}
+use Rattle.page.specs.Tables.{Named, all-tables, column-at}
+use Rattle.tables.specs.Arrays.{flat, row-of, kinds, highs}
+use Rattle.tables.proofs.ArrayLaws.{sizes, said-size, no-entry}
 use borrow.Author.Needs.{needs}
-use Rattle.page.specs.declared.Column.{Column}
-use Rattle.page.specs.Tables.{all-tables}
-use Rattle.tables.specs.Arrays.{fill, rows}
-use Rattle.tables.proofs.ArrayLaws.{column-entry, no-entry, no-row}
 use Rattle.tables.proofs.columns.find_size.Statement.{statement}
 use Rattle.tables.proofs.columns.find_size.Tie as tie
 
-mul-result : tie.Need-mul-result
-mul-result c = search needs
+find-entry-requires : tie.Need-find-entry-requires
+find-entry-requires c κs = search needs
 
-mul-result-2 : tie.Need-mul-result-2
-mul-result-2 c = search needs
+array-read-size-of : tie.Need-array-read-size-of
+array-read-size-of c = search needs
 
-index-1-result : tie.Need-index-1-result
-index-1-result c = search needs
+array-read-size-of-2 : tie.Need-array-read-size-of-2
+array-read-size-of-2 c = search needs
 
-index-2-result : tie.Need-index-2-result
-index-2-result c = search needs
+mul-size-of : tie.Need-mul-size-of
+mul-size-of c = search needs
+
+array-read-size-of-3 : tie.Need-array-read-size-of-3
+array-read-size-of-3 c = search needs
+
+size-of-requires : tie.Need-size-of-requires
+size-of-requires c κs = search needs
 
 returns : tie.Need-returns
-unfolding rows fill all-tables
+unfolding kinds highs sizes row-of flat all-tables
 returns c =
     let a = c .before .before .before .args in
-    column-entry (λ (x : Column). x .size) (a .t) (a .k) 0 (c .before .before .if1 .taken) (c .before .if2 .taken)
+    let y = c .before .before .find-entry .ensures .there (c .before .if1 .taken) in
+    c .size-of .ensures ∙ said-size (a .t) (a .k) (c .before .before .find-entry .result) (y .1) (y .0)
 
 returns-2 : tie.Need-returns-2
-returns-2 c = no-entry (λ (x : Column). x .size) (c .before .before .args .t) (c .before .before .args .k) (c .if2 .left)
-
-returns-3 : tie.Need-returns-3
-returns-3 c = no-row (λ (x : Column). x .size) (c .before .args .t) (c .before .args .k) (c .if1 .left)
+unfolding column-at
+returns-2 c = no-entry (λ (n : Named). n .column .size) (c .before .find-entry .ensures) (c .if1 .left)
 
 pub find-size-spec : {M : Type 1} → statement M
 find-size-spec =
     tie.close
-    (tie.spec mul-result mul-result-2 index-1-result index-2-result returns returns-2 returns-3)
+    (tie.spec
+    find-entry-requires
+    array-read-size-of
+    array-read-size-of-2
+    mul-size-of
+    array-read-size-of-3
+    size-of-requires
+    returns
+    returns-2)

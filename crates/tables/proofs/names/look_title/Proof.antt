@@ -1,4 +1,5 @@
-use mathlib.Core.Path.{sym, ap}
+-- `tables::names::look_title` meets its contract. Assumes nothing.
+use mathlib.Core.Path.{ap, sym}
 use borrow.Author.Needs.{needs}
 use Rattle.page.specs.Tables.{Table}
 use Rattle.page.proofs.TableLaws.{past-tables}
@@ -10,12 +11,15 @@ use Rattle.tables.proofs.names.look_title.Tie as tie
 add-result : tie.Need-add-result
 add-result c = search needs
 
+add-result-2 : tie.Need-add-result-2
+add-result-2 c = search needs
+
 returns : tie.Need-returns
-returns c = title-word (c .before .args .t) (c .if1 .taken)
+returns c = title-word (c .before .args .t)
 
 returns-2 : tie.Need-returns-2
 unfolding word words
 returns-2 c = sym (ap (λ (x : Table). x .name) (past-tables (c .before .args .t) (c .if1 .left)))
 
 pub look-title-spec : {M : Type 1} → statement M
-look-title-spec = tie.close (tie.spec add-result returns returns-2)
+look-title-spec = tie.close (tie.spec add-result add-result-2 returns returns-2)

@@ -1,56 +1,35 @@
 -- `tables::references::find_key` meets its contract. Assumes nothing.
 use mathlib.Core.Path.{ap, sym, _∙_}
-use mathlib.Core.Bool.{Bool, false}
-use mathlib.Core.List.{map}
-use borrow.Author.Needs.{needs}
-use Rattle.page.specs.Tables.{Named, Table, all-tables, WIDEST, columns}
-use Rattle.page.proofs.TableLaws.{past-tables}
-use Rattle.tables.specs.Arrays.{fill, rows}
+use mathlib.Core.Bool.{Bool}
+use Rattle.page.specs.Tables.{Named, all-tables}
+use Rattle.tables.specs.Arrays.{flat, row-of, marks, either}
 use Rattle.tables.specs.Keys.{by-key, key-columns}
-use Rattle.tables.proofs.ArrayLaws.{row-at}
+use Rattle.tables.proofs.ArrayLaws.{columns-flagged}
+use Rattle.tables.proofs.ReferenceLaws.{primary-told, second-told}
+use borrow.Author.Needs.{needs}
 use Rattle.tables.proofs.references.find_key.Statement.{statement}
 use Rattle.tables.proofs.references.find_key.Tie as tie
 
-mul-result : tie.Need-mul-result
-mul-result c = search needs
-
-array-copy-out-result : tie.Need-array-copy-out-result
-array-copy-out-result c = search needs
+flag-columns-requires : tie.Need-flag-columns-requires
+flag-columns-requires c κs = search needs
 
 returns : tie.Need-returns
-unfolding rows fill all-tables key-columns columns
+unfolding marks row-of flat all-tables key-columns
 returns c =
-    let a = c .before .before .before .args in
-    row-at (λ (x : Table). x .columns) WIDEST (λ x (n : Named). n .column .second) false (a .t) (c .before .before .if1 .taken)
-    ∙ ap (λ (b : Bool). key-columns (by-key b) (a .t)) (sym (c .before .if2 .taken))
+    let t = c .before .before .args .t in
+    columns-flagged (either 67 66) marks (λ (n : Named). n .column .second) second-told t (c .flag-columns .result) (c .flag-columns .ensures)
+    ∙ ap (λ (b : Bool). key-columns (by-key b) t) (sym (c .before .if1 .taken))
 
-mul-result-2 : tie.Need-mul-result-2
-mul-result-2 c = search needs
-
-array-copy-out-result-2 : tie.Need-array-copy-out-result-2
-array-copy-out-result-2 c = search needs
+flag-columns-requires-2 : tie.Need-flag-columns-requires-2
+flag-columns-requires-2 c κs = search needs
 
 returns-2 : tie.Need-returns-2
-unfolding rows fill all-tables key-columns columns
+unfolding marks row-of flat all-tables key-columns
 returns-2 c =
-    let a = c .before .before .before .args in
-    row-at (λ (x : Table). x .columns) WIDEST (λ x (n : Named). n .column .primary) false (a .t) (c .before .before .if1 .taken)
-    ∙ ap (λ (b : Bool). key-columns (by-key b) (a .t)) (sym (c .before .if2 .left))
-
-returns-3 : tie.Need-returns-3
-unfolding fill key-columns columns
-returns-3 c =
-    let a = c .before .args in
-    sym (ap (λ (x : Table). fill WIDEST false (map (λ (n : Named). by-key (a .second) (n .column)) (x .columns))) (past-tables (a .t) (c .if1 .left)))
+    let t = c .before .before .args .t in
+    columns-flagged (either 80 66) marks (λ (n : Named). n .column .primary) primary-told t (c .flag-columns2 .result) (c .flag-columns2 .ensures)
+    ∙ ap (λ (b : Bool). key-columns (by-key b) t) (sym (c .before .if1 .left))
 
 pub find-key-spec : {M : Type 1} → statement M
 find-key-spec =
-    tie.close
-    (tie.spec
-    mul-result
-    array-copy-out-result
-    returns
-    mul-result-2
-    array-copy-out-result-2
-    returns-2
-    returns-3)
+    tie.close (tie.spec flag-columns-requires returns flag-columns-requires-2 returns-2)

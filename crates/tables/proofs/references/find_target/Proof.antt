@@ -1,10 +1,10 @@
 -- `tables::references::find_target` meets its contract. Assumes nothing.
-use Rattle.page.specs.Bytes.{same, bytes}
+use Rattle.page.specs.Bytes.{bytes, same}
 use Rattle.page.specs.Lines.{find}
-use Rattle.page.specs.Tables.{TABLES, all-tables, table-named}
-use Rattle.tables.specs.Keys.{target-at}
-use Rattle.tables.specs.Arrays.{fill, rows}
-use Rattle.tables.proofs.ReferenceLaws.{reference-entry, past-entry, past-row, target-in, no-target}
+use Rattle.page.specs.Tables.{all-tables, table-at, table-named}
+use Rattle.page.specs.Order.{upto}
+use Rattle.tables.specs.Keys.{reference-at, target-at}
+use Rattle.tables.proofs.ReferenceLaws.{targets, target-told, target-past, target-past-table}
 use borrow.Author.Needs.{needs}
 use Rattle.tables.proofs.references.find_target.Statement.{statement}
 use Rattle.tables.proofs.references.find_target.Tie as tie
@@ -22,18 +22,16 @@ index-2-result : tie.Need-index-2-result
 index-2-result c = search needs
 
 returns : tie.Need-returns
-unfolding rows fill all-tables table-named find same bytes target-at
+unfolding targets upto target-at reference-at table-at table-named find same bytes all-tables
 returns c =
     let a = c .before .before .before .args in
-    reference-entry target-in TABLES no-target (a .t) (a .r) 0 (c .before .before .if1 .taken) (c .before .if2 .taken)
+    target-told (a .t) (a .r) (c .before .before .if1 .taken) (c .before .if2 .taken)
 
 returns-2 : tie.Need-returns-2
-unfolding target-at
-returns-2 c = past-entry target-in TABLES no-target (c .before .before .args .t) (c .before .before .args .r) (c .if2 .left)
+returns-2 c = target-past (c .before .before .args .t) (c .before .before .args .r) (c .if2 .left)
 
 returns-3 : tie.Need-returns-3
-unfolding target-at
-returns-3 c = past-row target-in TABLES no-target (c .before .args .t) (c .before .args .r) (c .if1 .left)
+returns-3 c = target-past-table (c .before .args .t) (c .before .args .r) (c .if1 .left)
 
 pub find-target-spec : {M : Type 1} → statement M
 find-target-spec =

@@ -22,6 +22,9 @@ enum-known-f-2 c = search needs
 enum-told : tie.Need-enum-told
 enum-told c = search needs
 
+enum-told-2 : tie.Need-enum-told-2
+enum-told-2 c = search needs
+
 returns : tie.Need-returns
 returns c = rw (c .before .before .before .f .given .1)
 
@@ -31,7 +34,20 @@ returns-2 c = rw (c .before .f2 .given .1)
 returns-3 : tie.Need-returns-3
 returns-3 c = search needs
 
+returns-4 : tie.Need-returns-4
+returns-4 c = search needs
+
 pub hand-field-spec : {M : Type 1} → statement M
 hand-field-spec =
     tie.close
-    (tie.spec enum-known-f add-t7 add-t8 enum-known-f-2 enum-told returns returns-2 returns-3)
+    (tie.spec
+    enum-known-f
+    add-t7
+    add-t8
+    enum-known-f-2
+    enum-told
+    enum-told-2
+    returns
+    returns-2
+    returns-3
+    returns-4)

@@ -7,11 +7,14 @@ use Rattle.values.proofs.StartLaws.{field-is, field-none, field-fits}
 use Rattle.values.proofs.values.read_value.Statement.{statement}
 use Rattle.values.proofs.values.read_value.Tie as tie
 
+hand-nothing-requires : tie.Need-hand-nothing-requires
+hand-nothing-requires c κs = search needs
+
 returns : tie.Need-returns
 returns c =
-    let a = c .before .before .args in
-    let q = c .before .before .pre in
-    field-none (a .w .now) (a .p) (a .start) (q .1) (c .if1 .taken) _ (a .at) (a .column)
+    let a = c .before .before .before .args in
+    let q = c .before .before .before .pre in
+    c .hand-nothing .ensures ∙ field-none (a .w .now) (a .p) (a .start) (q .1) (c .before .if1 .taken) _ (a .at) (a .column)
 
 read-field-requires : tie.Need-read-field-requires
 read-field-requires c κs = search needs
@@ -40,6 +43,7 @@ pub read-value-spec : {M : Type 1} → statement M
 read-value-spec =
     tie.close
     (tie.spec
+    hand-nothing-requires
     returns
     read-field-requires
     add-owner-of

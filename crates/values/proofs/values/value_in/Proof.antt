@@ -1,7 +1,6 @@
 -- `values::values::value_in` meets its contract. Assumes nothing.
 use Prim.Native.Nat.{_-_}
 use mathlib.Core.Path.{_∙_}
-use native.Mathlib.Omega.{arith}
 use borrow.Author.Needs.{needs}
 use Rattle.tables.specs.Orders.{held}
 use Rattle.values.proofs.StartLaws.{place-few, column-value}
@@ -21,7 +20,7 @@ find-start-requires c κs =
     place-few _ (a .t) (a .o .now) (p .result) (c .before .before .before .pre .0) (p .ensures)
 
 find-column-requires : tie.Need-find-column-requires
-find-column-requires c κs = omega (arith, c .before .before .one-less .ensures, c .before .before .before .before .pre .1)
+find-column-requires c κs = search needs
 
 read-value-requires : tie.Need-read-value-requires
 read-value-requires c κs =
@@ -37,7 +36,7 @@ returns c =
     let d = c .before .find-column in
     c .read-value .ensures
     ∙ column-value (a .t) (a .f) (n .result) (p .result) (a .at) (a .m) (held (a .t) (a .o .now)) (a .w .now) (d .result) (n .ensures) (p .ensures)
-    (d .ensures .0) (d .ensures .1) (d .ensures .2)
+    (d .ensures)
 
 pub value-in-spec : {M : Type 1} → statement M
 value-in-spec =

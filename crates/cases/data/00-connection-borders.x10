@@ -1,0 +1,19 @@
+mod; DD.MM.YYYY; HH:MM:SS; free
+src; "Desk"; "01.02.2024"; "06:00:00"
+chs; "ISO8859-1"
+ver; "1"
+ifv; "1.0"
+tbl; MENGE_BASIS_VERSIONEN
+atr; BASIS_VERSION; BASIS_VERSION_TEXT
+frm; num[9.0]; char[40]
+rec; 1; ""
+rec; 999999999; ""
+end; 2
+tbl; EINZELANSCHLUSS
+atr; BASIS_VERSION; EINAN_NR; ANSCHLUSS_NAME; ANSCHLUSS_GRUPPE; LEITSTELLENKENNUNG; ZUB_LI_NR; ZUB_LI_RI_NR; ZUB_ORT_REF_ORT; ZUB_ONR_TYP_NR; ZUB_ORT_NR; VON_ORT_REF_ORT; LinienID; RichtungsID; ASBID; ABB_LI_NR; ABB_LI_RI_NR; ABB_ORT_REF_ORT; ABB_ONR_TYP_NR; ABB_ORT_NR; NACH_ORT_REF_ORT
+frm; num[9.0]; num[5.0]; char[40]; char[6]; num[3.0]; num[6.0]; num[3.0]; num[6.0]; num[2.0]; num[6.0]; num[6.0]; char[6]; char[6]; char[10]; num[6.0]; num[3.0]; num[6.0]; num[2.0]; num[6.0]; num[6.0]
+rec; 999999999; 32764; "xxxxxxxxxxxxxxxxxxxxxxxxxxxxxxxxxxxxxxxx"; "123456"; 0; 999; 2; 999999; 99; 999999; 999999; ""; ""; ""; 999; 2; 999999; 99; 999999; 999999
+rec; 1; 1; ""; ""; 0; 1; 0; 1; 1; 1; 1; ""; ""; ""; 1; 0; 1; 1; 1; 1
+rec; 1; 2; ""; ""; 1; 0; 0; 0; ; ; ; "123456"; "123456"; "1234567890"; 5; 1; 9; ; ; 
+end; 3
+eof; 2
