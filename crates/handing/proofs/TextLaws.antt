@@ -40,7 +40,7 @@ use Rattle.page.proofs.CutLaws.{Stands, section-stands, section-within, section
 use Rattle.laws.specs.Begins.{begins}
 use Rattle.laws.proofs.Sections.{sections-begin}
 use Rattle.values.proofs.ReadLaws.{Read, a-text, a-number, no-number, no-value, read-of, wording-in}
-use Rattle.values.proofs.ValueLaws.{inside}
+use Rattle.lookups.proofs.LookupLaws.{inside}
 use Rattle.doubling.specs.Raw.{undoubled}
 use Rattle.doubling.proofs.TextLaws.{undoubled-doubled}
 use Rattle.output.proofs.WriteLaws.{refused}

@@ -73,7 +73,7 @@ pub fn text(file: &[u8], i: usize, r: usize, f: usize, out: &mut [u8]) -> Handed
         ⌜ (w ≡ textOut (now (file .entry)) i r f (length (now (out .entry))))
         × (now (out .exit) ≡ text-after (now (file .entry)) i r f (now (out .entry))) ⌝ }
 {
-    match values::value(file, i, r, f) {
+    match lookups::value(file, i, r, f) {
         Got::Is(v) => hand_value(file, v, out),
         Got::Refused(x) => Handed::Refused(x),
     }
