@@ -14,8 +14,8 @@ use Rattle.page.specs.Handing.{cell-of, record-cells}
 use Rattle.page.specs.declared.Value.{Value}
 use Rattle.page.specs.declared.Value.the-variants as Va
 use Rattle.page.proofs.OrderLaws.{place-in}
-use Rattle.tables.specs.Orders.{held, Stands}
-use Rattle.tables.proofs.OrderLaws.{held-length}
+use Rattle.arrangement.specs.Orders.{held, Stands}
+use Rattle.arrangement.proofs.OrderLaws.{held-length}
 use Rattle.output.proofs.PutLaws.{Todo, same}
 
 -- the values of a record, of which k of n have been passed

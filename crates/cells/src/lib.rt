@@ -6,14 +6,14 @@ ghost use lib.ListN.{length};
 ghost use Rattle.page.specs.Tables.{width};
 ghost use Rattle.page.specs.File.{limit};
 ghost use Rattle.page.specs.Handing.{owner-cell, cell-of, record-cells};
-ghost use Rattle.tables.specs.Orders.{held, Stands};
+ghost use Rattle.arrangement.specs.Orders.{held, Stands};
 ghost use Rattle.output.specs.Put.{Put};
+use arrangement::find_place;
 use judging::find_starts;
 use page::Owner;
 use page::Value;
 use tables::WIDEST;
 use tables::find_column;
-use tables::find_place;
 use tables::find_width;
 use values::read_value;
 

@@ -17,7 +17,7 @@ use Rattle.page.specs.declared.Span.{Span}
 use Rattle.page.specs.declared.Field.{Field}
 use Rattle.page.specs.declared.Field.the-variants as F
 use Rattle.page.proofs.OrderLaws.{arranged-long, place-in}
-use Rattle.tables.specs.Orders.{held, Stands}
+use Rattle.arrangement.specs.Orders.{held, Stands}
 use Rattle.digits.specs.Runs.{field-from}
 use Rattle.fields.proofs.ColumnLaws.{column-asked}
 use Rattle.copies.proofs.FieldLaws.{column-sound}

@@ -15,8 +15,9 @@ ghost use Rattle.page.specs.Form.{datum-text};
 ghost use Rattle.digits.specs.Runs.{field-from};
 ghost use Rattle.output.specs.Put.{Put};
 ghost use Rattle.doubling.specs.Raw.{raw-text};
-ghost use Rattle.tables.specs.Orders.{held, Stands};
+ghost use Rattle.arrangement.specs.Orders.{held, Stands};
 ghost use Rattle.copies.specs.Parts.{datum-by, fields-form};
+use arrangement::find_place;
 use copies::Plan;
 use decimals::put_decimal;
 use doubling::put_quoted;
@@ -27,7 +28,6 @@ use page::Field;
 use page::Span;
 use tables::WIDEST;
 use tables::find_column;
-use tables::find_place;
 use tables::find_width;
 
 // "Stripping gives the written form with marked texts empty."

@@ -22,7 +22,7 @@ use Rattle.page.specs.Handing.{cells-in, cellsOf, table-refusal, cells-refusal,
 use Rattle.page.specs.declared.Row.{Row}
 use Rattle.page.specs.declared.Refusal.{Refusal}
 use Rattle.page.specs.declared.Written.the-variants as W
-use Rattle.tables.specs.Orders.{held}
+use Rattle.arrangement.specs.Orders.{held}
 use Rattle.names.specs.Told.{Told}
 use Rattle.grammar.proofs.Own.{row-count}
 use Rattle.calls.proofs.HandedCells.{cells-count}

@@ -5,7 +5,7 @@ ghost use lib.ListN.{length, drop};
 ghost use Rattle.page.specs.Lines.{lines};
 ghost use Rattle.page.specs.File.{limit};
 ghost use Rattle.page.specs.Handing.{cells-in, tableOf, cells-after};
-ghost use Rattle.tables.specs.Orders.{held, Stands};
+ghost use Rattle.arrangement.specs.Orders.{held, Stands};
 ghost use Rattle.sections.specs.Located.{Begins};
 ghost use Rattle.output.specs.Put.{Put};
 use cells::put_values;

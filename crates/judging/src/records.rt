@@ -8,7 +8,7 @@ ghost use Rattle.page.specs.Fields.{fields, field-size};
 ghost use Rattle.page.specs.Tables.{width};
 ghost use Rattle.page.specs.Section.{fieldOf, field-number, empty-marked, rec-verdict};
 ghost use Rattle.digits.specs.Runs.{field-from};
-ghost use Rattle.tables.specs.Orders.{held, Stands};
+ghost use Rattle.arrangement.specs.Orders.{held, Stands};
 ghost use Rattle.judging.specs.Judging.{number-of, Judged};
 use crate::rules::judge_rules;
 use page::Column;

@@ -26,7 +26,7 @@ use Rattle.page.specs.declared.Value.{Value}
 use Rattle.page.specs.declared.Got.the-variants as G
 use Rattle.page.proofs.LineLaws.{line-size, joined-lines}
 use Rattle.page.proofs.TableLaws.{width-le}
-use Rattle.tables.specs.Orders.{held}
+use Rattle.arrangement.specs.Orders.{held}
 use Rattle.laws.specs.Begins.{begins}
 use Rattle.grammar.proofs.Readings.{sound-arranged}
 use Rattle.names.specs.Told.{Told}

@@ -7,7 +7,7 @@ ghost use Rattle.page.specs.Tables.{WIDEST};
 ghost use Rattle.page.specs.Places.{record-at};
 ghost use Rattle.page.specs.File.{limit};
 ghost use Rattle.page.specs.Reading.{outside, value-in, valueOf};
-ghost use Rattle.tables.specs.Orders.{held, Orderly};
+ghost use Rattle.arrangement.specs.Orders.{held, Orderly};
 ghost use Rattle.cut.specs.Walk.{Settled};
 ghost use Rattle.lookups.specs.Lookups.{value-from};
 use names::table_at;

@@ -8,11 +8,12 @@ ghost use Rattle.page.specs.Tables.{columns, width};
 ghost use Rattle.page.specs.Order.{listed-order, standing, by-column};
 ghost use Rattle.page.specs.Section.{first-wrong, rec-verdict};
 ghost use Rattle.output.specs.Put.{Put};
-ghost use Rattle.tables.specs.Orders.{held, Stands};
+ghost use Rattle.arrangement.specs.Orders.{held, Stands};
 ghost use Rattle.copies.specs.Parts.{fields-form, Whole};
 ghost use Rattle.copies.specs.Planned.{record-by};
 ghost use Rattle.parts.specs.Parted.{Parted};
 ghost use Rattle.records.specs.Row.{row};
+use arrangement::column_in;
 use copies::Plan;
 use copies::all_written;
 use entries::put_fields;
@@ -25,7 +26,6 @@ use parts::Parts;
 use parts::find_parts;
 use parts::put_parts;
 use tables::WIDEST;
-use tables::column_in;
 
 // Does a whole record stand as it is written, with no mark? Only in document 01's own order may it be copied.
 fn is_kept(w: &[u8], listed: bool, m: u64, plan: Plan) -> bool

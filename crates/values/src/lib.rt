@@ -10,8 +10,9 @@ ghost use Rattle.page.specs.Places.{field-place};
 ghost use Rattle.page.specs.File.{limit};
 ghost use Rattle.page.specs.Reading.{later-field, field-at, valued, value-in};
 ghost use Rattle.page.specs.declared.Owner.the-variants as O;
-ghost use Rattle.tables.specs.Orders.{held, Orderly};
+ghost use Rattle.arrangement.specs.Orders.{held, Orderly};
 ghost use Rattle.values.specs.Values.{Fits};
+use arrangement::find_place;
 use page::Column;
 use page::Field;
 use page::Owner;
@@ -19,7 +20,6 @@ use page::Text;
 use page::Value;
 use tables::WIDEST;
 use tables::find_column;
-use tables::find_place;
 
 // "Each text handed out says whose it is."
 fn owner_of(m: u64, f: usize) -> Owner

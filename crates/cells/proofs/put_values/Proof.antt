@@ -8,7 +8,7 @@ use Rattle.page.specs.Places.{Standing}
 use Rattle.page.specs.Reading.{value-in}
 use Rattle.page.specs.Handing.{cell-of, record-cells}
 use Rattle.page.proofs.TableLaws.{width-le}
-use Rattle.tables.specs.Orders.{held}
+use Rattle.arrangement.specs.Orders.{held}
 use Rattle.output.proofs.PutLaws.{Todo, begin, left-is, next-by, at-end, same}
 use Rattle.values.proofs.StartLaws.{column-value}
 use Rattle.cells.proofs.CellLaws.{cell-length, values-begin, values-more, values-end, first-fits, column-stands}

@@ -6,8 +6,8 @@ use Rattle.page.specs.Fields.{fields}
 use Rattle.page.specs.Tables.{columns, width}
 use Rattle.page.specs.Order.{by-column}
 use Rattle.page.proofs.TableLaws.{width-le}
-use Rattle.tables.specs.Orders.{held}
-use Rattle.tables.proofs.OrderLaws.{held-length}
+use Rattle.arrangement.specs.Orders.{held}
+use Rattle.arrangement.proofs.OrderLaws.{held-length}
 use Rattle.frames.proofs.LineLaws.{separator-length}
 use Rattle.output.proofs.PutLaws.{Todo, begin, next-by, at-end, same, puts}
 use Rattle.copies.specs.Parts.{fields-form}

@@ -5,7 +5,7 @@ use Rattle.page.specs.Tables.{width}
 use Rattle.page.specs.Places.{Standing}
 use Rattle.page.specs.Handing.{record-cells, cells-in}
 use Rattle.page.proofs.ScanLaws.{part-length}
-use Rattle.tables.specs.Orders.{held}
+use Rattle.arrangement.specs.Orders.{held}
 use Rattle.lines.proofs.CursorLaws.{handed}
 use Rattle.output.proofs.PutLaws.{Todo, begin, left-is, next-by, at-end, same}
 use Rattle.cells.proofs.CellLaws.{first-fits}

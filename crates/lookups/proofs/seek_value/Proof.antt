@@ -7,7 +7,7 @@ use lib.ListN.{length, take, drop}
 use Rattle.page.specs.Reading.{value-in}
 use Rattle.page.specs.Places.{Standing}
 use Rattle.page.proofs.ScanLaws.{part-length}
-use Rattle.tables.specs.Orders.{held}
+use Rattle.arrangement.specs.Orders.{held}
 use Rattle.places.proofs.PlaceLaws.{placed-is}
 use Rattle.lookups.proofs.seek_value.Statement.{statement}
 use Rattle.lookups.proofs.seek_value.Tie as tie

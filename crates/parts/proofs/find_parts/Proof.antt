@@ -9,7 +9,7 @@ use Rattle.page.specs.Order.{place}
 use Rattle.page.specs.Places.{field-place}
 use Rattle.page.proofs.FieldLaws.{end-in}
 use Rattle.page.proofs.TableLaws.{width-le}
-use Rattle.tables.specs.Orders.{held}
+use Rattle.arrangement.specs.Orders.{held}
 use Rattle.judging.proofs.StartLaws.{place-on}
 use Rattle.copies.proofs.ReadLaws.{field-begins}
 use Rattle.parts.proofs.PartLaws.{Placed, placed-more, placed-all}

@@ -1,7 +1,7 @@
 -- `values::value_in` meets its contract. Assumes nothing.
 use mathlib.Core.Path.{_∙_}
 use borrow.Author.Needs.{needs}
-use Rattle.tables.specs.Orders.{held}
+use Rattle.arrangement.specs.Orders.{held}
 use Rattle.values.proofs.StartLaws.{place-few, column-value}
 use Rattle.values.proofs.value_in.Statement.{statement}
 use Rattle.values.proofs.value_in.Tie as tie

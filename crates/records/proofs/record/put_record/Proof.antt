@@ -9,7 +9,7 @@ use Rattle.page.specs.Order.{by-column, column-in}
 use Rattle.page.specs.Records.{valuesOf}
 use Rattle.page.specs.Form.{record-form}
 use Rattle.page.proofs.OrderLaws.{columns-many}
-use Rattle.tables.specs.Orders.{held}
+use Rattle.arrangement.specs.Orders.{held}
 use Rattle.machine.proofs.SoundLaws.{passed-width, passed-wrong}
 use Rattle.output.proofs.PutLaws.{puts, put-as}
 use Rattle.copies.specs.Changed.{changed-values}

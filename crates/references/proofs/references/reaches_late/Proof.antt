@@ -1,5 +1,5 @@
 -- `references::references::reaches_late` meets its contract. Assumes nothing.
-use Rattle.references.specs.Aims.{reached}
+use Rattle.aims.specs.Aims.{reached}
 use Prim.Native.Nat.{_-_}
 use mathlib.Core.Path.{sym, _∙_}
 use borrow.Author.Needs.{needs}

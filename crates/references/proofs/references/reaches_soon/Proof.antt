@@ -1,5 +1,5 @@
 -- `references::references::reaches_soon` meets its contract. Assumes nothing.
-use Rattle.references.specs.Aims.{reached}
+use Rattle.aims.specs.Aims.{reached}
 use Prim.Native.Nat.{_-_}
 use borrow.Author.Needs.{needs}
 use Rattle.references.proofs.references.reaches_soon.Statement.{statement}
