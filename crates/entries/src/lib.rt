@@ -115,7 +115,7 @@ pub fn put_fields(
         (now (out .exit)) r ⌝ }
 {
     let n = find_width(t);
-    let starts = judging::find_starts(w, t);
+    let starts = starts::find_starts(w, t);
     let mut q = at;
     let mut k = 0;
     while k < n {

@@ -32,7 +32,8 @@ use Rattle.tables.specs.Arrays.{first-column, kinds, marks, lows, highs, Said}
 use Rattle.arrangement.specs.Orders.{held, Stands}
 use Rattle.tables.proofs.ArrayLaws.{said-column}
 use Rattle.arrangement.proofs.OrderLaws.{held-length, held-at, held-standing, held-column}
-use Rattle.judging.specs.Judging.{number-of, Kept, Numbers, Columns, Judged}
+use Rattle.rules.specs.Broken.{Kept, Columns}
+use Rattle.judging.specs.Judging.{number-of, Numbers, Judged}
 
 -- a field's refusal and what is kept of it are the same wherever it stands
 

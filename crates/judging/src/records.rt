@@ -10,9 +10,9 @@ ghost use Rattle.page.specs.Section.{fieldOf, field-number, empty-marked, rec-v
 ghost use Rattle.digits.specs.Runs.{field-from};
 ghost use Rattle.arrangement.specs.Orders.{held, Stands};
 ghost use Rattle.judging.specs.Judging.{number-of, Judged};
-use crate::rules::judge_rules;
 use page::Column;
 use page::Field;
+use rules::judge_rules;
 use tables::HIGHS;
 use tables::KINDS;
 use tables::LOWS;
