@@ -1,6 +1,5 @@
 -- `aims::find_place` meets its contract. Assumes nothing.
 use lib.ListN.{List·getD-eq-default, length}
-use Prim.Native.Nat.{_-_}
 use mathlib.Core.Path.{_≡_, sym}
 use native.Mathlib.Omega.{arith}
 use borrow.Author.Needs.{needs}

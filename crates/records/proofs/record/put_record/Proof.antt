@@ -10,7 +10,7 @@ use Rattle.page.specs.Records.{valuesOf}
 use Rattle.page.specs.Form.{record-form}
 use Rattle.page.proofs.OrderLaws.{columns-many}
 use Rattle.arrangement.specs.Orders.{held}
-use Rattle.machine.proofs.SoundLaws.{passed-width, passed-wrong}
+use Rattle.laws.proofs.Passed.{passed-width, passed-wrong}
 use Rattle.output.proofs.PutLaws.{puts, put-as}
 use Rattle.copies.specs.Changed.{changed-values}
 use Rattle.copies.specs.Planned.{record-by}
