@@ -6,7 +6,7 @@ ghost use Rattle.page.specs.Bytes.{pick};
 ghost use Rattle.page.specs.Tables.{WIDEST};
 ghost use Rattle.tables.specs.Keys.{by-key};
 ghost use Rattle.choices.specs.Choices.{total, rank, choice-of, key-choice, refer-choice};
-ghost use Rattle.tables.specs.Orders.{held, Orderly};
+ghost use Rattle.arrangement.specs.Orders.{held, Orderly};
 use tables::WIDEST;
 use tables::find_key;
 use tables::find_kinds;

@@ -27,8 +27,8 @@ use Rattle.calls.specs.Handed.{StandsFor, a-number, no-number, a-text}
 use Rattle.round.proofs.Round.{accepted-sections}
 use Rattle.calls.proofs.CallNumbers.{value-given}
 use Rattle.calls.proofs.Handed.{value-says}
-use Rattle.values.proofs.ValueLaws.{inside}
-use Rattle.handing.specs.Own.{Spans}
+use Rattle.lookups.proofs.LookupLaws.{inside}
+use Rattle.texts.specs.Own.{Spans}
 use Rattle.handing.proofs.PassLaws.{every-at}
 use Rattle.handing.proofs.TextLaws.{value-spans}
 use Rattle.fills.specs.Filling.{empty-value, text-number, fill-number}

@@ -36,7 +36,7 @@ fn refuse_fill(s: &[u8], section: usize, record: usize, field: usize, text: &[u8
     if verdict.number != 0 {
         return verdict;
     }
-    match values::value(s, section, record, field) {
+    match lookups::value(s, section, record, field) {
         Got::Is(v) => Refusal {
             number: judge_fill(s, section, field, v, text),
             section: 0,

@@ -4,7 +4,7 @@ ghost use lib.ListN.{length};
 ghost use Rattle.page.specs.Bytes.{bytes};
 ghost use Rattle.page.specs.Tables.{table-at, column-at};
 ghost use Rattle.page.specs.Form.{format-text, table-head};
-ghost use Rattle.tables.specs.Words.{LETTERS, word};
+ghost use Rattle.words.specs.Words.{LETTERS, word};
 ghost use Rattle.output.specs.Put.{Put};
 ghost use Rattle.frames.specs.Lines.{line-with};
 ghost use Rattle.frames.specs.Titles.{tbl-line, title-at, titles};
@@ -17,10 +17,10 @@ use page::LineEnd;
 use tables::NAMES;
 use tables::find_size;
 use tables::find_width;
-use tables::find_word;
 use tables::is_text;
-use tables::look_name;
-use tables::look_title;
+use words::find_word;
+use words::look_name;
+use words::look_title;
 
 fn put_word(out: &mut [u8], at: usize, n: usize) -> usize
     requires { ⌜ at + LETTERS < 2 ^ 62 ⌝ }

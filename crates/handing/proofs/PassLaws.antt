@@ -16,7 +16,8 @@ use Rattle.page.specs.Places.{record-at}
 use Rattle.page.specs.Rules.{Every, one-more}
 use Rattle.page.proofs.OrderLaws.{arranged-long, place-in, standing-length, standing-column, none-wrong}
 use Rattle.laws.specs.Begins.{begins}
-use Rattle.machine.proofs.SoundLaws.{sound-passed, passed-width, passed-wrong}
+use Rattle.laws.proofs.Passed.{passed-width, passed-wrong}
+use Rattle.machine.proofs.SoundLaws.{sound-passed}
 
 -- the field of a column, in a record that passed
 module _ (t : ℕ) (o : Order) (m : ℕ) (fs : List Bytes) (a : arranged (width t) o ≡ true) (e : rec-verdict t o m fs ≡ 0) (c : ℕ) (h : c < width t) where

@@ -17,8 +17,8 @@ use Rattle.page.specs.Head.{latinOf}
 use Rattle.page.specs.Section.{Wording, wordsOf, record-text, fieldOf, field-number, rec-verdict, outcome}
 use Rattle.page.specs.Records.{table-of, order-in}
 use Rattle.page.specs.Places.{Standing, field-span}
-use Rattle.page.specs.Answers.{refusal, earlier, refuse-if, got, written, handed}
-use Rattle.page.specs.Writing.{put-refusal, putOf, put-after}
+use Rattle.page.specs.Answers.{refusal, earlier, refuse-if, got, handed}
+use Rattle.page.specs.Writing.{put-refusal, put-after}
 use Rattle.page.specs.File.{limit, header-refusal, row-of, rowOf}
 use Rattle.page.specs.Reading.{no-section, outside, section-at, row-at, find-refusal, verdict-of, value-refusal, later-field, field-at, valued, value-in, record-of, value-at}
 use Rattle.page.specs.Handing.{text-refusal, place-of, own-text, text-owner, copied, textOut, text-after}
@@ -28,7 +28,6 @@ use Rattle.page.specs.declared.Field.{Field}
 use Rattle.page.specs.declared.Row.{Row}
 use Rattle.page.specs.declared.Value.{Value}
 use Rattle.page.specs.declared.Got.the-variants as G
-use Rattle.page.specs.declared.Written.the-variants as W
 use Rattle.page.specs.declared.Owner.{Owner}
 use Rattle.page.specs.declared.Handed.{Handed}
 use Rattle.page.specs.declared.Handed.the-variants as Ha
@@ -40,11 +39,12 @@ use Rattle.page.proofs.CutLaws.{Stands, section-stands, section-within, section
 use Rattle.laws.specs.Begins.{begins}
 use Rattle.laws.proofs.Sections.{sections-begin}
 use Rattle.values.proofs.ReadLaws.{Read, a-text, a-number, no-number, no-value, read-of, wording-in}
-use Rattle.values.proofs.ValueLaws.{inside}
+use Rattle.lookups.proofs.LookupLaws.{inside}
 use Rattle.doubling.specs.Raw.{undoubled}
 use Rattle.doubling.proofs.TextLaws.{undoubled-doubled}
 use Rattle.output.proofs.WriteLaws.{refused}
-use Rattle.handing.specs.Own.{Lies, Spans, owned, Gave}
+use Rattle.texts.specs.Own.{Lies, Spans, owned, Gave}
+use Rattle.texts.proofs.OwnerLaws.{owned-put}
 use Rattle.handing.proofs.PassLaws.{passed-there, passed-right, section-passed, every-at}
 use Rattle.handing.proofs.StandLaws.{Lain, record-lain}
 use Rattle.page.proofs.TestLaws.{neither}
@@ -81,15 +81,6 @@ verdict-none i x e = by (eqb (x .verdict) 0) refl
     by : (b : Bool) → eqb (x .verdict) 0 ≡ b → x .verdict ≡ 0
     by true q = eqb-true (x .verdict) 0 q
     by false q = rw q at e
-
--- a text's owner, told beside what was written of it
-pub owned-put : (o : Owner) (r : Refusal) (form : Bytes) (room : ℕ) → owned o (putOf r form room) ≡ handed (put-refusal r form room) (copied form o)
-unfolding putOf written handed
-owned-put o r form room = by (eqb (put-refusal r form room .number) 0)
-  where
-    by : (b : Bool) → owned o (pick b (W.Length (length form)) (W.Refused (put-refusal r form room))) ≡ pick b (Ha.Is (copied form o)) (Ha.Refused (put-refusal r form room))
-    by true = refl
-    by false = refl
 
 -- what is refused before there is any writing
 refused-text : (o : Owner) (r : Refusal) (form l : Bytes) → (r .number ≡ 0 → ⊥)

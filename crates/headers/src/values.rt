@@ -1,6 +1,6 @@
 // A header's values: `h` is the header's bytes, and every line that is missing counts as one of no fields.
 ghost use mathlib.Core.Path.{_≡_};
-ghost use Prim.Native.Nat.{_-_, _≤_, _<_};
+ghost use Prim.Native.Nat.{_≤_, _<_};
 ghost use lib.ListN.{length};
 ghost use Rattle.page.specs.Lines.{lines, Src};
 ghost use Rattle.page.specs.Cut.{header-lines};

@@ -1,3 +1,1 @@
 pub mod RecordLaws
-pub mod RuleLaws
-pub mod StartLaws

@@ -29,10 +29,11 @@ use Rattle.page.proofs.OrderLaws.{arranged-below, place-in, place-at, by-column
 use Rattle.page.proofs.FieldLaws.{from, from-end}
 use Rattle.fields.proofs.ColumnLaws.{no-number, column-asked}
 use Rattle.tables.specs.Arrays.{first-column, kinds, marks, lows, highs, Said}
-use Rattle.tables.specs.Orders.{held, Stands}
+use Rattle.arrangement.specs.Orders.{held, Stands}
 use Rattle.tables.proofs.ArrayLaws.{said-column}
-use Rattle.tables.proofs.OrderLaws.{held-length, held-at, held-standing, held-column}
-use Rattle.judging.specs.Judging.{number-of, Kept, Numbers, Columns, Judged}
+use Rattle.arrangement.proofs.OrderLaws.{held-length, held-at, held-standing, held-column}
+use Rattle.rules.specs.Broken.{Kept, Columns}
+use Rattle.judging.specs.Judging.{number-of, Numbers, Judged}
 
 -- a field's refusal and what is kept of it are the same wherever it stands
 

@@ -1,7 +1,4 @@
-// A record judged: its fields, its table's rules, its mark; and where its fields begin.
+// A record judged: its fields, its table's rules, its mark.
 mod records;
-mod rules;
-mod starts;
 
 pub use records::judge_record;
-pub use starts::find_starts;

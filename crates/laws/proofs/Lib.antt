@@ -6,3 +6,4 @@ pub mod Sections
 pub mod Stages
 pub mod Earlier
 pub mod Numbers
+pub mod Passed

@@ -10,11 +10,11 @@ use borrow.Author.Tests.{eqb-true, eqb-false, eq-eqb}
 use Rattle.page.specs.Bytes.{Bytes}
 use Rattle.page.specs.Lines.{content, blank, command, rest, Tbl, Atr, Frm, Rec, End, Com, Missing}
 use Rattle.page.specs.Fields.{fields, numberOf}
-use Rattle.page.specs.Tables.{table-named, width}
-use Rattle.page.specs.Order.{Order, order-of, standing}
+use Rattle.page.specs.Tables.{table-named}
+use Rattle.page.specs.Order.{Order, order-of}
 use Rattle.page.specs.Marks.{remarkOf}
 use Rattle.page.specs.Cut.{begins-table}
-use Rattle.page.specs.Section.{choose, tbl-step, atr-step, frm-step, rec-verdict, rec-step, count-step, end-step, mark-step, com-step, line-step, content-step, step, order-after, table-in, finish, continue, run, outcome, first-wrong}
+use Rattle.page.specs.Section.{choose, tbl-step, atr-step, frm-step, rec-verdict, rec-step, count-step, end-step, mark-step, com-step, line-step, content-step, step, order-after, table-in, finish, continue, run, outcome}
 use Rattle.page.specs.Records.{waits, table-of, atr-in, order-in}
 use Rattle.page.specs.Places.{stands, record-at}
 use Rattle.page.specs.declared.Number.{Number}
@@ -216,22 +216,3 @@ module _ (latin : Bool) (l : Bytes) (ls : List Bytes) (r at : ℕ) where
   sound-passed b e h =
       let k : command (content l) ≡ Tbl = eqb-true (command (content l)) Tbl b in
       after-first (step latin P.Tbl [] l) (first-step latin l k) (rw k) (rw k) (atr (order-due k)) e h
-
--- a record that passed has a field for each column, and none of them is wrong
-
-module _ (t : ℕ) (o : Order) (m : ℕ) (fs : List Bytes) (e : rec-verdict t o m fs ≡ 0) where
-  pub passed-width : length fs ≡ width t
-  unfolding rec-verdict
-  passed-width = by (eqb (length fs) (width t)) refl
-    where
-      by : (b : Bool) → eqb (length fs) (width t) ≡ b → length fs ≡ width t
-      by true q = eqb-true (length fs) (width t) q
-      by false q = absurd (let z : _≡_ {A = ℕ} 10 0 = rw q at e in omega arith)
-
-  pub passed-wrong : first-wrong (standing t o) fs ≡ 0
-  unfolding rec-verdict
-  passed-wrong = by (eqb (first-wrong (standing t o) fs) 0) refl
-    where
-      by : (b : Bool) → eqb (first-wrong (standing t o) fs) 0 ≡ b → first-wrong (standing t o) fs ≡ 0
-      by true q = eqb-true (first-wrong (standing t o) fs) 0 q
-      by false q = rw (eq-eqb (length fs) (width t) passed-width, q) at e

@@ -10,7 +10,7 @@ use Rattle.page.specs.Order.{Order, order-of, arranged}
 use Rattle.page.specs.Section.{order-after}
 use Rattle.page.specs.declared.Phase.{Phase}
 use Rattle.page.specs.declared.Phase.the-variants as P
-use Rattle.tables.specs.Orders.{held, Stands}
+use Rattle.arrangement.specs.Orders.{held, Stands}
 
 unfoldable pub records-in : Phase → ℕ
 records-in P.Tbl = 0

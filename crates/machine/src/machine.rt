@@ -10,7 +10,7 @@ ghost use Rattle.page.specs.Section.{choose, tbl-step, frm-step, rec-step, mark
 ghost use Rattle.page.specs.declared.Phase.{Phase};
 ghost use Rattle.page.specs.declared.Phase.the-variants as P;
 ghost use Rattle.page.specs.declared.Step.the-variants as S;
-ghost use Rattle.tables.specs.Orders.{held, Orderly, Stands};
+ghost use Rattle.arrangement.specs.Orders.{held, Orderly, Stands};
 ghost use Rattle.machine.specs.Carries.{records-in, order-at, Carries, Found, Carried};
 use counts::step_end;
 use judging::judge_record;
@@ -77,7 +77,7 @@ pub fn step_mark(p: Phase, o: &[u8; WIDEST], i: u64) -> Step
         Phase::Atr(_) => Step::Stop(15),
         Phase::Frm(_) => Step::Stop(15),
         Phase::Rows(t, m, n) => {
-            if !tables::may_mark(t, o, i) {
+            if !arrangement::may_mark(t, o, i) {
                 return Step::Stop(15);
             }
             if m < i {

@@ -17,9 +17,9 @@ use Rattle.page.specs.Grammar.{Arrangement}
 use Rattle.page.proofs.TableLaws.{width-le}
 use Rattle.page.proofs.ArrangeLaws.{order-length, arrangement-arranged}
 use Rattle.tables.specs.Arrays.{fill}
-use Rattle.tables.specs.Orders.{held, Orderly}
+use Rattle.arrangement.specs.Orders.{held, Orderly}
 use Rattle.tables.proofs.ArrayLaws.{fill-length, fill-none}
-use Rattle.tables.proofs.OrderLaws.{held-length, held-at, listed-orderly}
+use Rattle.arrangement.proofs.OrderLaws.{held-length, held-at, listed-orderly}
 use Rattle.names.specs.Told.{column-named, Told}
 use Rattle.names.proofs.ToldLaws.{order-at}
 

@@ -18,8 +18,8 @@ use Rattle.page.proofs.LineLaws.{lines-end}
 use Rattle.page.proofs.FieldLaws.{from, from-more, from-end}
 use Rattle.page.proofs.OrderLaws.{arranged-long, arranged-below}
 use Rattle.page.proofs.ArrangeLaws.{name-found, order-length, arranged-arrangement}
-use Rattle.tables.specs.Orders.{held}
-use Rattle.tables.proofs.OrderLaws.{listed-stands}
+use Rattle.arrangement.specs.Orders.{held}
+use Rattle.arrangement.proofs.OrderLaws.{listed-stands}
 use Rattle.names.specs.Told.{column-named, Told}
 
 abbrev pub names : ℕ → List String

@@ -7,7 +7,7 @@ use Rattle.page.specs.Bytes.{Bytes}
 use Rattle.page.specs.Lines.{find}
 use Rattle.page.specs.Tables.{Named, columns, width}
 use Rattle.page.specs.Order.{order-of, arranged}
-use Rattle.tables.specs.Orders.{held, Stands}
+use Rattle.arrangement.specs.Orders.{held, Stands}
 
 -- the column of table t that a field names; one past the last, if it names none
 abbrev pub column-named : ℕ → Bytes → ℕ

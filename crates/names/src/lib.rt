@@ -5,8 +5,8 @@ ghost use Rattle.page.specs.Tables.{name-at, table-named};
 ghost use Rattle.page.specs.Order.{standing};
 ghost use Rattle.page.specs.Fields.{fields};
 ghost use Rattle.page.specs.Section.{formats-ok};
-ghost use Rattle.tables.specs.Orders.{held, Orderly};
-ghost use Rattle.tables.specs.Words.{word};
+ghost use Rattle.arrangement.specs.Orders.{held, Orderly};
+ghost use Rattle.words.specs.Words.{word, row};
 
 mod formats;
 mod orders;
@@ -19,13 +19,15 @@ use tables::NAMES;
 use tables::TABLES;
 use tables::WIDEST;
 use tables::find_width;
-use tables::find_word;
 use tables::is_text;
-use tables::look_name;
-use tables::look_title;
 pub use titles::table_at;
+use words::find_word;
+use words::look_name;
+use words::look_title;
 
-pub fn is_word(f: &[u8], n: usize) -> bool
+// `letters` are those of all names: whoever compares many names asks for them once.
+pub fn is_word(letters: &[u8], f: &[u8], n: usize) -> bool
+    requires { ⌜ now letters ≡ row ⌝ }
     ensures { λ r. ⌜ r ≡ same (now (f .entry)) (bytes (word n)) ⌝ }
 {
     let sp = find_word(n);
@@ -34,23 +36,24 @@ pub fn is_word(f: &[u8], n: usize) -> bool
     if f.len() != e - a {
         return false;
     }
-    let names = NAMES;
-    lines::equal(f, &names[a..e])
+    lines::equal(f, &letters[a..e])
 }
 
-pub fn is_name(f: &[u8], t: usize, k: usize) -> bool
+pub fn is_name(letters: &[u8], f: &[u8], t: usize, k: usize) -> bool
+    requires { ⌜ now letters ≡ row ⌝ }
     ensures { λ r. ⌜ r ≡ same (now (f .entry)) (bytes (name-at t k)) ⌝ }
 {
-    is_word(f, look_name(t, k))
+    is_word(letters, f, look_name(t, k))
 }
 
 // A table by its name; past the last, if no table has it.
 pub fn find_table(w: &[u8]) -> usize
     ensures { λ r. ⌜ r ≡ table-named (now (w .entry)) ⌝ }
 {
+    let letters = NAMES;
     let mut t: usize = 0;
     while t < TABLES {
-        if is_word(w, look_title(t)) {
+        if is_word(&letters, w, look_title(t)) {
             return t;
         }
         t += 1;

@@ -7,12 +7,14 @@ ghost use Rattle.page.specs.Fields.{fields};
 ghost use Rattle.page.specs.Tables.{WIDEST, width};
 ghost use Rattle.page.specs.Order.{upto, order-of, arranged};
 ghost use Rattle.page.specs.Records.{atr-in};
+ghost use Rattle.words.specs.Words.{row};
 ghost use Rattle.names.specs.Told.{column-named, Told};
 use crate::is_name;
+use arrangement::list_columns;
 use lines::Cursor;
+use tables::NAMES;
 use tables::WIDEST;
 use tables::find_width;
-use tables::list_columns;
 
 // What an `atr` line says: whether it arranges the table's columns, and which stands where; document 01's own order, if it does not.
 pub struct Arranged {
@@ -31,17 +33,17 @@ fn refuse_names() -> Arranged
 }
 
 // The column that a field names; past the last, if it names none. Column k is tried first: most files have document 01's own order.
-fn find_column(f: &[u8], t: usize, k: usize) -> usize
-    requires { ⌜ k < width t ⌝ }
+fn find_column(letters: &[u8], f: &[u8], t: usize, k: usize) -> usize
+    requires { ⌜ (now letters ≡ row) × (k < width t) ⌝ }
     ensures { λ r. ⌜ r ≡ column-named t (now (f .entry)) ⌝ }
 {
-    if is_name(f, t, k) {
+    if is_name(letters, f, t, k) {
         return k;
     }
     let n = find_width(t);
     let mut i: usize = 0;
     while i < n {
-        if is_name(f, t, i) {
+        if is_name(letters, f, t, i) {
             return i;
         }
         i += 1;
@@ -55,6 +57,7 @@ pub fn arrange(w: &[u8], t: usize) -> Arranged
         ⌜ (r .found ≡ arranged (width t) (order-of t (fields (now (w .entry)))))
         × Told t (fields (now (w .entry))) (r .order) ⌝ }
 {
+    let letters = NAMES;
     let n = find_width(t);
     let mut o = list_columns();
     let mut seen = [false; WIDEST];
@@ -65,7 +68,7 @@ pub fn arrange(w: &[u8], t: usize) -> Arranged
             return refuse_names();
         }
         let e = commands::field_end(w, at);
-        let c = find_column(lines::trimmed(&w[at..e]), t, k);
+        let c = find_column(&letters, lines::trimmed(&w[at..e]), t, k);
         if n <= c {
             return refuse_names();
         }

@@ -6,7 +6,7 @@ use Prim.Native.Nat.{ℕ, _+_, _≤_, _<_}
 use lib.Dec.{eqb}
 use lib.ListN.{length, getD}
 use Rattle.page.specs.Bytes.{Bytes, pick}
-use Rattle.page.specs.Lines.{lines, content, blank, command, clean, Mod, Src, Chs, Ver, Ifv, Dve, Fft, Com}
+use Rattle.page.specs.Lines.{content, blank, command, clean, Mod, Src, Chs, Ver, Ifv, Dve, Fft, Com}
 use Rattle.page.specs.Fields.{numberOf}
 use Rattle.page.specs.Tables.{Reference, columns, table-at}
 use Rattle.page.specs.Cut.{Section, sections, header-lines, trailer-lines}

@@ -18,8 +18,8 @@ use Rattle.page.specs.Form.{separated}
 use Rattle.page.proofs.OrderLaws.{place-in, place-at, by-column-length, by-column-at, columns-many, sound-by-column}
 use Rattle.page.proofs.FieldLaws.{end-in}
 use Rattle.digits.specs.Runs.{field-from}
-use Rattle.tables.specs.Orders.{held, Stands}
-use Rattle.tables.proofs.OrderLaws.{held-length, held-at}
+use Rattle.arrangement.specs.Orders.{held, Stands}
+use Rattle.arrangement.proofs.OrderLaws.{held-length, held-at}
 use Rattle.copies.specs.Parts.{Ends, fields-form, stands}
 use Rattle.copies.proofs.FieldLaws.{fields-cons}
 use Rattle.copies.proofs.ReadLaws.{field-begins, field-there}

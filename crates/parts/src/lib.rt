@@ -10,7 +10,7 @@ ghost use Rattle.page.specs.Tables.{width};
 ghost use Rattle.page.specs.Order.{by-column};
 ghost use Rattle.page.specs.Form.{separated};
 ghost use Rattle.output.specs.Put.{Put};
-ghost use Rattle.tables.specs.Orders.{held, Stands};
+ghost use Rattle.arrangement.specs.Orders.{held, Stands};
 ghost use Rattle.parts.specs.Parted.{Parted};
 use copies::written_end;
 use output::put_byte;

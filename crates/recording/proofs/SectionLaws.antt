@@ -23,7 +23,7 @@ use Rattle.page.specs.declared.LineEnd.{LineEnd}
 use Rattle.page.specs.declared.Stays.{Stays}
 use Rattle.page.proofs.LineLaws.{line-size, cut-at, lines-end}
 use Rattle.page.proofs.TestLaws.{and-left, and-right}
-use Rattle.tables.specs.Orders.{held}
+use Rattle.arrangement.specs.Orders.{held}
 use Rattle.names.specs.Told.{Told}
 use Rattle.names.proofs.ToldLaws.{told-order}
 use Rattle.cut.specs.Walk.{section-size, section-from}

@@ -10,11 +10,12 @@ ghost use Rattle.page.specs.Order.{listed-order};
 ghost use Rattle.page.specs.Section.{rec-verdict};
 ghost use Rattle.page.specs.Records.{table-of};
 ghost use Rattle.output.specs.Put.{Put};
-ghost use Rattle.tables.specs.Orders.{held, Stands};
+ghost use Rattle.arrangement.specs.Orders.{held, Stands};
 ghost use Rattle.copies.specs.Changed.{kept-records};
 ghost use Rattle.copies.specs.Planned.{records-by, content-by};
 ghost use Rattle.records.specs.Row.{row};
 ghost use Rattle.recording.specs.Said.{rows-of, passes, passing, said};
+use arrangement::is_listed;
 use copies::Plan;
 use copies::does_stay;
 use copies::plan_record;
@@ -23,7 +24,6 @@ use frames::put_table_head;
 use lines::Cursor;
 use records::put_record;
 use tables::WIDEST;
-use tables::is_listed;
 
 // How far the writing has come, and how many records or sections were written.
 pub struct Progress {

@@ -1,3 +1,1 @@
-pub mod LostLaws
-pub mod AimLaws
 mod RecentLaws

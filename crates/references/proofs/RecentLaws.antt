@@ -6,9 +6,9 @@ use borrow.Author.Tests.{eqb-true}
 use lib.Dec.{eqb}
 use Rattle.page.specs.Bytes.{Bytes, pick}
 use Rattle.keys.specs.declared.key.Key.{Key}
-use Rattle.references.specs.Aims.{aim-at, reached}
+use Rattle.aims.specs.Aims.{aim-at, reached}
 use Rattle.references.specs.Recently.{Recently}
-use Rattle.references.specs.declared.aims.Aims.{Aims}
+use Rattle.aims.specs.declared.Aims.{Aims}
 use Rattle.references.specs.declared.references.Recent.{Recent}
 
 is-met : (b : Bool) → not b ≡ false → b ≡ true

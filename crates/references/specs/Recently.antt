@@ -2,8 +2,8 @@
 use mathlib.Core.Path.{_≡_}
 use mathlib.Core.Bool.{true}
 use Rattle.page.specs.Bytes.{Bytes}
-use Rattle.references.specs.Aims.{aim-at, reached}
-use Rattle.references.specs.declared.aims.Aims.{Aims}
+use Rattle.aims.specs.Aims.{aim-at, reached}
+use Rattle.aims.specs.declared.Aims.{Aims}
 use Rattle.references.specs.declared.references.Recent.{Recent}
 
 -- a record has the key that was met

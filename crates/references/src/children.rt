@@ -3,10 +3,10 @@
 ghost use Prim.Native.Nat.{_≤_};
 ghost use lib.ListN.{length};
 ghost use Rattle.page.specs.Tables.{MOST};
-ghost use Rattle.references.specs.Aims.{Within};
-use crate::aims::Aim;
-use crate::aims::Aims;
-use crate::aims::find_aim;
+ghost use Rattle.aims.specs.Aims.{Within};
+use aims::Aim;
+use aims::Aims;
+use aims::find_aim;
 use choices::Choice;
 use guesses::Known;
 use guesses::add_place;

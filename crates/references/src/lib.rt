@@ -1,5 +1,4 @@
 // 20: "a reference finds no record".
-mod aims;
 mod children;
 mod references;
 

@@ -23,7 +23,7 @@ use Rattle.page.proofs.CutLaws.{no-section}
 use Rattle.page.proofs.KeyLaws.{any-append, faulty, record-none}
 use Rattle.page.proofs.FileLaws.{repeats-by-section}
 use Rattle.choices.specs.declared.Choice.{Choice}
-use Rattle.tables.specs.Orders.{held}
+use Rattle.arrangement.specs.Orders.{held}
 use Rattle.tables.specs.Keys.{by-key}
 use Rattle.choices.specs.Choices.{key-choice}
 use Rattle.names.specs.Told.{Told}

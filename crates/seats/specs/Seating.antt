@@ -14,7 +14,7 @@ use Rattle.page.specs.Records.{table-of, atr-in, order-in}
 use Rattle.page.specs.Answers.{sound}
 use Rattle.page.specs.File.{rowsOf, first-unsound, first-again}
 use Rattle.page.specs.declared.Refusal.{Refusal}
-use Rattle.tables.specs.Orders.{held, Stands}
+use Rattle.arrangement.specs.Orders.{held, Stands}
 use Rattle.names.specs.Told.{Told}
 use Rattle.page.proofs.CutLaws.{no-section}
 use Rattle.seats.specs.declared.seating.Columns.{Columns}

@@ -1,6 +1,6 @@
 -- One section of a file, and what a call answers for it. Assumes nothing.
 use mathlib.Core.Path.{_≡_, sym}
-use Prim.Native.Nat.{ℕ, _-_}
+use Prim.Native.Nat.{ℕ}
 use borrow.Author.Tests.{ne-eqb}
 use Rattle.page.specs.Bytes.{Bytes}
 use Rattle.page.specs.Answers.{listed}

@@ -1,6 +1,5 @@
 // What the call that reads one section answers.
 ghost use mathlib.Core.Path.{_≡_};
-ghost use Prim.Native.Nat.{_-_};
 ghost use Rattle.page.specs.Reading.{sectionOf};
 use crate::reading::read_section;
 use crate::walk::Located;

@@ -1,11 +1,12 @@
 // A section read from its bytes.
 ghost use mathlib.Core.Path.{_≡_};
-ghost use Prim.Native.Nat.{_+_, _<_};
+ghost use Prim.Native.Nat.{_<_};
 ghost use lib.ListN.{length};
 ghost use Rattle.page.specs.Lines.{lines};
 ghost use Rattle.page.specs.Section.{table-in, refused, finish, outcome};
 ghost use Rattle.page.specs.File.{rowOf};
 ghost use Rattle.cut.specs.Walk.{section-from};
+use arrangement::list_columns;
 use cut::section_end;
 use lines::Cursor;
 use machine::step;
@@ -14,7 +15,6 @@ use page::Phase;
 use page::Row;
 use page::Step;
 use tables::find_number;
-use tables::list_columns;
 
 // "Table number is 0 if the `tbl` line fails."
 fn table_in(p: Phase) -> u32

@@ -1,4 +1,2 @@
 pub mod ArrayLaws
-pub mod WordLaws
 pub mod ReferenceLaws
-pub mod OrderLaws

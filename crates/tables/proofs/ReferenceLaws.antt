@@ -32,11 +32,23 @@ unfoldable pub flagged : ℕ → List Bool → List ℕ
 flagged i [] = []
 flagged i (b ∷ bs) = pick b (i ∷ flagged (suc i) bs) (flagged (suc i) bs)
 
--- the columns of each reference rise, and are columns
+-- the columns of each reference rise, and are columns: computed of the tables as they stand, since unfolded over a reference that is not
+-- known each place would double the term
+
+unfoldable rising : List ℕ → Bool
+rising ks = same (flagged 0 (flags WIDEST 0 ks)) ks
+
+none-rise : rising [] ≡ true
+unfolding rising flags flagged same any
+none-rise = refl
+
+all-rise : each (λ (x : Table). each (λ (y : Reference). rising (y .columns)) (x .references)) all-tables ≡ true
+unfolding rising all-tables each flags flagged same any
+all-rise = refl
+
 pub flags-columns : (t r : ℕ) → flagged 0 (flags WIDEST 0 (reference-at t r .columns)) ≡ reference-at t r .columns
-unfolding all-tables each flags flagged same any
-flags-columns t r =
-    same-true _ _ (reference-test (λ x (y : Reference). same (flagged 0 (flags WIDEST 0 (y .columns))) (y .columns)) (λ x. refl) refl t r)
+unfolding rising
+flags-columns t r = same-true _ _ (reference-test (λ x (y : Reference). rising (y .columns)) (λ x. none-rise) all-rise t r)
 
 -- how many columns a key has
 unfoldable pub count : (Column → Bool) → List Named → ℕ

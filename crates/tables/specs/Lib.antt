@@ -1,4 +1,2 @@
 pub mod Arrays
-pub mod Words
 pub mod Keys
-pub mod Orders

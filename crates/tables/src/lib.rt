@@ -2,13 +2,12 @@
 // The tables stand in the order of document 01, those of document 02 after them, and the columns of all tables one after the other:
 // column k of table t, both from 0, is at FIRSTS[t] + k.
 mod columns;
-mod names;
-mod order;
 mod references;
 
 pub use columns::Rules;
 pub use columns::column_of;
 pub use columns::find_column;
+pub use columns::find_entry;
 pub use columns::find_first;
 pub use columns::find_kinds;
 pub use columns::find_number;
@@ -17,14 +16,6 @@ pub use columns::find_size;
 pub use columns::find_width;
 pub use columns::is_fillable;
 pub use columns::is_text;
-pub use names::find_word;
-pub use names::look_name;
-pub use names::look_title;
-pub use order::column_in;
-pub use order::find_place;
-pub use order::is_listed;
-pub use order::list_columns;
-pub use order::may_mark;
 pub use references::count_references;
 pub use references::find_key;
 pub use references::find_reference;
@@ -306,9 +297,9 @@ pub const NAMES: [u8; LETTERS] = *b"BASIS_VERSION\
     REC_UMS";
 
 // Where each name begins, after a name of no bytes; the last ends where they all do.
-const WORDS: usize = 73;
+pub const WORDS: usize = 73;
 
-const STARTS: [u16; 74] = [
+pub const STARTS: [u16; 74] = [
     0,
     0,
     13,
@@ -383,28 +374,4 @@ const STARTS: [u16; 74] = [
     819,
     834,
     841,
-];
-
-// The columns of each table in the order of the documents.
-const LISTED: [u8; WIDEST] = [
-    0,
-    1,
-    2,
-    3,
-    4,
-    5,
-    6,
-    7,
-    8,
-    9,
-    10,
-    11,
-    12,
-    13,
-    14,
-    15,
-    16,
-    17,
-    18,
-    19,
 ];

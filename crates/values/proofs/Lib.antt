@@ -1,4 +1,2 @@
-pub mod PlaceLaws
 pub mod ReadLaws
 pub mod StartLaws
-pub mod ValueLaws

@@ -26,8 +26,8 @@ use Rattle.page.proofs.ScanLaws.{part-length}
 use Rattle.page.proofs.FieldLaws.{from, from-more, from-end, from-all, end-in, field-end, head-left, none-left, place-left, span-in, span-part}
 use Rattle.page.proofs.TableLaws.{width-le}
 use Rattle.fields.proofs.ColumnLaws.{column-asked}
-use Rattle.tables.specs.Orders.{held, Orderly}
-use Rattle.tables.proofs.OrderLaws.{held-length}
+use Rattle.arrangement.specs.Orders.{held, Orderly}
+use Rattle.arrangement.proofs.OrderLaws.{held-length}
 use Rattle.values.specs.Values.{Fits}
 use Rattle.values.proofs.ReadLaws.{Read, a-text, a-number, no-number, no-value, read-of, wording-in}
 

@@ -47,7 +47,7 @@ pub extern "C" fn vdv_table(file: &[u8], section: usize, cells: &mut [u64]) -> L
         ⌜ (r ≡ told-written (tableOf (now (file .entry)) section (length (now (cells .entry)))))
         × (now (cells .exit) ≡ cells-after (now (file .entry)) section (now (cells .entry))) ⌝ }
 {
-    tell_length(cells::table(file, section, cells))
+    tell_length(grids::table(file, section, cells))
 }
 
 // "Only a file with verdict 0 is written; else its verdict is given."

@@ -37,5 +37,5 @@ pub extern "C" fn vdv_section(file: &[u8], section: usize) -> RowAnswer
 pub extern "C" fn vdv_value(file: &[u8], section: usize, record: usize, field: usize) -> ValueAnswer
     ensures { λ r. ⌜ r ≡ told-got (valueOf (now (file .entry)) section «record» field) ⌝ }
 {
-    tell_value(values::value(file, section, record, field))
+    tell_value(lookups::value(file, section, record, field))
 }

@@ -9,7 +9,7 @@ use borrow.Author.Tests.{eqb-true, eqb-false, ne-eqb, ltb-true, ltb-false}
 use lib.Dec.{eqb, ltb}
 use lib.ListN.{length, getD, take, drop, length-take}
 use Rattle.page.specs.Bytes.{Bytes, pick, until, part, moved}
-use Rattle.page.specs.Lines.{lines, joined, content-size, content, command, rest, semicolon, Src, Ver, Ifv, Dve, Fft}
+use Rattle.page.specs.Lines.{lines, joined, content-size, content, command, semicolon, Src, Ver, Ifv, Dve, Fft}
 use Rattle.page.specs.Fields.{fields, textOf}
 use Rattle.page.specs.Cut.{header-lines}
 use Rattle.page.specs.Header.{is-text}

@@ -7,7 +7,7 @@ use native.Mathlib.Omega.{arith}
 use lib.Dec.{eqb}
 use lib.ListN.{length, getD}
 use Rattle.page.specs.Bytes.{Bytes}
-use Rattle.page.specs.Lines.{rest, Mod, Src, Chs, Ver, Ifv, Dve, Fft, Com, Missing}
+use Rattle.page.specs.Lines.{Mod, Src, Chs, Ver, Ifv, Dve, Fft, Com, Missing}
 use Rattle.page.specs.Fields.{fields, textOf}
 use Rattle.page.specs.Header.{is-text, text-ok, holds}
 use Rattle.page.specs.Places.{line-of}

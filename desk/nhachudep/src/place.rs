@@ -26,7 +26,7 @@ const OWNER_WRITES: u32 = 0o200;
 /// What stands under a name.
 pub enum Place {
     Free(PathBuf),
-    File(Held),
+    File(Box<Held>),
     /// Devices and pipes are written to, never replaced.
     Device(PathBuf),
 }
@@ -37,7 +37,9 @@ impl Place {
         // A link goes on leading to the file behind it.
         let path = name.canonicalize().unwrap_or(name.to_path_buf());
         match fs::metadata(&path) {
-            Ok(found) if found.is_file() => Held::take(path).map(Place::File),
+            Ok(found) if found.is_file() => {
+                Held::take(path).map(|held| Place::File(Box::new(held)))
+            }
             Ok(_) => Ok(Place::Device(path)),
             Err(error) if error.kind() == ErrorKind::NotFound => Ok(Place::Free(path)),
             Err(error) => Err(error),

@@ -8,8 +8,8 @@ use lib.ListN.{length, getD}
 use Rattle.page.specs.Tables.{width, column-at}
 use Rattle.page.proofs.TableLaws.{width-le}
 use Rattle.choices.specs.Choices.{kind-of}
-use Rattle.tables.specs.Orders.{held}
-use Rattle.tables.proofs.OrderLaws.{held-length, held-at}
+use Rattle.arrangement.specs.Orders.{held}
+use Rattle.arrangement.proofs.OrderLaws.{held-length, held-at}
 use Rattle.choices.proofs.ChoiceLaws.{rank-le, kind-told, kinds-from, slots-from, kinds-end, slots-end, kinds-down, slots-down, kinds-small, slots-small, choice-all}
 use Rattle.choices.proofs.choose_columns.Statement.{statement}
 use Rattle.choices.proofs.choose_columns.Tie as tie

@@ -4,7 +4,7 @@ use mathlib.Core.Bool.{Bool}
 use mathlib.Core.List.{List}
 use borrow.Author.Needs.{needs}
 use Rattle.choices.specs.Choices.{choice-of, key-choice}
-use Rattle.tables.specs.Orders.{held}
+use Rattle.arrangement.specs.Orders.{held}
 use Rattle.choices.proofs.ChoiceLaws.{key-few}
 use Rattle.choices.proofs.choose_key.Statement.{statement}
 use Rattle.choices.proofs.choose_key.Tie as tie

@@ -4,7 +4,7 @@ use mathlib.Core.Bool.{Bool}
 use mathlib.Core.List.{List}
 use borrow.Author.Needs.{needs}
 use Rattle.choices.specs.Choices.{choice-of, refer-choice}
-use Rattle.tables.specs.Orders.{held}
+use Rattle.arrangement.specs.Orders.{held}
 use Rattle.choices.proofs.ChoiceLaws.{refer-few}
 use Rattle.choices.proofs.choose_reference.Statement.{statement}
 use Rattle.choices.proofs.choose_reference.Tie as tie

@@ -14,8 +14,8 @@ use Rattle.page.specs.Section.{format-ok, formats-ok}
 use Rattle.page.proofs.FieldLaws.{from, from-more, from-end, from-all, end-in}
 use Rattle.page.proofs.MatchLaws.{matches, has-format, formats-matches, matches-none, matches-not, matches-more, matches-last}
 use Rattle.page.proofs.TableLaws.{width-le}
-use Rattle.tables.specs.Orders.{held}
-use Rattle.tables.proofs.OrderLaws.{held-standing, held-column}
+use Rattle.arrangement.specs.Orders.{held}
+use Rattle.arrangement.proofs.OrderLaws.{held-standing, held-column}
 use Rattle.names.proofs.formats_match.Statement.{statement}
 use Rattle.names.proofs.formats_match.Tie as tie
 

@@ -9,11 +9,11 @@ look-name-requires : tie.Need-look-name-requires
 look-name-requires c κs = search needs
 
 is-word-requires : tie.Need-is-word-requires
-is-word-requires c κs = search needs
+is-word-requires c κs = c .before .before .before .pre
 
 returns : tie.Need-returns
 returns c =
-    c .is-word .ensures ∙ ap (λ (x : String). same (c .before .before .before .args .f .now) (bytes x)) (c .before .look-name .ensures)
+    c .is-word .ensures ∙ ap (λ (x : String). same (c .before .before .before .before .args .f .now) (bytes x)) (c .before .look-name .ensures)
 
 pub is-name-spec : {M : Type 1} → statement M
 is-name-spec = tie.close (tie.spec look-name-requires is-word-requires returns)

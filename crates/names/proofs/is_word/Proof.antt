@@ -3,14 +3,10 @@ use mathlib.Core.Bool.{Bool, true, false}
 use native.Mathlib.Omega.{arith}
 use borrow.Author.Needs.{needs}
 use lib.ListN.{length}
-use Rattle.page.specs.Bytes.{Bytes, bytes, same}
-use Rattle.page.specs.Lines.{joined}
-use Rattle.page.specs.Tables.{all-tables}
+use Rattle.page.specs.Bytes.{Bytes, bytes, same, part}
 use Rattle.page.proofs.ScanLaws.{part-length}
 use Rattle.page.proofs.TestLaws.{same-true}
-use Rattle.tables.specs.Arrays.{flat, row-of}
-use Rattle.tables.specs.Words.{words, word, row}
-use Rattle.tables.proofs.WordLaws.{row-length}
+use Rattle.words.specs.Words.{word, row}
 use Rattle.names.proofs.is_word.Statement.{statement}
 use Rattle.names.proofs.is_word.Tie as tie
 
@@ -34,7 +30,7 @@ returns c =
     let sp = x .result in
     let l = part-length (sp .from) (sp .to) row (x .ensures .within) in
     let e = ap length (x .ensures .is) in
-    apart (c .before .before .before .args .f .now) (bytes (word (c .before .before .before .args .n))) (λ q. c .if1 .taken (omega (arith, q, l, e)))
+    apart (c .before .before .before .before .args .f .now) (bytes (word (c .before .before .before .before .args .n))) (λ q. c .if1 .taken (omega (arith, q, l, e)))
 
 sub-equal : tie.Need-sub-equal
 sub-equal c = search needs
@@ -43,14 +39,19 @@ part-equal-start : tie.Need-part-equal-start
 part-equal-start c = search needs
 
 part-equal-end : tie.Need-part-equal-end
-part-equal-end c = search (needs, row-length)
+part-equal-end c =
+    let k = ap length (c .before .before .before .before .pre) in
+    omega (arith, c .before .find-word .ensures .within)
 
 equal-requires : tie.Need-equal-requires
 equal-requires c κs = search needs
 
 returns-2 : tie.Need-returns-2
-unfolding row joined words row-of flat all-tables bytes
-returns-2 c = c .equal .ensures ∙ ap (same (c .before .before .before .before .before .before .args .f .now)) (c .before .before .before .before .find-word .ensures .is)
+returns-2 c =
+    let a = c .before .before .before .before .before .before .args in
+    let sp = c .before .before .before .find-word .result in
+    c .equal .ensures ∙ ap (λ (r : Bytes). same (a .f .now) (part sp r)) (c .before .before .before .before .before .before .pre)
+    ∙ ap (same (a .f .now)) (c .before .before .before .find-word .ensures .is)
 
 pub is-word-spec : {M : Type 1} → statement M
 is-word-spec =

@@ -7,7 +7,7 @@ use Rattle.page.specs.Tables.{width}
 use Rattle.page.specs.Order.{by-column}
 use Rattle.page.specs.Form.{separated}
 use Rattle.page.proofs.TableLaws.{width-le}
-use Rattle.tables.specs.Orders.{held}
+use Rattle.arrangement.specs.Orders.{held}
 use Rattle.output.proofs.PutLaws.{Todo, begin, next-by, at-end, same}
 use Rattle.parts.proofs.PartLaws.{part-in, part-more, part-room, parts-end}
 use Rattle.parts.proofs.put_parts.Statement.{statement}

@@ -1,5 +1,4 @@
 -- `commands::command::is_record` meets its contract. Assumes nothing.
-use Prim.Native.Nat.{_-_}
 use mathlib.Core.Path.{sym}
 use borrow.Author.Needs.{needs}
 use Rattle.commands.proofs.command.is_record.Statement.{statement}

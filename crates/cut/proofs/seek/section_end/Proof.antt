@@ -1,5 +1,4 @@
 -- `cut::seek::section_end` meets its contract. Assumes nothing.
-use Prim.Native.Nat.{_-_}
 use native.Mathlib.Omega.{arith}
 use borrow.Author.Needs.{needs}
 use Rattle.lines.proofs.CursorLaws.{handed}

@@ -1,7 +1,7 @@
 use Rattle.frames.proofs.PlainLaws.{part-length}
-use Rattle.tables.proofs.WordLaws.{row-length}
+use Rattle.words.proofs.WordLaws.{row-length}
 use Rattle.tables.specs.Arrays.{flat, row-of}
-use Rattle.tables.specs.Words.{words, row}
+use Rattle.words.specs.Words.{words, row}
 use Rattle.page.specs.Lines.{joined}
 use Rattle.page.specs.Bytes.{bytes}
 use Rattle.page.specs.Tables.{all-tables}

@@ -3,7 +3,7 @@ use Rattle.guesses.proofs.FollowLaws.{near-hit}
 use Rattle.scans.proofs.ScanLaws.{starts-first, starts-next}
 use Rattle.scans.specs.Scan.{Starts}
 use Rattle.lines.proofs.CursorLaws.{handed}
-use Prim.Native.Nat.{_-_, _≤_}
+use Prim.Native.Nat.{_≤_}
 use mathlib.Core.Bool.{false≢true}
 use mathlib.Core.Path.{sym, _∙_}
 use native.Mathlib.Omega.{arith}

@@ -13,7 +13,7 @@ use Rattle.page.proofs.TableLaws.{width-le}
 use Rattle.digits.specs.Runs.{field-from}
 use Rattle.digits.proofs.RunLaws.{from-next}
 use Rattle.tables.specs.Arrays.{flat, row-of, kinds, marks, lows, highs}
-use Rattle.tables.specs.Orders.{held}
+use Rattle.arrangement.specs.Orders.{held}
 use Rattle.tables.proofs.ArrayLaws.{first-within}
 use Rattle.judging.specs.Judging.{number-of, Numbers}
 use Rattle.judging.proofs.RecordLaws.{column-told, column-within, wrong-hit, wrong-more, numbers-more, judged-few, judged-wrong, judged-all}

@@ -5,8 +5,8 @@ use Rattle.page.specs.Fields.{fields}
 use Rattle.page.specs.Tables.{width}
 use Rattle.page.specs.Order.{by-column}
 use Rattle.page.specs.Section.{rec-verdict}
-use Rattle.tables.specs.Orders.{held}
-use Rattle.judging.proofs.RuleLaws.{rules-known}
+use Rattle.arrangement.specs.Orders.{held}
+use Rattle.rules.proofs.RuleLaws.{rules-known}
 use mathlib.Core.Path.{_≡_, sym, _∙_}
 use mathlib.Core.Bool.{true}
 use lib.ListN.{length}

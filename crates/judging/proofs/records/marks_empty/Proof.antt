@@ -1,5 +1,4 @@
 -- `judging::records::marks_empty` meets its contract. Assumes nothing.
-use Prim.Native.Nat.{_-_}
 use mathlib.Core.Path.{sym}
 use borrow.Author.Tests.{le-leb}
 use borrow.Author.Needs.{needs}

@@ -1,5 +1,4 @@
 -- `machine::machine::is_wide` meets its contract. Assumes nothing.
-use Prim.Native.Nat.{_-_}
 use Rattle.machine.proofs.machine.is_wide.Statement.{statement}
 use Rattle.machine.proofs.machine.is_wide.Tie as tie
 

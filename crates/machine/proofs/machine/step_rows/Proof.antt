@@ -1,5 +1,4 @@
 -- `machine::machine::step_rows` meets its contract. Assumes nothing.
-use Prim.Native.Nat.{_-_}
 use borrow.Author.Tests.{eq-eqb, ne-eqb}
 use borrow.Author.Needs.{needs}
 use Rattle.page.specs.Section.{line-step, choose}

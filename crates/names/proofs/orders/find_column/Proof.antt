@@ -14,18 +14,18 @@ use Rattle.names.proofs.orders.find_column.Statement.{statement}
 use Rattle.names.proofs.orders.find_column.Tie as tie
 
 abbrev Inv-loop : tie.InvT-loop
-Inv-loop f t k n i₀ i = (i ≤ n) × (find i (drop i (names t)) f ≡ column-named t f)
+Inv-loop letters f t k n i₀ i = (i ≤ n) × (find i (drop i (names t)) f ≡ column-named t f)
 
 abbrev μ-loop : tie.MeasureT-loop
-μ-loop f t k n i₀ i = n - i
+μ-loop letters f t k n i₀ i = n - i
 
 is-name-requires : tie.Need-is-name-requires Inv-loop μ-loop
-is-name-requires c κs = search needs
+is-name-requires c κs = c .before .before .pre .0
 
 returns : tie.Need-returns Inv-loop μ-loop
 returns c =
-    let a = c .before .before .before .args in
-    column-own (a .t) (a .k) (a .f .now) (c .before .before .before .pre) (sym (c .before .is-name .ensures) ∙ c .if1 .taken)
+    let a = c .before .before .before .before .args in
+    column-own (a .t) (a .k) (a .f .now) (c .before .before .before .before .pre .1) (sym (c .before .is-name .ensures) ∙ c .if1 .taken)
 
 find-width-requires : tie.Need-find-width-requires Inv-loop μ-loop
 find-width-requires c κs = search needs
@@ -34,11 +34,11 @@ loop-holds : tie.Need-loop-holds Inv-loop μ-loop
 loop-holds c = (omega arith, refl)
 
 is-name-requires-2 : tie.Need-is-name-requires-2 Inv-loop μ-loop
-is-name-requires-2 c κs = search needs
+is-name-requires-2 c κs = c .before .before .before .before .before .before .before .pre .0
 
 returns-2 : tie.Need-returns-2 Inv-loop μ-loop
 returns-2 c =
-    let a = c .before .before .before .before .before .before .before .before .args in
+    let a = c .before .before .before .before .before .before .before .before .before .args in
     let l = c .before .before .before .loop in
     let h : l .i < length (names (a .t)) = omega (arith, names-length (a .t), c .before .before .before .before .find-width .ensures) in
     let q : same (a .f .now) (bytes (getD (names (a .t)) (l .i) "")) ≡ c .before .is-name2 .result =
@@ -53,7 +53,7 @@ loop-less c = search needs
 
 loop-again : tie.Need-loop-again Inv-loop μ-loop
 loop-again c =
-    let a = c .before .before .before .before .before .before .before .before .args in
+    let a = c .before .before .before .before .before .before .before .before .before .args in
     let l = c .before .before .before .loop in
     let h : l .i < length (names (a .t)) = omega (arith, names-length (a .t), c .before .before .before .before .find-width .ensures) in
     let q : same (a .f .now) (bytes (getD (names (a .t)) (l .i) "")) ≡ c .before .is-name2 .result =
@@ -62,7 +62,7 @@ loop-again c =
 
 returns-3 : tie.Need-returns-3 Inv-loop μ-loop
 returns-3 c =
-    let a = c .before .before .before .before .before .before .args in
+    let a = c .before .before .before .before .before .before .before .args in
     let l = c .before .loop in
     sym (find-none (names (a .t)) (a .f .now) (l .i) (l .i) (omega (arith, names-length (a .t), c .before .before .find-width .ensures))) ∙ l .inv .1
 

@@ -1,6 +1,5 @@
 use Rattle.page.specs.Marks.{remarkOf}
 use Rattle.quoted.proofs.WaitLaws.{waits-other, waits-remark}
-use Prim.Native.Nat.{_-_}
 use mathlib.Core.Path.{ap, sym, _∙_}
 use borrow.Author.Needs.{needs}
 use Rattle.quoted.proofs.marks.wait_on.Statement.{statement}

@@ -1,7 +1,7 @@
 use mathlib.Core.List.{List}
 use Rattle.page.specs.Lines.{lines}
 use Rattle.page.specs.Records.{Record}
-use Rattle.tables.specs.Orders.{held}
+use Rattle.arrangement.specs.Orders.{held}
 use Rattle.lines.proofs.CursorLaws.{handed}
 use Rattle.output.proofs.PutLaws.{Todo, begin, left-is, next-by, at-end, same}
 use Rattle.recording.specs.Said.{rows-of, passes}

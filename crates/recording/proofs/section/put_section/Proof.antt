@@ -2,7 +2,7 @@ use borrow.Author.Needs.{needs}
 use native.Mathlib.Omega.{arith}
 use Rattle.page.specs.Bytes.{bytes}
 use Rattle.page.specs.Lines.{lines}
-use Rattle.tables.specs.Orders.{held}
+use Rattle.arrangement.specs.Orders.{held}
 use Rattle.output.proofs.PutLaws.{puts, put-as}
 use Rattle.recording.proofs.SectionLaws.{order-told, passes-so, content-is, content-length}
 use Rattle.recording.proofs.section.put_section.Statement.{statement}

@@ -1,6 +1,6 @@
 use mathlib.Core.Path.{sym}
 use borrow.Author.Needs.{needs}
-use Rattle.tables.specs.Orders.{held}
+use Rattle.arrangement.specs.Orders.{held}
 use Rattle.output.proofs.PutLaws.{put-as, put-none}
 use Rattle.records.specs.Row.{row}
 use Rattle.recording.proofs.SectionLaws.{record-stays, record-goes, stays-count, goes-count}

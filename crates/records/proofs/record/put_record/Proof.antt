@@ -9,8 +9,8 @@ use Rattle.page.specs.Order.{by-column, column-in}
 use Rattle.page.specs.Records.{valuesOf}
 use Rattle.page.specs.Form.{record-form}
 use Rattle.page.proofs.OrderLaws.{columns-many}
-use Rattle.tables.specs.Orders.{held}
-use Rattle.machine.proofs.SoundLaws.{passed-width, passed-wrong}
+use Rattle.arrangement.specs.Orders.{held}
+use Rattle.laws.proofs.Passed.{passed-width, passed-wrong}
 use Rattle.output.proofs.PutLaws.{puts, put-as}
 use Rattle.copies.specs.Changed.{changed-values}
 use Rattle.copies.specs.Planned.{record-by}

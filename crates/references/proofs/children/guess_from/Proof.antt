@@ -1,5 +1,5 @@
 -- `references::children::guess_from` meets its contract. Assumes nothing.
-use Rattle.references.proofs.AimLaws.{aim-bounds}
+use Rattle.aims.proofs.AimLaws.{aim-bounds}
 use Prim.Native.Nat.{_-_, _≤_}
 use mathlib.Core.Path.{_≡_, refl, _∙_}
 use native.Mathlib.Omega.{arith}

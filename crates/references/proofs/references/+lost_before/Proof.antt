@@ -1,7 +1,7 @@
 -- `references::references::lost_before` meets its contract: the measure is the number of sections. Assumes nothing.
-use Rattle.references.proofs.AimLaws.{looked-none, looked-some, looked-more, looked-lost}
+use Rattle.aims.proofs.AimLaws.{looked-none, looked-some, looked-more, looked-lost}
 use borrow.Author.Needs.{needs}
-use Prim.Native.Nat.{ℕ, _-_, _<_}
+use Prim.Native.Nat.{ℕ, _<_}
 use borrow.Fn.Kinds.{In}
 use borrow.Fn.PlainCycle.{Measures, is, falls, and}
 use Rattle.references.proofs.references.lost_before.Reads as lost-before

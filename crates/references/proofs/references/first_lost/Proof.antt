@@ -1,6 +1,5 @@
 -- `references::references::first_lost` meets its contract. Assumes nothing.
-use Rattle.references.proofs.AimLaws.{looked-all}
-use Prim.Native.Nat.{_-_}
+use Rattle.aims.proofs.AimLaws.{looked-all}
 use borrow.Author.Needs.{needs}
 use Rattle.references.proofs.references.first_lost.Statement.{statement}
 use Rattle.references.proofs.references.first_lost.Tie as tie

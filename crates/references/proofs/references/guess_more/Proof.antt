@@ -1,6 +1,5 @@
 -- `references::references::guess_more` meets its contract. Assumes nothing.
-use Rattle.references.proofs.AimLaws.{aim-bounds}
-use Prim.Native.Nat.{_-_}
+use Rattle.aims.proofs.AimLaws.{aim-bounds}
 use borrow.Author.Needs.{needs}
 use Rattle.references.proofs.references.guess_more.Statement.{statement}
 use Rattle.references.proofs.references.guess_more.Tie as tie

@@ -1,8 +1,8 @@
 -- `references::references::loses` meets its contract. Assumes nothing.
-use Rattle.references.proofs.AimLaws.{few-references, lacks-is, lacks-other, lacks-record}
+use Rattle.aims.proofs.AimLaws.{few-references, lacks-is, lacks-other, lacks-record}
 use Rattle.references.proofs.RecentLaws.{met-more}
 use Rattle.scans.proofs.ScanLaws.{some-hit, some-more, some-end}
-use Rattle.references.specs.Aims.{lacks}
+use Rattle.aims.specs.Aims.{lacks}
 use Rattle.references.specs.Recently.{Recently}
 use Rattle.scans.specs.Scan.{some}
 use Rattle.page.specs.Fields.{fields}

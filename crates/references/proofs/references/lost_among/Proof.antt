@@ -1,6 +1,6 @@
 -- `references::references::lost_among` meets its contract. Assumes nothing.
 use Rattle.scans.proofs.ScanLaws.{starts-first, starts-next, line-more, line-hit, line-end}
-use Rattle.references.specs.Aims.{lacks-any}
+use Rattle.aims.specs.Aims.{lacks-any}
 use Rattle.references.specs.Recently.{Recently}
 use Rattle.scans.specs.Scan.{Starts, first-line}
 use Rattle.lines.proofs.CursorLaws.{handed}

@@ -1,7 +1,6 @@
 -- `references::references::lost_in` meets its contract. Assumes nothing.
-use Rattle.references.proofs.AimLaws.{aims-within, lost-by, lost-nothing}
+use Rattle.aims.proofs.AimLaws.{aims-within, lost-by, lost-nothing}
 use Rattle.seats.proofs.RepeatLaws.{seat-bounds}
-use Prim.Native.Nat.{_-_}
 use mathlib.Core.Path.{sym}
 use native.Mathlib.Omega.{arith}
 use borrow.Author.Needs.{needs}

@@ -1,5 +1,5 @@
 -- `references::references::lost_in_short` meets its contract. Assumes nothing.
-use Rattle.references.proofs.AimLaws.{looked-none, looked-next, looked-here, looked-end}
+use Rattle.aims.proofs.AimLaws.{looked-none, looked-next, looked-here, looked-end}
 use Rattle.page.specs.Answers.{sound}
 use Rattle.seats.specs.Faults.{Looked}
 use Prim.Native.Nat.{_-_, _≤_}

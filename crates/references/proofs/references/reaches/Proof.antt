@@ -1,5 +1,5 @@
 -- `references::references::reaches` meets its contract. Assumes nothing.
-use Rattle.references.proofs.AimLaws.{aim-bounds, reached-at}
+use Rattle.aims.proofs.AimLaws.{aim-bounds, reached-at}
 use Rattle.references.proofs.RecentLaws.{met-again}
 use mathlib.Core.Path.{sym}
 use borrow.Author.Needs.{needs}

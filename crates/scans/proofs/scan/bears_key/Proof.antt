@@ -1,6 +1,5 @@
 -- `scans::scan::bears_key` meets its contract. Assumes nothing.
 use Rattle.scans.proofs.ScanLaws.{bears-other, bears-record}
-use Prim.Native.Nat.{_-_}
 use mathlib.Core.Path.{sym, _∙_}
 use borrow.Author.Needs.{needs}
 use Rattle.scans.proofs.scan.bears_key.Statement.{statement}

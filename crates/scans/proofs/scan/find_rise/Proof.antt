@@ -1,6 +1,5 @@
 -- `scans::scan::find_rise` meets its contract. Assumes nothing.
 use Rattle.scans.proofs.TopLaws.{rises-other, rises-record}
-use Prim.Native.Nat.{_-_}
 use mathlib.Core.Path.{_∙_}
 use borrow.Author.Needs.{needs}
 use Rattle.scans.proofs.scan.find_rise.Statement.{statement}

@@ -1,7 +1,6 @@
 -- `scans::scan::finds_from` meets its contract. Assumes nothing.
 use Rattle.scans.proofs.ScanLaws.{ahead-hit, ahead-none}
 use lib.Seq.{length-take-le}
-use Prim.Native.Nat.{_-_}
 use borrow.Author.Needs.{needs}
 use Rattle.scans.proofs.scan.finds_from.Statement.{statement}
 use Rattle.scans.proofs.scan.finds_from.Tie as tie

@@ -1,6 +1,5 @@
 -- `scans::scan::is_again` meets its contract. Assumes nothing.
 use Rattle.scans.proofs.ScanLaws.{again-other, again-record}
-use Prim.Native.Nat.{_-_}
 use mathlib.Core.Path.{sym, _∙_}
 use borrow.Author.Needs.{needs}
 use Rattle.scans.proofs.scan.is_again.Statement.{statement}

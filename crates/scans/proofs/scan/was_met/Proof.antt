@@ -1,6 +1,5 @@
 -- `scans::scan::was_met` meets its contract. Assumes nothing.
 use lib.Seq.{length-take-le}
-use Prim.Native.Nat.{_-_}
 use borrow.Author.Needs.{needs}
 use Rattle.scans.proofs.scan.was_met.Statement.{statement}
 use Rattle.scans.proofs.scan.was_met.Tie as tie

@@ -1,5 +1,4 @@
 -- `sections::answers::section` meets its contract. Assumes nothing.
-use Prim.Native.Nat.{_-_}
 use borrow.Author.Needs.{needs}
 use Rattle.sections.proofs.AnswerLaws.{section-here, section-refused}
 use Rattle.sections.proofs.answers.section.Statement.{statement}

@@ -1,5 +1,4 @@
 -- `sections::reading::finish` meets its contract. Assumes nothing.
-use Prim.Native.Nat.{_-_}
 use borrow.Author.Needs.{needs}
 use Rattle.page.specs.Section.{finish}
 use Rattle.sections.proofs.reading.finish.Statement.{statement}

@@ -1,5 +1,4 @@
 -- `sections::reading::read_section` meets its contract. Assumes nothing.
-use Prim.Native.Nat.{_-_}
 use borrow.Author.Needs.{needs}
 use Rattle.sections.proofs.RunLaws.{row-from}
 use Rattle.sections.proofs.reading.read_section.Statement.{statement}

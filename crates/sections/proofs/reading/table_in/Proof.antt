@@ -1,5 +1,4 @@
 -- `sections::reading::table_in` meets its contract. Assumes nothing.
-use Prim.Native.Nat.{_-_}
 use borrow.Author.Needs.{needs}
 use Rattle.page.specs.Section.{table-in}
 use Rattle.sections.proofs.reading.table_in.Statement.{statement}

@@ -1,4 +1,3 @@
-use Prim.Native.Nat.{_-_}
 use mathlib.Core.Path.{ap, sym, _∙_}
 use Rattle.told.specs.Told.{told-got}
 use borrow.Author.Needs.{needs}

@@ -1,5 +1,4 @@
 use Rattle.writing.proofs.FillLaws.{fill-ready, fill-done}
-use Prim.Native.Nat.{_-_}
 use borrow.Author.Needs.{needs}
 use Rattle.writing.proofs.checked.fill_checked.Statement.{statement}
 use Rattle.writing.proofs.checked.fill_checked.Tie as tie

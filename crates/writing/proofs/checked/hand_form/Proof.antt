@@ -1,5 +1,4 @@
 use Rattle.output.proofs.WriteLaws.{refused, no-room, fits}
-use Prim.Native.Nat.{_-_}
 use borrow.Author.Needs.{needs}
 use Rattle.writing.proofs.checked.hand_form.Statement.{statement}
 use Rattle.writing.proofs.checked.hand_form.Tie as tie

@@ -4,7 +4,6 @@ use Rattle.output.proofs.PutLaws.{puts, put-as}
 use Rattle.writing.proofs.SoundLaws.{accepted-passing}
 use Rattle.writing.proofs.RoomLaws.{accepted-short, accepted-room}
 use Rattle.writing.proofs.FormLaws.{form-is}
-use Prim.Native.Nat.{_-_}
 use native.Mathlib.Omega.{arith}
 use borrow.Author.Needs.{needs}
 use Rattle.writing.proofs.file.put_form.Statement.{statement}

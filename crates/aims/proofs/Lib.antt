@@ -1,0 +1,2 @@
+pub mod AimLaws
+mod LostLaws
