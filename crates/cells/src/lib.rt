@@ -6,14 +6,16 @@ ghost use lib.ListN.{length};
 ghost use Rattle.page.specs.Tables.{width};
 ghost use Rattle.page.specs.File.{limit};
 ghost use Rattle.page.specs.Handing.{owner-cell, cell-of, record-cells};
+ghost use Rattle.tables.specs.Arrays as rows;
 ghost use Rattle.arrangement.specs.Orders.{held, Stands};
 ghost use Rattle.output.specs.Put.{Put};
 use arrangement::find_place;
 use page::Owner;
 use page::Value;
 use starts::find_starts;
+use tables::COLUMNS;
 use tables::WIDEST;
-use tables::find_column;
+use tables::column_in;
 use tables::find_width;
 use values::read_value;
 
@@ -51,7 +53,7 @@ fn put_value(cells: &mut [u64], o: usize, v: Value) -> usize
     }
 }
 
-// The values of a record of table t, by column.
+// The values of a record of table t, by column. The rows of all columns are lent, so that they are not built anew for each record.
 pub fn put_values(
     cells: &mut [u64],
     from: usize,
@@ -60,10 +62,15 @@ pub fn put_values(
     m: u64,
     t: usize,
     o: &[u8; WIDEST],
+    kinds: &[u8; COLUMNS],
+    marks: &[u8; COLUMNS],
+    lows: &[u8; COLUMNS],
+    highs: &[u32; COLUMNS],
 ) -> usize
     requires { ⌜ Stands t (now o)
         × (at + length (now w) ≤ limit)
-        × (from + length (record-cells t (held t (now o)) (record { at = at; rest = now w; mark = m }) 1 (width t)) ≤ length (now cells)) ⌝ }
+        × (from + length (record-cells t (held t (now o)) (record { at = at; rest = now w; mark = m }) 1 (width t)) ≤ length (now cells))
+        × (now kinds ≡ rows.kinds) × (now marks ≡ rows.marks) × (now lows ≡ rows.lows) × (now highs ≡ rows.highs) ⌝ }
     ensures { λ r.
         ⌜ Put (now (cells .entry)) from (record-cells t (held t (now (o .entry))) (record { at = at; rest = now (w .entry); mark = m }) 1 (width t)) (now (cells .exit)) r ⌝ }
 {
@@ -76,7 +83,14 @@ pub fn put_values(
         i = put_value(
             cells,
             i,
-            read_value(w, at, m, p, starts[p], find_column(t, c)),
+            read_value(
+                w,
+                at,
+                m,
+                p,
+                starts[p],
+                column_in(t, c, kinds, marks, lows, highs),
+            ),
         );
         c += 1;
     }

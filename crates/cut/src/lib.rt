@@ -2,9 +2,10 @@
 mod cut;
 mod seek;
 
+pub use cut::Survey;
 pub use cut::count_sections;
-pub use cut::find_end;
 pub use cut::header_size;
+pub use cut::survey_file;
 pub use seek::find_nth;
 pub use seek::find_section;
 pub use seek::section_end;

@@ -4,11 +4,12 @@ use mathlib.Core.Bool.{Bool, true, false}
 use mathlib.Core.List.{[], _∷_, _++_}
 use Prim.Native.Nat.{ℕ, suc, _+_, _-_, _*_, _^_, _<_, _≤_}
 use native.Mathlib.Omega.{arith}
-use borrow.Author.Tests.{ne-eqb, eqb-true}
-use lib.Dec.{eqb, lit<}
+use borrow.Author.Tests.{ne-eqb, eqb-true, le-leb, ltb-true, ltb-false}
+use lib.Dec.{eqb, ltb, lit<}
 use lib.ListN.{length, take, drop, getD, take-append-drop, length-drop}
 use lib.Seq.{take-suc, drop-cons, drop-drop, getD-drop, length-take-le, take-length, take-at}
 use Rattle.page.specs.Bytes.{Bytes, pick, all, until, keep, space, trim}
+use Rattle.page.specs.Lines.{allowed}
 use Rattle.page.specs.Fields.{digit, value, digits, numberOf, inside-after, field-size}
 use Rattle.page.specs.declared.Number.the-variants as N
 use Rattle.page.proofs.TestLaws.{and-left, and-right}
@@ -175,3 +176,65 @@ space-in w at h = by (space (getD w at 0))
 pub number-none : (s : Bytes) → numberOf (trim (take 0 s)) ≡ N.Nothing
 unfolding numberOf trim keep until digits
 number-none s = refl
+
+number-space : (s : Bytes) → numberOf (trim (take 1 (32 ∷ s))) ≡ N.Nothing
+unfolding numberOf trim keep until digits
+number-space s = refl
+
+pub space-more : (s : Bytes) → field-size false (32 ∷ s) ≡ suc (field-size false s)
+unfolding field-size
+space-more s = refl
+
+-- a field that ends before its first digit
+module _ (w : Bytes) (at from : ℕ) (h : at < length w) (f : from ≡ pick (space (getD w at 0)) (at + 1) at) (z : field-size false (drop from w) ≡ 0) where
+  blank-field : (from ≡ at + field-size false (drop at w)) × (N.Nothing ≡ numberOf (field-from w at))
+  blank-field = by (space (getD w at 0)) refl
+    where
+      by : (b : Bool) → space (getD w at 0) ≡ b → (from ≡ at + field-size false (drop at w)) × (N.Nothing ≡ numberOf (field-from w at))
+      by true e =
+          let q : from ≡ at + 1 = f ∙ rw e in
+          let m : suc at ≡ from = omega arith in
+          let s : drop at w ≡ 32 ∷ drop from w =
+          drop-cons w at 0 h ∙ ap (λ (x : ℕ). x ∷ drop (suc at) w) (eqb-true (getD w at 0) 32 e) ∙ ap (λ (x : ℕ). 32 ∷ drop x w) m in
+          let n : field-size false (32 ∷ drop from w) ≡ 1 = space-more (drop from w) ∙ ap suc z in
+          (omega (arith, ap (field-size false) s ∙ n), sym (rw (s, n) (number-space (drop from w))))
+      by false e =
+          let q : from ≡ at = f ∙ rw e in
+          let n : field-size false (drop at w) ≡ 0 = ap (λ (x : ℕ). field-size false (drop x w)) (sym q) ∙ z in
+          (omega (arith, n), sym (rw n (number-none (drop at w))))
+
+-- the field at a place where at most one space stands before digits, or nothing, and then its end; its bytes are allowed everywhere
+module _ (w : Bytes) (at from to v : ℕ) (h : at < length w) (f : from ≡ pick (space (getD w at 0)) (at + 1) at) (r : Run w from to v) where
+  pub run-told : field-size false (drop to w) ≡ 0
+      → (to ≡ at + field-size false (drop at w)) × (pick (ltb from to) (N.Plus v) N.Nothing ≡ numberOf (field-from w at))
+  run-told z = by (ltb from to) refl
+    where
+      by : (b : Bool) → ltb from to ≡ b
+          → (to ≡ at + field-size false (drop at w)) × (pick b (N.Plus v) N.Nothing ≡ numberOf (field-from w at))
+      by true e = run-field w at from to v h f r (ltb-true from to e) z
+      by false e =
+          let g = r .begins in
+          let q : to ≡ from = omega (arith, ltb-false from to e) in
+          rw q (blank-field w at from h f (rw q at z))
+
+  pub run-clean : (wide : Bool) → all (allowed wide) (take (to - at) (drop at w)) ≡ true
+  unfolding all allowed
+  run-clean wide = by (space (getD w at 0)) refl
+    where
+      digit-clean : (b : ℕ) → digit b ≡ true → allowed wide b ≡ true
+      digit-clean b e = let d = digit-range b e in rw (le-leb 32 b (omega arith), le-leb b 126 (omega arith))
+
+      digits-clean : (ds : Bytes) → all digit ds ≡ true → all (allowed wide) ds ≡ true
+      digits-clean [] e = refl
+      digits-clean (b ∷ ds) e = rw (digit-clean b (and-left (digit b) (all digit ds) e)) (digits-clean ds (and-right (digit b) (all digit ds) e))
+
+      by : (b : Bool) → space (getD w at 0) ≡ b → all (allowed wide) (take (to - at) (drop at w)) ≡ true
+      by true e =
+          let g = r .begins in
+          let q : from ≡ at + 1 = f ∙ rw e in
+          let m : suc at ≡ from = omega arith in
+          let n : to - at ≡ suc (to - from) = omega arith in
+          rw (n, drop-cons w at 0 h, eqb-true (getD w at 0) 32 e, m) (digits-clean (take (to - from) (drop from w)) (r .plain))
+      by false e =
+          let q : from ≡ at = f ∙ rw e in
+          rw (sym q) (digits-clean (take (to - from) (drop from w)) (r .plain))

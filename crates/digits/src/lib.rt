@@ -8,4 +8,6 @@ pub use numbers::read_digits;
 pub use numbers::read_number;
 pub use numbers::widen;
 pub use walk::Counted;
+pub use walk::ends_at;
 pub use walk::number_at;
+pub use walk::skip_space;

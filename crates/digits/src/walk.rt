@@ -1,12 +1,14 @@
 // A number field read where it stands in a line: `w` is what stands after its first `;`. A field of at most one space and then digits, as
 // nearly all are, is walked once.
 ghost use mathlib.Core.Path.{_≡_};
-ghost use mathlib.Core.Bool.{false};
-ghost use Prim.Native.Nat.{_+_, _≤_, _<_};
-ghost use lib.Dec.{eqb};
-ghost use lib.ListN.{length, drop, getD};
-ghost use Rattle.page.specs.Bytes.{pick, space};
+ghost use mathlib.Core.Bool.{Bool, true, false};
+ghost use Prim.Native.Nat.{_+_, _-_, _≤_, _<_};
+ghost use lib.Dec.{eqb, ltb};
+ghost use lib.ListN.{length, take, drop, getD};
+ghost use Rattle.page.specs.Bytes.{pick, space, all};
+ghost use Rattle.page.specs.Lines.{allowed};
 ghost use Rattle.page.specs.Fields.{field-size, numberOf};
+ghost use Rattle.page.specs.declared.Number.the-variants as N;
 ghost use Rattle.digits.specs.Runs.{field-from, Run};
 use crate::numbers::is_digit;
 use crate::numbers::read_number;
@@ -19,13 +21,14 @@ struct Digits {
     to: usize,
 }
 
-// A number field, and where it ends.
+// A number field, where it ends, and whether its bytes are known to be allowed in any line.
 pub struct Counted {
     pub number: Number,
     pub end: usize,
+    pub clean: bool,
 }
 
-fn skip_space(w: &[u8], at: usize) -> usize
+pub fn skip_space(w: &[u8], at: usize) -> usize
     requires { ⌜ at < length (now w) ⌝ }
     ensures { λ r. ⌜ r ≡ pick (space (getD (now (w .entry)) at 0)) (at + 1) at ⌝ }
 {
@@ -65,7 +68,7 @@ fn digits_at(w: &[u8], from: usize) -> Digits
 }
 
 // Whether a field that has come to a place outside quotes ends there.
-fn ends_at(w: &[u8], at: usize) -> bool
+pub fn ends_at(w: &[u8], at: usize) -> bool
     ensures { λ r. ⌜ r ≡ eqb (field-size false (drop at (now (w .entry)))) 0 ⌝ }
 {
     if at < w.len() {
@@ -77,34 +80,50 @@ fn ends_at(w: &[u8], at: usize) -> bool
 fn number_slowly(w: &[u8], at: usize) -> Counted
     requires { ⌜ at ≤ length (now w) ⌝ }
     ensures { λ r. ⌜ (r .end ≡ at + field-size false (drop at (now (w .entry))))
-        × (r .number ≡ numberOf (field-from (now (w .entry)) at)) ⌝ }
+        × (r .number ≡ numberOf (field-from (now (w .entry)) at))
+        × (r .clean ≡ false) ⌝ }
 {
     let e = commands::field_end(w, at);
     let n = read_number(lines::trimmed(&w[at..e]));
-    Counted { number: n, end: e }
+    Counted {
+        number: n,
+        end: e,
+        clean: false,
+    }
+}
+
+// A field that ends before its first digit has no number.
+fn number_of(digits: Digits, from: usize) -> Number
+    ensures { λ r. ⌜ r ≡ pick (ltb from (digits .to)) (N.Plus (digits .value)) N.Nothing ⌝ }
+{
+    if from < digits.to {
+        return Number::Plus(digits.value);
+    }
+    Number::Nothing
 }
 
 // The number field that begins at a place, and where it ends.
 pub fn number_at(w: &[u8], at: usize) -> Counted
     ensures { λ r. ⌜ (r .end ≡ at + field-size false (drop at (now (w .entry))))
-        × (r .number ≡ numberOf (field-from (now (w .entry)) at)) ⌝ }
+        × (r .number ≡ numberOf (field-from (now (w .entry)) at))
+        × (r .clean ≡ true → (wide : Bool) → all (allowed wide) (take (r .end - at) (drop at (now (w .entry)))) ≡ true) ⌝ }
 {
     if w.len() <= at {
         return Counted {
             number: Number::Nothing,
             end: at,
+            clean: true,
         };
     }
     let from = skip_space(w, at);
     let d = digits_at(w, from);
     let to = d.to;
-    if from < to {
-        if ends_at(w, to) {
-            return Counted {
-                number: Number::Plus(d.value),
-                end: to,
-            };
-        }
+    if ends_at(w, to) {
+        return Counted {
+            number: number_of(d, from),
+            end: to,
+            clean: true,
+        };
     }
     number_slowly(w, at)
 }

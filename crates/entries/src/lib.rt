@@ -81,7 +81,7 @@ fn put_field(
     if plan.field == k + 1 {
         return put_quoted(out, at, text);
     }
-    let r = fields::read_field(w, from, find_column(t, k));
+    let r = fields::read_field(w, from, find_column(t, k), true);
     let f = r.field;
     match f {
         Field::Text(place) => put_words(out, at, w, place, is_stripped(plan.strip, m, k)),

@@ -126,6 +126,13 @@ text-there w at e q h r x size =
     ap (λ (k : ℕ). later-field k (text-field size (wordsOf (part r w)))) (ap (λ (z : Span). z .from) y)
     ∙ ap (λ (z : Bytes). later-field (at + trimOf (take (field-size false (drop at w)) (drop at w)) .from) (text-field size (wordsOf z))) p
 
+-- the same of a field that was met in one walk
+pub text-walked : (w : Bytes) (at from e size : ℕ) → from ≡ span-from w at .from → field-from w at ≡ take (e - from) (drop from w)
+    → later-field from (text-field size (wordsOf (take (e - from) (drop from w)))) ≡ later-field (span-from w at .from) (text-field size (wordsOf (field-from w at)))
+text-walked w at from e size q p =
+    ap (λ (k : ℕ). later-field k (text-field size (wordsOf (take (e - from) (drop from w))))) q
+    ∙ ap (λ (z : Bytes). later-field (span-from w at .from) (text-field size (wordsOf z))) (sym p)
+
 module _ (lo hi n : ℕ) where
   pub number-under : n < lo → number-field lo hi (N.Plus n) ≡ F.Refused 13
   unfolding number-field

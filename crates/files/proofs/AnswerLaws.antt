@@ -6,11 +6,10 @@ use Prim.Native.Nat.{ℕ, suc}
 use native.Mathlib.Omega.{arith}
 use borrow.Author.Tests.{eq-eqb, ne-eqb, eqb-false}
 use lib.Dec.{eqb}
-use lib.ListN.{length}
 use Rattle.page.specs.Bytes.{Bytes, pick}
-use Rattle.page.specs.Cut.{sections, trailer-lines}
+use Rattle.page.specs.Cut.{sections}
 use Rattle.page.specs.Head.{latinOf}
-use Rattle.page.specs.Trailer.{trailer-of, trailerOf}
+use Rattle.page.specs.Trailer.{trailerOf}
 use Rattle.page.specs.Answers.{refusal, sound, earlier}
 use Rattle.page.specs.File.{found, rowOf, rowsOf, first-unsound, first-again, header-refusal, record-refusal, section-refusal, file-refusal, filedOf}
 use Rattle.page.specs.declared.Row.{Row}
@@ -72,15 +71,11 @@ module _ (s : Bytes) (h : Refusal) (x : h ≡ header-refusal s) where
   unfolding file-refusal
   file-header n = earlier-hit _ _ h x n
 
-  module _ (z : h .number ≡ 0) (n : ℕ) (k : n ≡ length (sections s)) (f : Finding) (y : f ≡ trailer-of n (trailer-lines s)) where
-    trailer-is : found f ≡ found (trailerOf s)
-    unfolding trailerOf
-    trailer-is = ap found (rw k at y)
-
+  module _ (z : h .number ≡ 0) (f : Finding) (y : f ≡ trailerOf s) where
     pub file-trailer : (f .verdict ≡ 0 → ⊥) → found f ≡ file-refusal s
     unfolding file-refusal
-    file-trailer m = earlier-more _ _ h x z (found f) (earlier-hit _ _ (found f) trailer-is m)
+    file-trailer m = earlier-more _ _ h x z (found f) (earlier-hit _ _ (found f) (ap found y) m)
 
     pub file-sections : f .verdict ≡ 0 → (v : Refusal) → v ≡ section-refusal s → v ≡ file-refusal s
     unfolding file-refusal
-    file-sections m v e = earlier-more _ _ h x z v (earlier-more _ _ (found f) trailer-is m v e)
+    file-sections m v e = earlier-more _ _ h x z v (earlier-more _ _ (found f) (ap found y) m v e)

@@ -73,7 +73,7 @@ pub fn check_known(s: &[u8], known: bool) -> Refusal
     if header.number != 0 {
         return header;
     }
-    let trailer = trailers::read_trailer(s, cut::count_sections(s));
+    let trailer = trailers::read_trailer(s);
     let verdict = trailer.verdict;
     let line = trailer.line;
     if verdict != 0 {

@@ -13,6 +13,10 @@ use lines::Cursor;
 use page::Refusal;
 use page::Written;
 use sections::Located;
+use tables::HIGHS;
+use tables::KINDS;
+use tables::LOWS;
+use tables::MARKS;
 use tables::WIDEST;
 use tables::find_width;
 
@@ -24,6 +28,10 @@ fn put_records(cells: &mut [u64], s: &[u8], from: usize, t: usize, o: &[u8; WIDE
         × (length (cells-in t (held t (now o)) 0 from (lines (drop from (now s)))) ≤ length (now cells)) ⌝ }
     ensures { λ r. ⌜ Put (now (cells .entry)) 0 (cells-in t (held t (now (o .entry))) 0 from (lines (drop from (now (s .entry))))) (now (cells .exit)) r ⌝ }
 {
+    let kinds = KINDS;
+    let marks = MARKS;
+    let lows = LOWS;
+    let highs = HIGHS;
     let mut c = Cursor { at: from };
     let mut m: u64 = 0;
     let mut i: usize = 0;
@@ -36,7 +44,19 @@ fn put_records(cells: &mut [u64], s: &[u8], from: usize, t: usize, o: &[u8; WIDE
             let p = places::place_fields(s, at, e, m);
             let a = p.from;
             let b = p.to;
-            i = put_values(cells, i, &s[a..b], a, p.mark, t, o);
+            i = put_values(
+                cells,
+                i,
+                &s[a..b],
+                a,
+                p.mark,
+                t,
+                o,
+                &kinds,
+                &marks,
+                &lows,
+                &highs,
+            );
             m = 0;
         } else {
             m = places::wait_on(&s[at..e], m);

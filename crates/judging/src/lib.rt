@@ -2,3 +2,4 @@
 mod records;
 
 pub use records::judge_record;
+pub use records::passes;

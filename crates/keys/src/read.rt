@@ -68,7 +68,7 @@ fn take_text(w: &[u8], at: usize) -> Taken
         fillable: false,
         optional: false,
     };
-    let x = fields::read_field(w, at, column);
+    let x = fields::read_field(w, at, column, true);
     let e = x.end;
     let f = x.field;
     match f {

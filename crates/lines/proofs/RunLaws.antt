@@ -20,7 +20,7 @@ in-four true false c d = refl
 in-four false b c d = refl
 
 module _ (p : ℕ → Bool) where
-  all-append : (a b : Bytes) → all p (a ++ b) ≡ all p a && all p b
+  pub all-append : (a b : Bytes) → all p (a ++ b) ≡ all p a && all p b
   unfolding all
   all-append [] b = refl
   all-append (x ∷ a) b = by (p x) (all p a) (all p b) (all-append a b)
@@ -29,7 +29,7 @@ module _ (p : ℕ → Bool) where
       by true v w e = e
       by false v w e = refl
 
-  all-run : (n m : ℕ) (s : Bytes) → all p (take (n + m) s) ≡ all p (take n s) && all p (take m (drop n s))
+  pub all-run : (n m : ℕ) (s : Bytes) → all p (take (n + m) s) ≡ all p (take n s) && all p (take m (drop n s))
   all-run n m s = ap (all p) (take-add n m s) ∙ all-append (take n s) (take m (drop n s))
 
   pub all-four : (s : Bytes) (i : ℕ) → i + 4 ≤ length s

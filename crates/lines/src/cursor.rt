@@ -69,27 +69,12 @@ fn skip_blocks(s: &[u8], at: usize) -> usize
     i
 }
 
-fn skip_fours(s: &[u8], at: usize) -> usize
-    requires { ⌜ at ≤ length (now s) ⌝ }
-    ensures { λ r. ⌜ Onward (now (s .entry)) at r ⌝ }
-{
-    let n = s.len();
-    let mut i = at;
-    while 4 <= n - i {
-        if !four_open(s, i) {
-            return i;
-        }
-        i += 4;
-    }
-    i
-}
-
 // Where the line at a place ends: after its LF, or where the bytes end.
 fn line_end(s: &[u8], at: usize) -> usize
     requires { ⌜ at ≤ length (now s) ⌝ }
     ensures { λ r. ⌜ r ≡ at + line-size (drop at (now (s .entry))) ⌝ }
 {
-    let mut i = skip_fours(s, skip_blocks(s, at));
+    let mut i = skip_blocks(s, at);
     while i < s.len() {
         if s[i] == 10 {
             return i + 1;

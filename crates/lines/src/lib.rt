@@ -7,6 +7,7 @@ pub use content::all_allowed;
 pub use content::content_len;
 pub use content::content_of;
 pub use content::find_semicolon;
+pub use content::is_allowed;
 pub use content::is_blank;
 pub use content::rest_of;
 pub use cursor::Cursor;

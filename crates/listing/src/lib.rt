@@ -52,8 +52,7 @@ fn print_sections(s: &[u8]) {
 
 // "trailer verdict"
 fn print_trailer(s: &[u8]) {
-    let n = cut::count_sections(s);
-    let found = trailers::read_trailer(s, n);
+    let found = trailers::read_trailer(s);
     io::write_all(STDOUT_FILENO, b"trailer");
     print_number(found.verdict as u64);
     end_line();

@@ -1,15 +1,14 @@
 -- The machine at a place of a section's bytes, and how fast it counts. Assumes nothing.
-use mathlib.Core.Path.{_≡_, sym, _∙_}
+use mathlib.Core.Path.{_≡_, ap, sym, _∙_}
 use mathlib.Core.Bool.{Bool, true, false}
 use mathlib.Core.List.{List}
 use Prim.Native.Nat.{ℕ, _+_, _-_, _<_, _≤_}
-use native.Mathlib.Numerals.{add-one}
 use native.Mathlib.Omega.{arith}
 use lib.ListN.{length, take, drop}
 use Rattle.page.specs.Bytes.{Bytes}
 use Rattle.page.specs.Lines.{lines, content}
 use Rattle.page.specs.Order.{Order}
-use Rattle.page.specs.Section.{choose, tbl-step, atr-step, frm-step, rec-step, count-step, end-step, mark-step, com-step, line-step, content-step, step, order-after, table-in, finish, refused, continue, run, outcome}
+use Rattle.page.specs.Section.{choose, tbl-step, atr-step, frm-step, rec-step, count-step, end-step, mark-step, com-step, line-step, content-step, step, table-in, finish, refused, continue, run, outcome}
 use Rattle.page.specs.File.{row-of, rowOf}
 use Rattle.page.specs.declared.Number.{Number}
 use Rattle.page.specs.declared.Number.the-variants as N
@@ -21,29 +20,39 @@ use Rattle.page.specs.declared.Step.{Step}
 use Rattle.page.specs.declared.Step.the-variants as S
 use Rattle.page.specs.declared.Outcome.{Outcome}
 use Rattle.page.proofs.ScanLaws.{part-length}
-use Rattle.page.proofs.LineLaws.{line-size, cut-at, lines-end, joined-lines}
-use Rattle.machine.specs.Carries.{records-in, order-at, Carried}
+use Rattle.page.proofs.LineLaws.{line-size, lines-end, joined-lines}
+use Rattle.arrangement.specs.Orders.{held, Stands}
+use Rattle.passing.proofs.PassLaws.{run-more}
+use Rattle.machine.specs.Carries.{records-in, order-at, Carries, Carried}
 use Rattle.cut.specs.Walk.{section-size, section-from}
 
 -- the line at a place, that ends at e
-module _ (s : Bytes) (at e : ℕ) (h : at < length s) (q : e ≡ at + line-size (drop at s)) (latin : Bool) (p : Phase) (o : Order) (n : ℕ) where
-  abbrev l : Bytes
-  l = take (e - at) (drop at s)
+module _ (s : Bytes) (at e : ℕ) (h : at < length s) (q : e ≡ at + line-size (drop at s)) (latin : Bool) (p : Phase) (o : Order) (n : ℕ)
+    (r : Step) (x : r ≡ step latin p o (take (e - at) (drop at s))) where
+  pub turn-go : (p′ : Phase) → r ≡ S.Go p′ → (a : List ℕ) → Carried p p′ o (content (take (e - at) (drop at s))) a
+      → run latin p o n (lines (drop at s)) ≡ run latin p′ (order-at p′ a) (n + 1) (lines (drop e s))
+  unfolding continue
+  turn-go p′ g a k = run-more s at e h q latin p o n ∙ rw (sym x ∙ g, k .is)
 
-  run-more : run latin p o n (lines (drop at s))
-      ≡ continue (step latin p o l) (table-in p) (n + 1) (λ p′. run latin p′ (order-after p o (content l)) (n + 1) (lines (drop e s)))
-  unfolding run
-  run-more = rw (cut-at s at e h q, add-one)
+  pub turn-stop : (v : ℕ) → r ≡ S.Stop v → run latin p o n (lines (drop at s)) ≡ refused (table-in p) v (n + 1)
+  unfolding continue
+  turn-stop v g = run-more s at e h q latin p o n ∙ rw (sym x ∙ g)
 
-  module _ (r : Step) (x : r ≡ step latin p o l) where
-    pub turn-go : (p′ : Phase) → r ≡ S.Go p′ → (a : List ℕ) → Carried p p′ o (content l) a
-        → run latin p o n (lines (drop at s)) ≡ run latin p′ (order-at p′ a) (n + 1) (lines (drop e s))
-    unfolding continue
-    turn-go p′ g a k = run-more ∙ rw (sym x ∙ g, k .is)
+-- records that were skipped, where they are due
+module _ (p : Phase) (t m k : ℕ) (a : List ℕ) (e : p ≡ P.Rows t m k) where
+  pub rows-stand : Carries p a → Stands t a
+  unfolding Carries
+  rows-stand x = rw e at x
 
-    pub turn-stop : (v : ℕ) → r ≡ S.Stop v → run latin p o n (lines (drop at s)) ≡ refused (table-in p) v (n + 1)
-    unfolding continue
-    turn-stop v g = run-more ∙ rw (sym x ∙ g)
+  pub rows-count : records-in p ≡ k
+  unfolding records-in
+  rows-count = ap records-in e
+
+  pub rows-run : (latin : Bool) (s : Bytes) (at b i j : ℕ)
+      → ((n l : ℕ) → run latin (P.Rows t m n) (held t a) l (lines (drop at s)) ≡ run latin (P.Rows t i (n + j)) (held t a) (l + j) (lines (drop b s)))
+      → (n : ℕ) → run latin p (order-at p a) n (lines (drop at s)) ≡ run latin (P.Rows t i (k + j)) (order-at (P.Rows t i (k + j)) a) (n + j) (lines (drop b s))
+  unfolding order-at
+  rows-run latin s at b i j f n = rw e (f k n)
 
 pub run-end : (s : Bytes) (at : ℕ) (latin : Bool) (p : Phase) (o : Order) (n : ℕ) → length s ≤ at → run latin p o n (lines (drop at s)) ≡ finish p n
 unfolding run

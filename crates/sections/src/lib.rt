@@ -1,6 +1,7 @@
 // One section of a file, by value.
 mod answers;
 mod reading;
+mod records;
 mod walk;
 
 pub use answers::section;

@@ -6,6 +6,7 @@ ghost use Rattle.page.specs.Lines.{lines};
 ghost use Rattle.page.specs.Section.{table-in, refused, finish, outcome};
 ghost use Rattle.page.specs.File.{rowOf};
 ghost use Rattle.cut.specs.Walk.{section-from};
+use crate::records::skip_records;
 use arrangement::list_columns;
 use cut::section_end;
 use lines::Cursor;
@@ -14,6 +15,10 @@ use page::Outcome;
 use page::Phase;
 use page::Row;
 use page::Step;
+use tables::HIGHS;
+use tables::KINDS;
+use tables::LOWS;
+use tables::MARKS;
 use tables::find_number;
 
 // "Table number is 0 if the `tbl` line fails."
@@ -58,17 +63,27 @@ fn finish(p: Phase, n: usize) -> Outcome
     }
 }
 
-// "A section gives its first failing line": s is the section's bytes.
+// "A section gives its first failing line": s is the section's bytes. The rows of all columns are asked for once.
 pub fn read_lines(s: &[u8], latin: bool) -> Outcome
     ensures { λ r. ⌜ r ≡ outcome latin (lines (now (s .entry))) ⌝ }
 {
+    let kinds = KINDS;
+    let marks = MARKS;
+    let lows = LOWS;
+    let highs = HIGHS;
     let mut c = Cursor { at: 0 };
     let mut n: usize = 0;
     let mut p = Phase::Tbl;
     let mut o = list_columns();
     while c.at < s.len() {
-        let at = c.at;
-        let l = c.line(s);
+        let r = skip_records(s, c.at, p, &o, latin, &kinds, &marks, &lows, &highs);
+        let at = r.at;
+        n += r.count;
+        p = r.phase;
+        if s.len() <= at {
+            return finish(p, n);
+        }
+        let l = Cursor { at: at }.line(s);
         let e = l.span.to;
         let m = step(&s[at..e], p, o, latin);
         let st = m.step;

@@ -8,16 +8,14 @@ use native.Mathlib.Omega.{arith}
 use lib.Dec.{eqb, ltb}
 use lib.ListN.{length, getD, set, length-append, length-map, List·getD-map, List·getD-eq-default}
 use lib.Seq.{getD-append-add, getD-set-same, getD-set-other, ext-getD}
-use borrow.Author.Tests.{lt-ltb, le-ltb, ltb-true, ltb-false, eqb-true, eqb-false}
+use borrow.Author.Tests.{lt-ltb, le-ltb, ltb-true, ltb-false, ne-eqb, eqb-true, eqb-false}
 use Rattle.page.specs.Bytes.{pick}
-use Rattle.page.specs.Tables.{Named, Rule, points-differ, feeder-combined, Table, all-tables, TABLES, WIDEST, no-table, no-column, table-at, columns, width, column-at, rules}
+use Rattle.page.specs.Tables.{Named, Table, all-tables, TABLES, WIDEST, no-table, no-column, table-at, columns, width, column-at, rules}
 use Rattle.page.specs.Order.{upto}
 use Rattle.page.specs.declared.Column.{Column}
 use Rattle.page.proofs.OrderLaws.{upto-length, upto-at}
 use Rattle.page.proofs.TableLaws.{tables-counted, past-tables, each, column-test, listed, each-table}
 use Rattle.tables.specs.Arrays.{fill, flat, row-of, COLUMNS, columns-before, first-column, Entry, kinds, marks, lows, highs, Said, Flagged, either}
-use Rattle.tables.specs.Keys.{rules-of}
-use Rattle.tables.specs.declared.columns.Rules.{Rules}
 
 pub fill-at : {A : Type 0} (d e : A) (n : ℕ) (xs : List A) (k : ℕ) → k < n → getD (fill n d xs) k e ≡ getD xs k d
 unfolding fill
@@ -108,12 +106,19 @@ pub first-within : (t k : ℕ) → k < width t → first-column t + k < COLUMNS
 unfolding first-column width columns table-at
 first-within t k h = omega (arith, before-within all-tables t, columns-counted)
 
-unfoldable pub firsts : List ℕ
-firsts = map first-column (upto 0 TABLES)
-
-pub first-told : (t : ℕ) → t < TABLES → getD firsts t 0 ≡ first-column t
-unfolding firsts
-first-told t h = map-upto first-column TABLES t 0 h
+-- a table that is none of them
+pub past-all : (t : ℕ) → (t ≡ 0 → ⊥) → (t ≡ 1 → ⊥) → (t ≡ 2 → ⊥) → (t ≡ 3 → ⊥) → (t ≡ 4 → ⊥) → (t ≡ 5 → ⊥) → (t ≡ 6 → ⊥) → (t ≡ 7 → ⊥) → (t ≡ 8 → ⊥) → (t ≡ 9 → ⊥) → TABLES ≤ t
+past-all zero a b c d e f g h i j = absurd (a refl)
+past-all (suc zero) a b c d e f g h i j = absurd (b refl)
+past-all (suc (suc zero)) a b c d e f g h i j = absurd (c refl)
+past-all (suc (suc (suc zero))) a b c d e f g h i j = absurd (d refl)
+past-all (suc (suc (suc (suc zero)))) a b c d e f g h i j = absurd (e refl)
+past-all (suc (suc (suc (suc (suc zero))))) a b c d e f g h i j = absurd (f refl)
+past-all (suc (suc (suc (suc (suc (suc zero)))))) a b c d e f g h i j = absurd (g refl)
+past-all (suc (suc (suc (suc (suc (suc (suc zero))))))) a b c d e f g h i j = absurd (h refl)
+past-all (suc (suc (suc (suc (suc (suc (suc (suc zero)))))))) a b c d e f g h i j = absurd (i refl)
+past-all (suc (suc (suc (suc (suc (suc (suc (suc (suc zero))))))))) a b c d e f g h i j = absurd (j refl)
+past-all (suc (suc (suc (suc (suc (suc (suc (suc (suc (suc t)))))))))) a b c d e f g h i j = omega arith
 
 pub first-past : (t : ℕ) → TABLES ≤ t → COLUMNS ≡ first-column t
 unfolding first-column
@@ -247,37 +252,17 @@ flag-more q r k v h e f j = by (eqb j k) refl
 
 -- the rules, by their columns
 
-abbrev points-in : List Rule → ℕ
-points-in [] = 0
-points-in (points-differ p ∷ rs) = p
-points-in (feeder-combined c x ∷ rs) = points-in rs
+rules-few : (t : ℕ) → t < TABLES → pick (eqb t 6 || (eqb t 7 || eqb t 8)) [] (rules t) ≡ []
+unfolding listed rules table-at all-tables
+rules-few = each-table (λ (t : ℕ). pick (eqb t 6 || (eqb t 7 || eqb t 8)) [] (rules t)) (λ (t : ℕ). []) refl
 
-abbrev feeder-in : List Rule → ℕ
-feeder-in [] = 0
-feeder-in (points-differ p ∷ rs) = feeder-in rs
-feeder-in (feeder-combined c x ∷ rs) = c
+past-rules : (t : ℕ) → TABLES ≤ t → rules t ≡ []
+unfolding rules
+past-rules t h = ap (λ (x : Table). x .rules) (past-tables t h)
 
-abbrev texts-in : List Rule → ℕ
-texts-in [] = 0
-texts-in (points-differ p ∷ rs) = texts-in rs
-texts-in (feeder-combined c x ∷ rs) = x
-
-unfoldable pub points : List ℕ
-points = map (λ (x : Table). points-in (x .rules)) all-tables
-
-unfoldable pub feeders : List ℕ
-feeders = map (λ (x : Table). feeder-in (x .rules)) all-tables
-
-unfoldable pub texts : List ℕ
-texts = map (λ (x : Table). texts-in (x .rules)) all-tables
-
-abbrev rules-at : ℕ → Rules
-rules-at t = record { points = getD points t 0; feeder = getD feeders t 0; texts = getD texts t 0 }
-
-pub rules-told : (t : ℕ) → t < TABLES → rules-of (rules-at t) ≡ rules t
-unfolding listed points feeders texts rules-of rules table-at all-tables
-rules-told = each-table (λ (t : ℕ). rules-of (rules-at t)) rules refl
-
-pub no-rules : (t : ℕ) → TABLES ≤ t → rules-of (record { points = 0; feeder = 0; texts = 0 }) ≡ rules t
-unfolding rules-of rules
-no-rules t h = sym (ap (λ (x : Table). x .rules) (past-tables t h))
+pub rules-none : (t : ℕ) → (t ≡ 6 → ⊥) → (t ≡ 7 → ⊥) → (t ≡ 8 → ⊥) → [] ≡ rules t
+rules-none t a b c = by (ltb t TABLES) refl
+  where
+    by : (q : Bool) → ltb t TABLES ≡ q → [] ≡ rules t
+    by true e = sym (rw (ne-eqb t 6 a, ne-eqb t 7 b, ne-eqb t 8 c) at (rules-few t (ltb-true t TABLES e)))
+    by false e = sym (past-rules t (ltb-false t TABLES e))

@@ -7,22 +7,18 @@ ghost use lib.Dec.{eqb};
 ghost use lib.ListN.{getD};
 ghost use Rattle.page.specs.Bytes.{pick};
 ghost use Rattle.page.specs.Tables.{WIDEST, number-at, width, column-at, rules};
+ghost use Rattle.tables.specs.Arrays as rows;
 ghost use Rattle.tables.specs.Arrays.{first-column, Entry, Said, Flagged, either};
 ghost use Rattle.tables.specs.Keys.{rules-of};
 use crate::COLUMNS;
-use crate::FEEDERS;
-use crate::FIRSTS;
 use crate::HIGHS;
 use crate::KINDS;
 use crate::LOWS;
 use crate::MARKS;
 use crate::NUMBERS;
-use crate::POINTS;
 use crate::SIZES;
 use crate::TABLES;
-use crate::TEXTS;
 use crate::WIDEST;
-use crate::WIDTHS;
 use page::Column;
 
 // The rules of a table's records: the column, from 0, where the four of the two points begin, that of LEITSTELLENKENNUNG, and that where the
@@ -42,39 +38,63 @@ pub fn find_number(t: usize) -> u32
     0
 }
 
+// What a reading asks of a table for each record is looked up by a `match`, which the program has as a table of its own: a row of constants is
+// built anew where it is asked for.
 pub fn find_width(t: usize) -> usize
     ensures { λ r. ⌜ r ≡ width t ⌝ }
 {
-    if t < TABLES {
-        return WIDTHS[t];
+    match t {
+        0 => 2,
+        1 => 2,
+        2 => 4,
+        3 => 3,
+        4 => 4,
+        5 => 3,
+        6 => 7,
+        7 => 8,
+        8 => 20,
+        9 => 9,
+        _ => 0,
     }
-    0
 }
 
 // Where the columns of table t begin in a row of all columns.
 pub fn find_first(t: usize) -> usize
     ensures { λ r. ⌜ r ≡ first-column t ⌝ }
 {
-    if t < TABLES {
-        return FIRSTS[t];
+    match t {
+        0 => 0,
+        1 => 2,
+        2 => 4,
+        3 => 8,
+        4 => 11,
+        5 => 15,
+        6 => 18,
+        7 => 25,
+        8 => 33,
+        9 => 53,
+        _ => COLUMNS,
     }
-    COLUMNS
+}
+
+fn rules_at(points: usize, feeder: usize, texts: usize) -> Rules
+    ensures { λ r. ⌜ (r .points ≡ points) × (r .feeder ≡ feeder) × (r .texts ≡ texts) ⌝ }
+{
+    Rules {
+        points: points,
+        feeder: feeder,
+        texts: texts,
+    }
 }
 
 pub fn find_rules(t: usize) -> Rules
     ensures { λ r. ⌜ rules-of r ≡ rules t ⌝ }
 {
-    if t < TABLES {
-        return Rules {
-            points: POINTS[t],
-            feeder: FEEDERS[t],
-            texts: TEXTS[t],
-        };
-    }
-    Rules {
-        points: 0,
-        feeder: 0,
-        texts: 0,
+    match t {
+        6 => rules_at(2, 0, 0),
+        7 => rules_at(3, 0, 0),
+        8 => rules_at(0, 4, 11),
+        _ => rules_at(0, 0, 0),
     }
 }
 
@@ -144,15 +164,35 @@ pub fn column_of(kind: u8, mark: u8, low: u8, high: u32) -> Column
     }
 }
 
-pub fn find_column(t: usize, k: usize) -> Column
+// The same by the rows of all columns, for one who lends them: column k of table t.
+pub fn column_in(
+    t: usize,
+    k: usize,
+    kinds: &[u8; COLUMNS],
+    marks: &[u8; COLUMNS],
+    lows: &[u8; COLUMNS],
+    highs: &[u32; COLUMNS],
+) -> Column
+    requires { ⌜ (now kinds ≡ rows.kinds) × (now marks ≡ rows.marks) × (now lows ≡ rows.lows) × (now highs ≡ rows.highs) ⌝ }
     ensures { λ r. ⌜ (r .text ≡ column-at t k .text) × (r .lo ≡ column-at t k .lo) × (r .hi ≡ column-at t k .hi)
         × (r .optional ≡ column-at t k .optional) ⌝ }
 {
     let i = find_entry(t, k);
     if i < COLUMNS {
-        return column_of(KINDS[i], MARKS[i], LOWS[i], HIGHS[i]);
+        return column_of(kinds[i], marks[i], lows[i], highs[i]);
     }
     column_of(b'n', b'.', b'0', 0)
+}
+
+pub fn find_column(t: usize, k: usize) -> Column
+    ensures { λ r. ⌜ (r .text ≡ column-at t k .text) × (r .lo ≡ column-at t k .lo) × (r .hi ≡ column-at t k .hi)
+        × (r .optional ≡ column-at t k .optional) ⌝ }
+{
+    let kinds = KINDS;
+    let marks = MARKS;
+    let lows = LOWS;
+    let highs = HIGHS;
+    column_in(t, k, &kinds, &marks, &lows, &highs)
 }
 
 fn is_either(x: u8, a: u8, b: u8) -> bool

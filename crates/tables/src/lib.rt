@@ -1,10 +1,11 @@
 // "The columns, kinds, ranges and keys stand once, as fixed tables": one row a property, for the reader, the checker and the writer alike.
 // The tables stand in the order of document 01, those of document 02 after them, and the columns of all tables one after the other:
-// column k of table t, both from 0, is at FIRSTS[t] + k.
+// column k of table t, both from 0, is at find_first(t) + k.
 mod columns;
 mod references;
 
 pub use columns::Rules;
+pub use columns::column_in;
 pub use columns::column_of;
 pub use columns::find_column;
 pub use columns::find_entry;
@@ -31,10 +32,6 @@ pub const MOST: usize = 3;
 pub const COLUMNS: usize = 62;
 
 const NUMBERS: [u32; TABLES] = [485, 993, 348, 290, 998, 332, 225, 247, 432, 232];
-
-const WIDTHS: [usize; TABLES] = [2, 2, 4, 3, 4, 3, 7, 8, 20, 9];
-
-const FIRSTS: [usize; TABLES] = [0, 2, 4, 8, 11, 15, 18, 25, 33, 53];
 
 // `n` a number, `t` a text.
 pub const KINDS: [u8; COLUMNS] = *b"nt\
@@ -159,14 +156,6 @@ const SIZES: [u8; COLUMNS] = *b"90\
     93926266\
     95003636266000636266\
     953665555";
-
-// The rules of a table's records, each by a column, from 0; 0: the table does not have the rule. Where the four columns of the two points
-// begin; LEITSTELLENKENNUNG, and where the three texts that go with it begin.
-const POINTS: [usize; TABLES] = [0, 0, 0, 0, 0, 0, 2, 3, 0, 0];
-
-const FEEDERS: [usize; TABLES] = [0, 0, 0, 0, 0, 0, 0, 0, 4, 0];
-
-const TEXTS: [usize; TABLES] = [0, 0, 0, 0, 0, 0, 0, 0, 11, 0];
 
 const COUNTS: [usize; TABLES] = [0, 1, 2, 1, 1, 1, 3, 2, 1, 3];
 

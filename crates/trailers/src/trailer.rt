@@ -3,8 +3,7 @@ ghost use mathlib.Core.Path.{_≡_};
 ghost use Prim.Native.Nat.{_≤_, _<_};
 ghost use lib.ListN.{length, drop};
 ghost use Rattle.page.specs.Lines.{lines};
-ghost use Rattle.page.specs.Cut.{trailer-lines};
-ghost use Rattle.page.specs.Trailer.{eof-ok, counts, all-blank, trailer-of};
+ghost use Rattle.page.specs.Trailer.{eof-ok, counts, all-blank, trailerOf};
 use lines::Cursor;
 use page::Finding;
 use page::Number;
@@ -59,11 +58,11 @@ fn read_blanks(s: &[u8], from: usize) -> Finding
     }
 }
 
-// The trailer of a file with n `tbl` lines.
-pub fn read_trailer(s: &[u8], n: usize) -> Finding
-    ensures { λ r. ⌜ r ≡ trailer-of n (trailer-lines (now (s .entry))) ⌝ }
+pub fn read_trailer(s: &[u8]) -> Finding
+    ensures { λ r. ⌜ r ≡ trailerOf (now (s .entry)) ⌝ }
 {
-    let at = cut::find_end(s);
+    let survey = cut::survey_file(s);
+    let at = survey.end;
     if s.len() <= at {
         return Finding {
             verdict: 3,
@@ -72,7 +71,7 @@ pub fn read_trailer(s: &[u8], n: usize) -> Finding
     }
     let l = Cursor { at: at }.line(s);
     let e = l.span.to;
-    if !holds_count(lines::content_of(&s[at..e]), n) {
+    if !holds_count(lines::content_of(&s[at..e]), survey.sections) {
         return Finding {
             verdict: 3,
             line: 1,

@@ -84,7 +84,7 @@ pub fn read_value(w: &[u8], at: usize, m: u64, p: usize, start: usize, column: C
     if w.len() < start {
         return hand_nothing(column);
     }
-    let r = fields::read_field(w, start, column);
+    let r = fields::read_field(w, start, column, true);
     let f = r.field;
     hand_field(f, at, owner_of(m, p + 1))
 }

@@ -15,7 +15,8 @@ usage: bench [--runs N] [--largest MIB | --small] [--call NAME] [--shape NAME]
   --runs N       the best of so many runs (3)
   --largest MIB  sizes 1, 2, 4, .. up to this many MiB (16)
   --small        256 files of 4 KiB instead, one after the other in each run
-  --call NAME    one call: check, list, table, write, fill, strip
+  --call NAME    one call: check, section, list, value, table, write, fill,
+                 strip
   --shape NAME   one shape: rising, shuffled, eight, eight-shuffled, arranged,
                  connections, connections-shuffled, many, huge, huge-shuffled
 
@@ -25,6 +26,8 @@ the same records with the columns of each table in another order, measured in
 turn with eight; connections have four transfers each, and half of them miss the
 numbers that may be missing; many is small tables again and again, which is
 refused by 17 and so only read, and never small; huge is one table, the calendar.
+section, value and table read the section with the most records, value in its
+last record the last text, or the last column of a table that has no texts.
 Prints Markdown tables: MB/s of both, the subject's time by the baseline's, the
 time by that of half the size (2 is growth with the bytes), the most stack a call
 needed, in bytes, and for arranged the time by that of the same records in
@@ -151,10 +154,16 @@ mod tests {
         let all = read("").unwrap();
         assert_eq!(all.sizes(), [1, 2, 4, 8, 16].map(Size::mebibytes));
         assert_eq!(all.shapes().len(), 10);
-        assert_eq!(all.calls(Shape::Eight(Order::Rising)).len(), 6);
+        assert_eq!(all.calls(Shape::Eight(Order::Rising)), ALL);
         assert_eq!(
             all.calls(Shape::Small),
-            [Call::Check, Call::List, Call::Table]
+            [
+                Call::Check,
+                Call::Section,
+                Call::List,
+                Call::Value,
+                Call::Table
+            ]
         );
         let some = read("--largest 4 --call table --shape huge").unwrap();
         assert_eq!(some.sizes(), [1, 2, 4].map(Size::mebibytes));

@@ -30,7 +30,7 @@ impl Report {
             false => (String::new(), ""),
         };
         println!(
-            "| call  | {unit} | {subject} MB/s | {baseline} MB/s | ratio | growth of {subject} | of {baseline} \
+            "| call    | {unit} | {subject} MB/s | {baseline} MB/s | ratio | growth of {subject} | of {baseline} \
              | stack of {subject} | of {baseline} |{names}\n\
              |---|---:|---:|---:|---:|---:|---:|---:|---:|{lines}"
         );
@@ -58,7 +58,7 @@ impl Report {
             format!(" {of_subject:.2} | {of_baseline:.2} |")
         });
         println!(
-            "| {:5} | {:3} | {:.2} | {:.2} | {:.2} | {of_subject} | {of_baseline} | {} | {} |{by_plain}",
+            "| {:7} | {:3} | {:.2} | {:.2} | {:.2} | {of_subject} | {of_baseline} | {} | {} |{by_plain}",
             call.name(),
             size.units(),
             speed(size.total(), subject.time),

@@ -2,6 +2,10 @@
 
 use std::process::{Command, Output};
 
+const CALLS: [&str; 8] = [
+    "check", "section", "list", "value", "table", "write", "fill", "strip",
+];
+
 fn bench(line: &str) -> Output {
     Command::new(env!("CARGO_BIN_EXE_bench"))
         .args(line.split_whitespace())
@@ -21,7 +25,7 @@ fn every_call_is_measured() {
     let output = bench("--largest 2 --runs 1 --shape rising");
     let printed = String::from_utf8(output.stdout).unwrap();
     assert!(output.status.success(), "{printed}");
-    for call in ["check", "list", "table", "write", "fill", "strip"] {
+    for call in CALLS {
         let lines = measured(&printed, call);
         assert_eq!(lines.len(), 2, "{printed}");
         let (sizes, growths) = ([lines[0][2], lines[1][2]], [lines[0][6], lines[1][6]]);
@@ -38,7 +42,7 @@ fn a_refused_file_is_only_read() {
     let printed = String::from_utf8(output.stdout).unwrap();
     assert!(output.status.success(), "{printed}");
     let count = |call| measured(&printed, call).len();
-    assert_eq!(["check", "list", "table", "write"].map(count), [1, 1, 1, 0]);
+    assert_eq!(CALLS.map(count), [1, 1, 1, 1, 1, 0, 0, 0]);
 }
 
 #[test]
@@ -47,8 +51,8 @@ fn small_files_are_read_one_after_the_other() {
     let printed = String::from_utf8(output.stdout).unwrap();
     assert!(output.status.success(), "{printed}");
     assert!(printed.contains("\n## document 01's eight tables in key order, 256 small files\n"));
-    assert!(printed.contains("| call  | KiB |"), "{printed}");
-    for call in ["check", "list", "table", "write", "fill", "strip"] {
+    assert!(printed.contains("| call    | KiB |"), "{printed}");
+    for call in CALLS {
         let lines = measured(&printed, call);
         assert_eq!((lines.len(), lines[0][2]), (1, "4"), "{printed}");
     }
@@ -60,7 +64,7 @@ fn arranged_columns_are_measured_beside_document_01_s_order() {
     let output = bench("--largest 1 --runs 1 --shape arranged");
     let printed = String::from_utf8(output.stdout).unwrap();
     assert!(output.status.success(), "{printed}");
-    for call in ["check", "list", "table", "write", "fill", "strip"] {
+    for call in CALLS {
         let lines = measured(&printed, call);
         assert_eq!(lines.len(), 1, "{printed}");
         let factors: Vec<f64> = lines[0][10..12]
@@ -77,7 +81,7 @@ fn connections_are_measured() {
     let printed = String::from_utf8(output.stdout).unwrap();
     assert!(output.status.success(), "{printed}");
     assert!(printed.contains("\n## connections and transfers shuffled\n"));
-    for call in ["check", "list", "table", "write", "fill", "strip"] {
+    for call in CALLS {
         assert_eq!(measured(&printed, call).len(), 1, "{printed}");
     }
 }

@@ -16,12 +16,12 @@ use Rattle.cells.proofs.put_values.Statement.{statement}
 use Rattle.cells.proofs.put_values.Tie as tie
 
 abbrev Inv-loop : tie.InvT-loop
-Inv-loop cells₀ from w at m t o n starts i₀ c₀ cells i c =
+Inv-loop cells₀ from w at m t o kinds marks lows highs n starts i₀ c₀ cells i c =
     (c ≤ n)
     × Todo cells₀ from (record-cells t (held t o) (record { at = at; rest = w; mark = m }) 1 (width t)) cells i (record-cells t (held t o) (record { at = at; rest = w; mark = m }) (c + 1) (width t - c))
 
 abbrev μ-loop : tie.MeasureT-loop
-μ-loop cells₀ from w at m t o n starts i₀ c₀ cells i c = n - c
+μ-loop cells₀ from w at m t o kinds marks lows highs n starts i₀ c₀ cells i c = n - c
 
 find-width-requires : tie.Need-find-width-requires Inv-loop μ-loop
 find-width-requires c κs = search needs
@@ -54,8 +54,8 @@ array-read-read-value c =
     let i = column-stands (a .t) (a .o .now) (c .before .before .before .loop .c) (p .result) (c .before .before .before .before .before .before .before .before .pre .0) h (p .ensures) in
     omega (arith, width-le (a .t))
 
-find-column-requires : tie.Need-find-column-requires Inv-loop μ-loop
-find-column-requires c κs = omega (arith, c .before .before .before .before .before .find-width .ensures, c .before .before .loop-test .taken, width-le (c .before .before .before .before .before .before .before .before .args .t))
+column-in-requires : tie.Need-column-in-requires Inv-loop μ-loop
+column-in-requires c κs = let p = c .before .before .before .before .before .before .before .before .pre in (p .3, p .4, p .5, p .6)
 
 read-value-requires : tie.Need-read-value-requires Inv-loop μ-loop
 read-value-requires c κs =
@@ -89,7 +89,7 @@ loop-again c =
     let x : Standing = record { at = a .at; rest = a .w .now; mark = a .m } in
     let h : l .c < width (a .t) = omega (arith, c .before .before .before .before .before .before .before .before .before .before .find-width .ensures, c .before .before .before .before .before .before .before .loop-test .taken) in
     let p = c .before .before .before .before .before .before .find-place in
-    let d = c .before .before .before .before .find-column in
+    let d = c .before .before .before .before .column-in in
     let n : l .c ≡ l .c + 1 - 1 = omega arith in
     let v = c .before .before .before .read-value .ensures
     ∙ column-value (a .t) (l .c + 1) (l .c) (p .result) (a .at) (a .m) o (a .w .now) (d .result) n (p .ensures) (d .ensures) in
@@ -117,7 +117,7 @@ put-values-spec =
     find-place-requires
     mul-read-value
     array-read-read-value
-    find-column-requires
+    column-in-requires
     read-value-requires
     put-value-requires
     add-c

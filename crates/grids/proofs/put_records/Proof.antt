@@ -1,10 +1,12 @@
 -- `grids::put_records` meets its contract. Assumes nothing.
 use borrow.Author.Tests.{eqb-true}
 use Rattle.page.specs.Lines.{lines}
-use Rattle.page.specs.Tables.{width}
+use Rattle.page.specs.Tables.{all-tables, width}
 use Rattle.page.specs.Places.{Standing}
 use Rattle.page.specs.Handing.{record-cells, cells-in}
 use Rattle.page.proofs.ScanLaws.{part-length}
+use Rattle.tables.specs.Arrays as rows
+use Rattle.tables.specs.Arrays.{flat, row-of}
 use Rattle.arrangement.specs.Orders.{held}
 use Rattle.lines.proofs.CursorLaws.{handed}
 use Rattle.output.proofs.PutLaws.{Todo, begin, left-is, next-by, at-end, same}
@@ -12,23 +14,24 @@ use Rattle.cells.proofs.CellLaws.{first-fits}
 use Rattle.grids.proofs.GridLaws.{cells-more, cells-other, cells-end}
 use borrow.Author.Needs.{needs}
 use Prim.Native.Nat.{_-_, _≤_}
-use mathlib.Core.Path.{_≡_, sym, _∙_}
+use mathlib.Core.Path.{_≡_, refl, sym, _∙_}
 use native.Mathlib.Omega.{arith}
 use lib.ListN.{length, take, drop}
 use Rattle.grids.proofs.put_records.Statement.{statement}
 use Rattle.grids.proofs.put_records.Tie as tie
 
 abbrev Inv-loop : tie.InvT-loop
-Inv-loop cells₀ s from t o c₀ m₀ i₀ cells c m i =
+Inv-loop cells₀ s from t o kinds marks lows highs c₀ m₀ i₀ cells c m i =
     (c .at ≤ length s)
     × Todo cells₀ 0 (cells-in t (held t o) 0 from (lines (drop from s))) cells i (cells-in t (held t o) m (c .at) (lines (drop (c .at) s)))
+    × (kinds ≡ rows.kinds) × (marks ≡ rows.marks) × (lows ≡ rows.lows) × (highs ≡ rows.highs)
 
 abbrev μ-loop : tie.MeasureT-loop
-μ-loop cells₀ s from t o c₀ m₀ i₀ cells c m i = length s - c .at
+μ-loop cells₀ s from t o kinds marks lows highs c₀ m₀ i₀ cells c m i = length s - c .at
 
 loop-holds : tie.Need-loop-holds Inv-loop μ-loop
-loop-holds c =
-    (omega arith, begin)
+unfolding rows.kinds rows.marks rows.lows rows.highs row-of flat all-tables
+loop-holds c = (omega arith, begin, refl, refl, refl, refl)
 
 line-requires : tie.Need-line-requires Inv-loop μ-loop
 line-requires c κs = search needs
@@ -93,47 +96,51 @@ part-put-values-end c =
 
 put-values-requires : tie.Need-put-values-requires Inv-loop μ-loop
 put-values-requires c κs =
-    let a = c .before .before .before .before .before .before .before .before .before .before .before .before .before .args in
+    let a = c .before .before .before .before .before .before .before .before .before .before .before .before .before .before .before .before .before .args in
     let s = a .s .now in
     let o = held (a .t) (a .o .now) in
-    let l = c .before .before .before .before .before .before .before .before .before .before .loop in
-    let i = c .before .before .before .before .before .before .before .line in
-    let q = c .before .before .before .before .before .before .before .before .if1 .taken in
+    let l = c .before .before .before .before .before .before .before .before .before .before .before .before .before .before .loop in
+    let i = c .before .before .before .before .before .before .before .before .before .before .before .line in
+    let q = c .before .before .before .before .before .before .before .before .before .before .before .before .if1 .taken in
     let y = handed s (l .c .at) (i .result) q (i .ensures) in
-    let p = c .before .before .place-fields in
-    let r = c .before .before .before .before .is-record in
+    let p = c .before .before .before .before .before .before .place-fields in
+    let r = c .before .before .before .before .before .before .before .before .is-record in
     let x : Standing = record { at = p .result .from; rest = take (p .result .to - p .result .from) (drop (p .result .from) s); mark = p .result .mark } in
-    let z = cells-more s (l .c .at) (i .result .span .to) q (y .size) (a .t) o (l .m) (r .result) (r .ensures) (c .before .before .before .if2 .taken) (p .result) (p .ensures) in
+    let z = cells-more s (l .c .at) (i .result .span .to) q (y .size) (a .t) o (l .m) (r .result) (r .ensures) (c .before .before .before .before .before .before .before .if2 .taken) (p .result) (p .ensures) in
     let n : length (take (p .result .to - p .result .from) (drop (p .result .from) s)) ≡ p .result .to - p .result .from = part-length (p .result .from) (p .result .to) s (p .ensures .within) in (
-      c .before .before .before .before .before .before .before .before .before .before .before .before .before .pre .2,
-      rw n (omega (arith, p .ensures .order, p .ensures .within, c .before .before .before .before .before .before .before .before .before .before .before .before .before .pre .1)),
-      first-fits (record-cells (a .t) o x 1 (width (a .t))) (cells-in (a .t) o 0 (i .result .span .to) (lines (drop (i .result .span .to) s))) z (l .inv .1) (omega (arith, c .before .before .before .before .before .before .before .before .before .before .before .before .before .pre .3)),
+      c .before .before .before .before .before .before .before .before .before .before .before .before .before .before .before .before .before .pre .2,
+      rw n (omega (arith, p .ensures .order, p .ensures .within, c .before .before .before .before .before .before .before .before .before .before .before .before .before .before .before .before .before .pre .1)),
+      first-fits (record-cells (a .t) o x 1 (width (a .t))) (cells-in (a .t) o 0 (i .result .span .to) (lines (drop (i .result .span .to) s))) z (l .inv .1) (omega (arith, c .before .before .before .before .before .before .before .before .before .before .before .before .before .before .before .before .before .pre .3)),
+      l .inv .2,
+      l .inv .3,
+      l .inv .4,
+      l .inv .5,
     )
 
 loop-less : tie.Need-loop-less Inv-loop μ-loop
 loop-less c =
-    let a = c .before .before .before .before .before .before .before .before .before .before .before .before .before .before .before .before .args in
+    let a = c .before .before .before .before .before .before .before .before .before .before .before .before .before .before .before .before .before .before .before .before .args in
     let s = a .s .now in
-    let l = c .before .before .before .before .before .before .before .before .before .before .before .before .before .loop in
-    let i = c .before .before .before .before .before .before .before .before .before .before .line in
-    let q = c .before .before .before .before .before .before .before .before .before .before .before .if1 .taken in
+    let l = c .before .before .before .before .before .before .before .before .before .before .before .before .before .before .before .before .before .loop in
+    let i = c .before .before .before .before .before .before .before .before .before .before .before .before .before .before .line in
+    let q = c .before .before .before .before .before .before .before .before .before .before .before .before .before .before .before .if1 .taken in
     let y = handed s (l .c .at) (i .result) q (i .ensures) in
     omega arith
 
 loop-again : tie.Need-loop-again Inv-loop μ-loop
 loop-again c =
-    let a = c .before .before .before .before .before .before .before .before .before .before .before .before .before .before .before .before .args in
+    let a = c .before .before .before .before .before .before .before .before .before .before .before .before .before .before .before .before .before .before .before .before .args in
     let s = a .s .now in
     let o = held (a .t) (a .o .now) in
-    let l = c .before .before .before .before .before .before .before .before .before .before .before .before .before .loop in
-    let i = c .before .before .before .before .before .before .before .before .before .before .line in
-    let q = c .before .before .before .before .before .before .before .before .before .before .before .if1 .taken in
+    let l = c .before .before .before .before .before .before .before .before .before .before .before .before .before .before .before .before .before .loop in
+    let i = c .before .before .before .before .before .before .before .before .before .before .before .before .before .before .line in
+    let q = c .before .before .before .before .before .before .before .before .before .before .before .before .before .before .before .if1 .taken in
     let y = handed s (l .c .at) (i .result) q (i .ensures) in
-    let p = c .before .before .before .before .before .place-fields in
-    let r = c .before .before .before .before .before .before .before .is-record in
+    let p = c .before .before .before .before .before .before .before .before .before .place-fields in
+    let r = c .before .before .before .before .before .before .before .before .before .before .before .is-record in
     let x : Standing = record { at = p .result .from; rest = take (p .result .to - p .result .from) (drop (p .result .from) s); mark = p .result .mark } in
-    let z = cells-more s (l .c .at) (i .result .span .to) q (y .size) (a .t) o (l .m) (r .result) (r .ensures) (c .before .before .before .before .before .before .if2 .taken) (p .result) (p .ensures) in
-    (omega arith, rw (y .next) (next-by z (l .inv .1) (c .before .before .put-values .ensures)))
+    let z = cells-more s (l .c .at) (i .result .span .to) q (y .size) (a .t) o (l .m) (r .result) (r .ensures) (c .before .before .before .before .before .before .before .before .before .before .if2 .taken) (p .result) (p .ensures) in
+    (omega arith, rw (y .next) (next-by z (l .inv .1) (c .before .before .put-values .ensures)), l .inv .2, l .inv .3, l .inv .4, l .inv .5)
 
 sub-wait-on : tie.Need-sub-wait-on Inv-loop μ-loop
 sub-wait-on c =
@@ -189,7 +196,7 @@ loop-again-2 c =
     let y = handed s (l .c .at) (i .result) q (i .ensures) in
     let r = c .before .before .before .is-record in
     let z = cells-other s (l .c .at) (i .result .span .to) q (y .size) (a .t) o (l .m) (r .result) (r .ensures) (c .before .before .if2 .left) in
-    (omega arith, rw (y .next, c .wait-on .ensures) (left-is z (l .inv .1)))
+    (omega arith, rw (y .next, c .wait-on .ensures) (left-is z (l .inv .1)), l .inv .2, l .inv .3, l .inv .4, l .inv .5)
 
 same-length : tie.Need-same-length Inv-loop μ-loop
 same-length c = same (c .before .before .loop .inv .1)

@@ -3,7 +3,7 @@ use Rattle.page.specs.Bytes.{trim}
 use Rattle.page.specs.Fields.{field-size, numberOf}
 use Rattle.page.proofs.FieldLaws.{end-in}
 use Prim.Native.Nat.{ℕ, _-_}
-use mathlib.Core.Path.{_≡_, ap, _∙_}
+use mathlib.Core.Path.{_≡_, refl, ap, _∙_}
 use mathlib.Core.Bool.{false}
 use native.Mathlib.Omega.{arith}
 use lib.ListN.{take, drop}
@@ -35,7 +35,7 @@ returns : tie.Need-returns
 returns c = let a = c .before .before .before .before .before .args in
     let e = c .before .before .before .field-end in
     let n : e .result - a .at ≡ field-size false (drop (a .at) (a .w .now)) = omega arith in
-    (e .ensures, c .read-number .ensures ∙ ap numberOf (c .before .trimmed .ensures) ∙ ap (λ (k : ℕ). numberOf (trim (take k (drop (a .at) (a .w .now))))) n)
+    (e .ensures, c .read-number .ensures ∙ ap numberOf (c .before .trimmed .ensures) ∙ ap (λ (k : ℕ). numberOf (trim (take k (drop (a .at) (a .w .now))))) n, refl)
 
 pub number-slowly-spec : {M : Type 1} → statement M
 number-slowly-spec =

@@ -22,7 +22,7 @@ returns : tie.Need-returns
 returns c =
     let a = c .before .before .before .args in
     let n = c .before .number-at in
-    (n .ensures .0, c .judge-number .ensures ∙ ap (fieldOf (a .column)) (number-part (a .w .now) (a .at) (n .result .end) (n .ensures .0)))
+    (n .ensures .0, c .judge-number .ensures ∙ ap (fieldOf (a .column)) (number-part (a .w .now) (a .at) (n .result .end) (n .ensures .0)), n .ensures .2)
 
 pub number-from-spec : {M : Type 1} → statement M
 number-from-spec = tie.close (tie.spec number-at-requires judge-number-requires returns)

@@ -12,26 +12,20 @@ returns : tie.Need-returns
 returns c =
     file-header (c .before .before .before .before .args .s .now) (c .before .before .refuse-header .result) (c .before .before .refuse-header .ensures) (c .if1 .taken)
 
-count-sections-requires : tie.Need-count-sections-requires
-count-sections-requires c κs =
-    search needs
-
 read-trailer-requires : tie.Need-read-trailer-requires
 read-trailer-requires c κs =
     search needs
 
 returns-2 : tie.Need-returns-2
 returns-2 c =
-    file-trailer (c .before .before .before .before .before .before .before .args .s .now) (c .before .before .before .before .before .refuse-header .result) (c .before .before .before .before .before .refuse-header .ensures) (c .before .before .before .if1 .left) (c .before .before .count-sections .result) (c .before .before .count-sections .ensures)
-    (c .before .read-trailer .result) (c .before .read-trailer .ensures) (c .if2 .taken)
+    file-trailer (c .before .before .before .before .before .before .args .s .now) (c .before .before .before .before .refuse-header .result) (c .before .before .before .before .refuse-header .ensures) (c .before .before .if1 .left) (c .before .read-trailer .result) (c .before .read-trailer .ensures) (c .if2 .taken)
 
 check-sections-requires : tie.Need-check-sections-requires
-check-sections-requires c κs = c .before .before .before .before .before .before .before .pre
+check-sections-requires c κs = c .before .before .before .before .before .before .pre
 
 returns-3 : tie.Need-returns-3
 returns-3 c =
-    file-sections (c .before .before .before .before .before .before .before .before .args .s .now) (c .before .before .before .before .before .before .refuse-header .result) (c .before .before .before .before .before .before .refuse-header .ensures) (c .before .before .before .before .if1 .left) (c .before .before .before .count-sections .result) (c .before .before .before .count-sections .ensures)
-    (c .before .before .read-trailer .result) (c .before .before .read-trailer .ensures) (c .before .if2 .left) (c .check-sections .result) (c .check-sections .ensures)
+    file-sections (c .before .before .before .before .before .before .before .args .s .now) (c .before .before .before .before .before .refuse-header .result) (c .before .before .before .before .before .refuse-header .ensures) (c .before .before .before .if1 .left) (c .before .before .read-trailer .result) (c .before .before .read-trailer .ensures) (c .before .if2 .left) (c .check-sections .result) (c .check-sections .ensures)
 
 pub check-known-spec : {M : Type 1} → statement M
 check-known-spec =
@@ -39,7 +33,6 @@ check-known-spec =
     (tie.spec
     refuse-header-requires
     returns
-    count-sections-requires
     read-trailer-requires
     returns-2
     check-sections-requires

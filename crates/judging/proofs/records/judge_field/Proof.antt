@@ -15,8 +15,8 @@ read-field-requires c κs = search needs
 enum-known-f : tie.Need-enum-known-f
 enum-known-f c = search needs
 
-sub-t11 : tie.Need-sub-t11
-sub-t11 c = let r = c .before .before .before .before .read-field in
+sub-t13 : tie.Need-sub-t13
+sub-t13 c = let r = c .before .before .before .before .read-field in
     let a = c .before .before .before .before .before .before .args in
     span-read (a .column) (field-from (a .w .now) (a .at)) (span-from (a .w .now) (a .at) .from) _ (sym (c .before .before .f .given .1) ∙ r .ensures .1)
 
@@ -36,7 +36,7 @@ returns c = let r = c .before .before .before .before .read-field in
     let f = field-from (a .w .now) (a .at) in
     let k = span-from (a .w .now) (a .at) .from in
     let e = c .before .before .f .given .1 in
-    (r .ensures .0, ap field-number (sym e) ∙ refusal-read (a .column) f k (r .result .field) (r .ensures .1), ap number-of (sym e) ∙ value-read (a .column) f k (r .result .field) (r .ensures .1))
+    (r .ensures .0, ap field-number (sym e) ∙ refusal-read (a .column) f k (r .result .field) (r .ensures .1), ap number-of (sym e) ∙ value-read (a .column) f k (r .result .field) (r .ensures .1), r .ensures .2)
 
 returns-2 : tie.Need-returns-2
 unfolding field-number number-of
@@ -45,7 +45,7 @@ returns-2 c = let r = c .before .before .before .read-field in
     let f = field-from (a .w .now) (a .at) in
     let k = span-from (a .w .now) (a .at) .from in
     let e = c .before .f2 .given .1 in
-    (r .ensures .0, ap field-number (sym e) ∙ refusal-read (a .column) f k (r .result .field) (r .ensures .1), ap number-of (sym e) ∙ value-read (a .column) f k (r .result .field) (r .ensures .1))
+    (r .ensures .0, ap field-number (sym e) ∙ refusal-read (a .column) f k (r .result .field) (r .ensures .1), ap number-of (sym e) ∙ value-read (a .column) f k (r .result .field) (r .ensures .1), r .ensures .2)
 
 returns-3 : tie.Need-returns-3
 unfolding field-number number-of
@@ -54,7 +54,7 @@ returns-3 c = let r = c .before .before .read-field in
     let f = field-from (a .w .now) (a .at) in
     let k = span-from (a .w .now) (a .at) .from in
     let e = c .enum-told .given .1 in
-    (r .ensures .0, ap field-number (sym e) ∙ refusal-read (a .column) f k (r .result .field) (r .ensures .1), ap number-of (sym e) ∙ value-read (a .column) f k (r .result .field) (r .ensures .1))
+    (r .ensures .0, ap field-number (sym e) ∙ refusal-read (a .column) f k (r .result .field) (r .ensures .1), ap number-of (sym e) ∙ value-read (a .column) f k (r .result .field) (r .ensures .1), r .ensures .2)
 
 returns-4 : tie.Need-returns-4
 unfolding field-number number-of
@@ -63,7 +63,7 @@ returns-4 c = let r = c .before .before .before .read-field in
     let f = field-from (a .w .now) (a .at) in
     let k = span-from (a .w .now) (a .at) .from in
     let e = c .before .f3 .given .1 in
-    (r .ensures .0, ap field-number (sym e) ∙ refusal-read (a .column) f k (r .result .field) (r .ensures .1), ap number-of (sym e) ∙ value-read (a .column) f k (r .result .field) (r .ensures .1))
+    (r .ensures .0, ap field-number (sym e) ∙ refusal-read (a .column) f k (r .result .field) (r .ensures .1), ap number-of (sym e) ∙ value-read (a .column) f k (r .result .field) (r .ensures .1), r .ensures .2)
 
 pub judge-field-spec : {M : Type 1} → statement M
 judge-field-spec =
@@ -71,7 +71,7 @@ judge-field-spec =
     (tie.spec
     read-field-requires
     enum-known-f
-    sub-t11
+    sub-t13
     enum-known-f-2
     enum-told
     enum-known-f-3

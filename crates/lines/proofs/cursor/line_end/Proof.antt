@@ -17,14 +17,8 @@ abbrev μ-loop : tie.MeasureT-loop
 skip-blocks-requires : tie.Need-skip-blocks-requires Inv-loop μ-loop
 skip-blocks-requires c κs = search needs
 
-skip-fours-requires : tie.Need-skip-fours-requires Inv-loop μ-loop
-skip-fours-requires c κs = search needs
-
 loop-holds : tie.Need-loop-holds Inv-loop μ-loop
-loop-holds c =
-    let o = c .before .skip-blocks .ensures in
-    let p = c .skip-fours .ensures in
-    (p .within, omega arith)
+loop-holds c = (c .skip-blocks .ensures .within, c .skip-blocks .ensures .size)
 
 shared-slice-read-if1 : tie.Need-shared-slice-read-if1 Inv-loop μ-loop
 shared-slice-read-if1 c = search needs
@@ -34,7 +28,7 @@ add-result c = search needs
 
 returns : tie.Need-returns Inv-loop μ-loop
 returns c =
-    let s = c .before .before .before .before .before .before .before .args .s .now in
+    let s = c .before .before .before .before .before .before .args .s .now in
     omega (arith, size-hit s (c .before .before .before .loop .i) (search needs) (search needs))
 
 add-i : tie.Need-add-i Inv-loop μ-loop
@@ -45,11 +39,11 @@ loop-less c = search needs
 
 loop-again : tie.Need-loop-again Inv-loop μ-loop
 loop-again c =
-    let s = c .before .before .before .before .before .before .before .args .s .now in
+    let s = c .before .before .before .before .before .before .args .s .now in
     (search needs, omega (arith, size-more s (c .before .before .before .loop .i) (search needs) (search needs)))
 
 returns-2 : tie.Need-returns-2 Inv-loop μ-loop
-returns-2 c = omega (arith, size-end (c .before .before .before .before .before .args .s .now) (c .before .loop .i) (search needs))
+returns-2 c = omega (arith, size-end (c .before .before .before .before .args .s .now) (c .before .loop .i) (search needs))
 
 pub line-end-spec : {M : Type 1} → statement M
 line-end-spec =
@@ -58,7 +52,6 @@ line-end-spec =
     Inv-loop
     μ-loop
     skip-blocks-requires
-    skip-fours-requires
     loop-holds
     shared-slice-read-if1
     add-result

@@ -1,66 +1,17 @@
 -- `tables::columns::find_column` meets its contract. Assumes nothing.
-use mathlib.Core.Path.{_∙_}
-use Rattle.page.specs.Tables.{Named, all-tables, column-at}
-use Rattle.tables.specs.Arrays.{flat, row-of, kinds, marks, lows, highs}
-use Rattle.tables.proofs.ArrayLaws.{said-column, no-entry}
+use mathlib.Core.Path.{refl}
 use borrow.Author.Needs.{needs}
+use Rattle.page.specs.Tables.{all-tables}
+use Rattle.tables.specs.Arrays.{flat, row-of, kinds, marks, lows, highs}
 use Rattle.tables.proofs.columns.find_column.Statement.{statement}
 use Rattle.tables.proofs.columns.find_column.Tie as tie
 
-find-entry-requires : tie.Need-find-entry-requires
-find-entry-requires c κs = search needs
-
-array-read-column-of : tie.Need-array-read-column-of
-array-read-column-of c = search needs
-
-array-read-column-of-2 : tie.Need-array-read-column-of-2
-array-read-column-of-2 c = search needs
-
-array-read-column-of-3 : tie.Need-array-read-column-of-3
-array-read-column-of-3 c = search needs
-
-mul-column-of : tie.Need-mul-column-of
-mul-column-of c = search needs
-
-array-read-column-of-4 : tie.Need-array-read-column-of-4
-array-read-column-of-4 c = search needs
-
-column-of-requires : tie.Need-column-of-requires
-column-of-requires c κs = search needs
+column-in-requires : tie.Need-column-in-requires
+unfolding kinds marks lows highs row-of flat all-tables
+column-in-requires c κs = (refl, refl, refl, refl)
 
 returns : tie.Need-returns
-unfolding kinds marks lows highs row-of flat all-tables
-returns c =
-    let a = c .before .before .before .args in
-    let y = c .before .before .find-entry .ensures .there (c .before .if1 .taken) in
-    said-column (a .t) (a .k) (c .before .before .find-entry .result) (y .1) (y .0) (c .column-of .result) (c .column-of .ensures)
-
-column-of-requires-2 : tie.Need-column-of-requires-2
-column-of-requires-2 c κs = search needs
-
-returns-2 : tie.Need-returns-2
-unfolding column-at
-returns-2 c =
-    let s = c .column-of2 .ensures in
-    let x = c .before .before .find-entry .ensures in
-    let h = c .before .if1 .left in (
-      s .text ∙ no-entry (λ (n : Named). n .column .text) x h,
-      s .lo ∙ no-entry (λ (n : Named). n .column .lo) x h,
-      s .hi ∙ no-entry (λ (n : Named). n .column .hi) x h,
-      s .optional ∙ no-entry (λ (n : Named). n .column .optional) x h,
-    )
+returns c = search needs
 
 pub find-column-spec : {M : Type 1} → statement M
-find-column-spec =
-    tie.close
-    (tie.spec
-    find-entry-requires
-    array-read-column-of
-    array-read-column-of-2
-    array-read-column-of-3
-    mul-column-of
-    array-read-column-of-4
-    column-of-requires
-    returns
-    column-of-requires-2
-    returns-2)
+find-column-spec = tie.close (tie.spec column-in-requires returns)

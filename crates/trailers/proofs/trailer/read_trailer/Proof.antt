@@ -3,19 +3,21 @@ use mathlib.Core.Path.{ap, sym, _∙_}
 use native.Mathlib.Omega.{arith}
 use borrow.Author.Tests.{not-true, not-false}
 use borrow.Author.Needs.{needs}
-use Rattle.page.specs.Trailer.{eof-ok}
+use Rattle.page.specs.Trailer.{eof-ok, trailerOf}
 use Rattle.lines.proofs.CursorLaws.{handed}
 use Rattle.trailers.proofs.TrailerLaws.{trailer-more, trailer-stop, trailer-none}
 use Rattle.trailers.proofs.trailer.read_trailer.Statement.{statement}
 use Rattle.trailers.proofs.trailer.read_trailer.Tie as tie
 
-find-end-requires : tie.Need-find-end-requires
-find-end-requires c κs = search needs
+survey-file-requires : tie.Need-survey-file-requires
+survey-file-requires c κs = search needs
 
 returns : tie.Need-returns
+unfolding trailerOf
 returns c =
     let s = c .before .before .before .args .s .now in
-    rw (sym (c .before .find-end .ensures .1)) (sym (trailer-none s (c .before .find-end .result) (c .before .before .before .args .n) (c .if1 .taken)))
+    let f = c .before .survey-file in
+    rw (sym (f .ensures .0), sym (f .ensures .2)) (sym (trailer-none s (f .result .end) (f .result .sections) (c .if1 .taken)))
 
 line-requires : tie.Need-line-requires
 line-requires c κs = search needs
@@ -23,21 +25,21 @@ line-requires c κs = search needs
 sub-content-of : tie.Need-sub-content-of
 sub-content-of c =
     let s = c .before .before .before .before .args .s .now in
-    let at = c .before .before .find-end .result in
+    let at = c .before .before .survey-file .result .end in
     let t = handed s at (c .line .result) (c .before .if1 .left) (c .line .ensures) in
     omega arith
 
 part-content-of-start : tie.Need-part-content-of-start
 part-content-of-start c =
     let s = c .before .before .before .before .args .s .now in
-    let at = c .before .before .find-end .result in
+    let at = c .before .before .survey-file .result .end in
     let t = handed s at (c .line .result) (c .before .if1 .left) (c .line .ensures) in
     search needs
 
 part-content-of-end : tie.Need-part-content-of-end
 part-content-of-end c =
     let s = c .before .before .before .before .args .s .now in
-    let at = c .before .before .find-end .result in
+    let at = c .before .before .survey-file .result .end in
     let t = handed s at (c .line .result) (c .before .if1 .left) (c .line .ensures) in
     search needs
 
@@ -48,31 +50,35 @@ holds-count-requires : tie.Need-holds-count-requires
 holds-count-requires c κs = search needs
 
 returns-2 : tie.Need-returns-2
+unfolding trailerOf
 returns-2 c =
     let s = c .before .before .before .before .before .before .before .before .args .s .now in
-    let at = c .before .before .before .before .before .before .find-end .result in
+    let f = c .before .before .before .before .before .before .survey-file in
+    let at = f .result .end in
     let t = handed s at (c .before .before .before .before .line .result) (c .before .before .before .before .before .if1 .left) (c .before .before .before .before .line .ensures) in
-    rw (sym (c .before .before .before .before .before .before .find-end .ensures .1)) (sym (trailer-stop s at (c .before .before .before .before .line .result .span .to) (c .before .before .before .before .before .before .before .before .args .n) (c .before .before .before .before .before .if1 .left) (t .size) (sym (ap (eof-ok (c .before .before .before .before .before .before .before .before .args .n)) (c .before .before .content-of .ensures)) ∙ sym (c .before .holds-count .ensures) ∙ not-true (c .before .holds-count .result) (c .if2 .taken))))
+    rw (sym (f .ensures .0), sym (f .ensures .2)) (sym (trailer-stop s at (c .before .before .before .before .line .result .span .to) (f .result .sections) (c .before .before .before .before .before .if1 .left) (t .size) (sym (ap (eof-ok (f .result .sections)) (c .before .before .content-of .ensures)) ∙ sym (c .before .holds-count .ensures) ∙ not-true (c .before .holds-count .result) (c .if2 .taken))))
 
 read-blanks-requires : tie.Need-read-blanks-requires
 read-blanks-requires c κs =
     let s = c .before .before .before .before .before .before .before .before .args .s .now in
-    let at = c .before .before .before .before .before .before .find-end .result in
+    let at = c .before .before .before .before .before .before .survey-file .result .end in
     let t = handed s at (c .before .before .before .before .line .result) (c .before .before .before .before .before .if1 .left) (c .before .before .before .before .line .ensures) in
     (omega arith, omega arith)
 
 returns-3 : tie.Need-returns-3
+unfolding trailerOf
 returns-3 c =
     let s = c .before .before .before .before .before .before .before .before .before .args .s .now in
-    let at = c .before .before .before .before .before .before .before .find-end .result in
+    let f = c .before .before .before .before .before .before .before .survey-file in
+    let at = f .result .end in
     let t = handed s at (c .before .before .before .before .before .line .result) (c .before .before .before .before .before .before .if1 .left) (c .before .before .before .before .before .line .ensures) in
-    rw (sym (c .before .before .before .before .before .before .before .find-end .ensures .1)) (c .read-blanks .ensures ∙ sym (trailer-more s at (c .before .before .before .before .before .line .result .span .to) (c .before .before .before .before .before .before .before .before .before .args .n) (c .before .before .before .before .before .before .if1 .left) (t .size) (sym (ap (eof-ok (c .before .before .before .before .before .before .before .before .before .args .n)) (c .before .before .before .content-of .ensures)) ∙ sym (c .before .before .holds-count .ensures) ∙ not-false (c .before .before .holds-count .result) (c .before .if2 .left))))
+    rw (sym (f .ensures .0), sym (f .ensures .2)) (c .read-blanks .ensures ∙ sym (trailer-more s at (c .before .before .before .before .before .line .result .span .to) (f .result .sections) (c .before .before .before .before .before .before .if1 .left) (t .size) (sym (ap (eof-ok (f .result .sections)) (c .before .before .before .content-of .ensures)) ∙ sym (c .before .before .holds-count .ensures) ∙ not-false (c .before .before .holds-count .result) (c .before .if2 .left))))
 
 pub read-trailer-spec : {M : Type 1} → statement M
 read-trailer-spec =
     tie.close
     (tie.spec
-    find-end-requires
+    survey-file-requires
     returns
     line-requires
     sub-content-of
