@@ -10,8 +10,8 @@ use borrow.Author.Tests.{eq-eqb, ne-eqb, eqb-true, eqb-false, le-ltb, leb-true, 
 use lib.Dec.{eqb, leb, ltb}
 use lib.ListN.{length, getD, take, drop, take-append-drop, length-append, length-drop, drop-of-length-le}
 use lib.Seq.{drop-cons, drop-drop, getD-drop, getD-take, length-take-le, take-all}
-use Rattle.page.specs.Bytes.{Bytes, bytes, pick, all, until, keep, space, no-space, trim}
-use Rattle.page.specs.Fields.{parts-here, inside-after, field-size, fields, digit, digits, value, numberOf}
+use Rattle.page.specs.Bytes.{Bytes, bytes, all, until, keep, space, no-space, trim}
+use Rattle.page.specs.Fields.{field-size, fields, digit, digits, value, numberOf}
 use Rattle.page.specs.Tables.{Named}
 use Rattle.page.specs.Marks.{owner-of}
 use Rattle.page.specs.Section.{number-field, left-out, fieldOf, field-number, first-of, first-wrong, amount}
@@ -24,6 +24,7 @@ use Rattle.page.proofs.TestLaws.{and-left, and-right}
 use Rattle.page.proofs.ScanLaws.{until-hit, until-more, keep-stop}
 use Rattle.page.proofs.FieldLaws.{field-more, field-le, from, from-more, from-end, from-all}
 use Rattle.digits.specs.Runs.{field-from}
+use Rattle.digits.proofs.RunLaws.{stop-at}
 use Rattle.decimals.proofs.DecimalLaws.{decimal-few}
 use Rattle.copies.specs.Changed.{changed-values}
 use Rattle.copies.specs.Parts.{marked-by, mark-by, marks-form, datum-by, fields-form, stands, all-stand, Spaced, Ends, Whole}
@@ -285,32 +286,11 @@ left-end w p h =
       each = ap all-stand (from-end w p h);
     }
 
-parted : (inside : Bool) (b : ℕ) → parts-here inside b ≡ true → b ≡ 59
-parted true b e = absurd (false≢true e)
-parted false b e = eqb-true b 59 e
-
-ends-at : (inside : Bool) (w : Bytes) → field-size inside w < length w → getD w (field-size inside w) 0 ≡ 59
-unfolding field-size
-ends-at inside [] h = absurd (omega arith)
-ends-at inside (b ∷ w) h = by (parts-here inside b) refl h (λ x. ends-at (inside-after inside b) w x)
-  where
-    n : ℕ
-    n = field-size (inside-after inside b) w
-
-    by : (q : Bool) → parts-here inside b ≡ q → pick (parts-here inside b) 0 (suc n) < suc (length w) → (n < length w → getD w n 0 ≡ 59)
-        → getD (b ∷ w) (pick (parts-here inside b) 0 (suc n)) 0 ≡ 59
-    by true e l ih = rw e (parted inside b e)
-    by false e l ih =
-        let m : suc n < suc (length w) = rw e at l in
-        rw e (ih (omega arith))
-
 -- the field at p ends at e
 module _ (w : Bytes) (p e : ℕ) (h : p ≤ length w) (q : e ≡ p + field-size false (drop p w)) where
   pub before-next : e + 1 ≤ length w → drop (e + 1) (59 ∷ w) ≡ 59 ∷ drop (e + 1) w
   before-next l =
-      let n : field-size false (drop p w) < length (drop p w) = simp length-drop (omega arith) in
-      let x : getD w e 0 ≡ 59 = rw q (sym (getD-drop p w (field-size false (drop p w)) 0) ∙ ends-at false (drop p w) n) in
-      rw add-one (drop-cons w e 0 (omega arith) ∙ ap (λ (b : ℕ). b ∷ drop (suc e) w) x)
+      rw add-one (drop-cons w e 0 (omega arith) ∙ ap (λ (b : ℕ). b ∷ drop (suc e) w) (stop-at w p e q (omega arith)))
 
   joined : take (e - p) (drop p w) ++ drop (e + 1) (59 ∷ w) ≡ drop p w
   joined =

@@ -10,9 +10,9 @@ use lib.ListN.{length, take, drop, getD, take-append-drop, length-drop}
 use lib.Seq.{take-suc, drop-cons, drop-drop, getD-drop, length-take-le, take-length, take-at}
 use Rattle.page.specs.Bytes.{Bytes, pick, all, until, keep, space, trim}
 use Rattle.page.specs.Lines.{allowed}
-use Rattle.page.specs.Fields.{digit, value, digits, numberOf, inside-after, field-size}
+use Rattle.page.specs.Fields.{digit, value, digits, numberOf, parts-here, inside-after, field-size}
 use Rattle.page.specs.declared.Number.the-variants as N
-use Rattle.page.proofs.TestLaws.{and-left, and-right}
+use Rattle.page.proofs.TestLaws.{false-true, and-left, and-right}
 use Rattle.page.proofs.FieldLaws.{from, from-more, field-hit, field-more}
 use Rattle.page.proofs.NumberLaws.{digit-range, digits-short, ten-more}
 use Rattle.digits.specs.Runs.{field-from, Run}
@@ -155,6 +155,28 @@ module _ (w : Bytes) (at from to v : ℕ) (h : at < length w) (f : from ≡ pick
             omega (arith, ap (field-size false) s ∙ size-run ds (drop to w) (r .plain) z, size),
             ap N.Plus (sym (r .worth)) ∙ sym (here-number ds (drop to w) (r .plain) long short z) ∙ ap (λ (l : Bytes). numberOf (trim (take (field-size false l) l))) (sym s),
           )
+
+-- a field that does not end where the bytes do ends at a `;`
+
+field-stop : (inside : Bool) (w : Bytes) → field-size inside w < length w → getD w (field-size inside w) 0 ≡ 59
+unfolding field-size
+field-stop inside [] h = absurd (omega arith)
+field-stop inside (b ∷ w) h = by (parts-here inside b) refl h (field-stop (inside-after inside b) w)
+  where
+    parts : (x : Bool) → parts-here x b ≡ true → b ≡ 59
+    parts true e = false-true e
+    parts false e = eqb-true b 59 e
+
+    by : (x : Bool) → parts-here inside b ≡ x → pick x 0 (suc (field-size (inside-after inside b) w)) < suc (length w)
+        → (field-size (inside-after inside b) w < length w → getD w (field-size (inside-after inside b) w) 0 ≡ 59)
+        → getD (b ∷ w) (pick x 0 (suc (field-size (inside-after inside b) w))) 0 ≡ 59
+    by true e l f = parts inside e
+    by false e l f = f (omega arith)
+
+pub stop-at : (w : Bytes) (at e : ℕ) → e ≡ at + field-size false (drop at w) → e < length w → getD w e 0 ≡ 59
+stop-at w at e q h =
+    let n : field-size false (drop at w) < length (drop at w) = omega (arith, length-drop at w) in
+    ap (λ (k : ℕ). getD w k 0) q ∙ sym (getD-drop at w (field-size false (drop at w)) 0) ∙ field-stop false (drop at w) n
 
 -- whether a field that has come to a place ends there
 pub ends-here : (w : Bytes) (i : ℕ) → i < length w → eqb (field-size false (drop i w)) 0 ≡ eqb (getD w i 0) 59

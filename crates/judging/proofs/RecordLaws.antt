@@ -3,15 +3,15 @@ use mathlib.Core.Path.{_≡_, refl, ap, sym, _∙_}
 use mathlib.Core.Bool.{Bool, true, false, _&&_}
 use mathlib.Core.List.{List, [], _∷_}
 use mathlib.Core.Option.{Option, none, some}
-use Prim.Native.Nat.{ℕ, suc, _+_, _-_, _<_, _≤_}
+use Prim.Native.Nat.{ℕ, _+_, _-_, _<_, _≤_}
 use native.Mathlib.Numerals.{add-one}
 use native.Mathlib.Omega.{arith}
 use lib.Dec.{eqb, leb, ltb}
 use lib.ListN.{length, getD, set, take, drop, drop-of-length-le, length-drop}
-use lib.Seq.{take-all, take-suc, drop-cons, getD-drop, getD-set-same, getD-set-other}
+use lib.Seq.{take-all, take-suc, drop-cons, getD-set-same, getD-set-other}
 use borrow.Author.Tests.{eq-eqb, ne-eqb, eqb-true, eqb-false, ltb-true, ltb-false}
 use Rattle.page.specs.Bytes.{Bytes, pick, all, moved}
-use Rattle.page.specs.Fields.{parts-here, inside-after, field-size, fields, numberOf}
+use Rattle.page.specs.Fields.{field-size, fields, numberOf}
 use Rattle.page.specs.Tables.{Named, WIDEST, no-column, column-at, width}
 use Rattle.page.specs.Order.{Order, standing, place, by-column}
 use Rattle.page.specs.Section.{Wording, own-of, wordsOf, record-text, text-field, number-field, left-out, fieldOf, field-number, first-of, first-wrong, amount, no-bytes}
@@ -28,6 +28,7 @@ use Rattle.page.proofs.TextLaws.{doubled-least, words-there}
 use Rattle.page.proofs.OrderLaws.{arranged-below, place-in, place-at, by-column-at}
 use Rattle.page.proofs.FieldLaws.{from, from-end}
 use Rattle.lines.proofs.RunLaws.{all-append, all-run}
+use Rattle.digits.proofs.RunLaws.{stop-at}
 use Rattle.fields.proofs.ColumnLaws.{no-number, column-asked}
 use Rattle.tables.specs.Arrays.{first-column, kinds, marks, lows, highs, Said}
 use Rattle.arrangement.specs.Orders.{held, Stands}
@@ -242,21 +243,6 @@ judged-wrong t o fs v ns n e =
 
 -- the bytes that have been walked are allowed: a field's, and the `;` after it
 
-field-stop : (inside : Bool) (w : Bytes) → field-size inside w < length w → getD w (field-size inside w) 0 ≡ 59
-unfolding field-size
-field-stop inside [] h = absurd (omega arith)
-field-stop inside (b ∷ w) h = by (parts-here inside b) refl h (field-stop (inside-after inside b) w)
-  where
-    parts : (x : Bool) → parts-here x b ≡ true → b ≡ 59
-    parts true e = false-true e
-    parts false e = eqb-true b 59 e
-
-    by : (x : Bool) → parts-here inside b ≡ x → pick x 0 (suc (field-size (inside-after inside b) w)) < suc (length w)
-        → (field-size (inside-after inside b) w < length w → getD w (field-size (inside-after inside b) w) 0 ≡ 59)
-        → getD (b ∷ w) (pick x 0 (suc (field-size (inside-after inside b) w))) 0 ≡ 59
-    by true e l f = parts inside e
-    by false e l f = f (omega arith)
-
 module _ (p : ℕ → Bool) (part : p 59 ≡ true) (w : Bytes) (at e : ℕ) (h : at ≤ length w) (q : e ≡ at + field-size false (drop at w)) where
   pub clean-more : (a b : Bool) → (a ≡ true → all p (take at w) ≡ true) → (b ≡ true → all p (take (e - at) (drop at w)) ≡ true)
       → (a && b) ≡ true → all p (take (e + 1) w) ≡ true
@@ -271,9 +257,7 @@ module _ (p : ℕ → Bool) (part : p 59 ≡ true) (w : Bytes) (at e : ℕ) (h :
       by : (c : Bool) → ltb e (length w) ≡ c → all p (take (e + 1) w) ≡ true
       by true c =
           let l : e < length w = ltb-true e (length w) c in
-          let i : field-size false (drop at w) < length (drop at w) = omega (arith, length-drop at w) in
-          let s : getD w e 0 ≡ 59 = ap (λ (k : ℕ). getD w k 0) q ∙ sym (getD-drop at w (field-size false (drop at w)) 0) ∙ field-stop false (drop at w) i in
-          rw (add-one, take-suc w e 0 l, all-append p (take e w) (getD w e 0 ∷ []), here, s, part)
+          rw (add-one, take-suc w e 0 l, all-append p (take e w) (getD w e 0 ∷ []), here, stop-at w at e q l, part)
       by false c =
           let l : length w ≤ e = ltb-false e (length w) c in
           rw (take-all (e + 1) w (omega arith)) (rw (take-all e w l) at here)
