@@ -7,7 +7,7 @@ ghost use lib.ListN.{length, take, drop};
 ghost use Rattle.page.specs.Bytes.{pick, all, trim};
 ghost use Rattle.page.specs.Lines.{allowed};
 ghost use Rattle.page.specs.Fields.{field-size, textOf, numberOf};
-ghost use Rattle.page.specs.Section.{wordsOf, text-field, number-field, left-out, fieldOf, amount};
+ghost use Rattle.page.specs.Section.{wordsOf, text-field, day-field, number-field, left-out, fieldOf, amount};
 ghost use Rattle.page.specs.declared.Number.the-variants as N;
 ghost use Rattle.page.specs.declared.Field.the-variants as F;
 ghost use Rattle.page.specs.Places.{span-from};
@@ -15,6 +15,7 @@ ghost use Rattle.page.specs.Reading.{later-field};
 ghost use Rattle.digits.specs.Runs.{field-from};
 ghost use Rattle.quoted.specs.declared.texts.Size.the-variants as S;
 ghost use Rattle.quoted.specs.Sizes.{sizeOf};
+use calendar::is_real_day;
 use digits::number_at;
 use page::Column;
 use page::Field;
@@ -76,9 +77,22 @@ fn judge_nothing(w: &[u8], from: usize, to: usize, optional: bool) -> Field
     Field::Refused(12)
 }
 
-// 13.
-fn judge_amount(n: u64, lo: u64, hi: u64) -> Field
-    ensures { λ r. ⌜ r ≡ number-field lo hi (N.Plus n) ⌝ }
+// "26, no such day"
+fn judge_day(n: u64, day: bool) -> Field
+    ensures { λ r. ⌜ r ≡ day-field day n ⌝ }
+{
+    if !day {
+        return Field::Number(n);
+    }
+    if is_real_day(n) {
+        return Field::Number(n);
+    }
+    Field::Refused(26)
+}
+
+// 13, "26, no such day, at its field directly after 13"
+fn judge_amount(n: u64, lo: u64, hi: u64, day: bool) -> Field
+    ensures { λ r. ⌜ r ≡ number-field day lo hi (N.Plus n) ⌝ }
 {
     if n < lo {
         return Field::Refused(13);
@@ -86,16 +100,16 @@ fn judge_amount(n: u64, lo: u64, hi: u64) -> Field
     if hi < n {
         return Field::Refused(13);
     }
-    Field::Number(n)
+    judge_day(n, day)
 }
 
-// 12, then 13: a number column's field is the part of w from one place to another, and reads as this number.
+// 12, 13, 26: a number column's field is the part of w from one place to another, and reads as this number.
 fn judge_number(w: &[u8], from: usize, to: usize, number: Number, column: Column) -> Field
     requires { ⌜ (from ≤ to) × (to ≤ length (now w)) × (column .text ≡ false) × (number ≡ numberOf (trim (take (to - from) (drop from (now w))))) ⌝ }
     ensures { λ r. ⌜ r ≡ fieldOf column (trim (take (to - from) (drop from (now (w .entry))))) ⌝ }
 {
     match number {
-        Number::Plus(n) => judge_amount(n, column.lo, column.hi),
+        Number::Plus(n) => judge_amount(n, column.lo, column.hi, column.day),
         Number::Minus(_) => Field::Refused(13),
         Number::Nothing => judge_nothing(w, from, to, column.optional),
     }

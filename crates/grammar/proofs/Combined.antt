@@ -125,7 +125,7 @@ module _ {A : Type 0} where
   fields-tell : (cs : List Named) (fs : List Bytes) (ls : List Law) → Tells A ls → Tells A (fields-laws cs fs ++ ls)
   fields-tell [] fs ls k = k
   fields-tell (c ∷ cs) [] ls k = k
-  fields-tell (c ∷ cs) (f ∷ fs) ls k = by (c .column .text) (c .column .optional) (other refl (λ n. fields-tell cs fs ls k))
+  fields-tell (c ∷ cs) (f ∷ fs) ls k = by (c .column .text) (c .column .optional) (other refl (λ n. other refl (λ n. fields-tell cs fs ls k)))
     where
       by : (b optional : Bool) {xs : List Law} → Tells A xs → Tells A (kind-law b optional f ∷ xs)
       by true optional k = other refl (λ n. k)

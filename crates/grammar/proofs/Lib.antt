@@ -1,3 +1,4 @@
+pub mod Days
 pub mod Values
 pub mod Rules
 pub mod Arranged

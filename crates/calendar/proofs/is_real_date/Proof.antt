@@ -1,8 +1,8 @@
 use borrow.Author.Tests.{le-leb, lt-leb}
 use borrow.Author.Needs.{needs}
 use Rattle.page.specs.Dates.{real-date}
-use Rattle.dates.proofs.dates.is_real_date.Statement.{statement}
-use Rattle.dates.proofs.dates.is_real_date.Tie as tie
+use Rattle.calendar.proofs.is_real_date.Statement.{statement}
+use Rattle.calendar.proofs.is_real_date.Tie as tie
 
 returns : tie.Need-returns
 unfolding real-date

@@ -5,8 +5,8 @@ use borrow.Author.Needs.{needs}
 use mathlib.Core.List.{[], _∷_}
 use Rattle.page.specs.Dates.{days-in}
 use Rattle.page.specs.Bytes.{Bytes}
-use Rattle.dates.proofs.dates.days_in.Statement.{statement}
-use Rattle.dates.proofs.dates.days_in.Tie as tie
+use Rattle.calendar.proofs.days_in.Statement.{statement}
+use Rattle.calendar.proofs.days_in.Tie as tie
 
 days : Bytes
 days = 0 ∷ 31 ∷ 28 ∷ 31 ∷ 30 ∷ 31 ∷ 30 ∷ 31 ∷ 31 ∷ 30 ∷ 31 ∷ 30 ∷ 31 ∷ []

@@ -1,8 +1,8 @@
 use mathlib.Core.Path.{sym, _∙_}
 use borrow.Author.Needs.{needs}
 use Rattle.page.specs.Dates.{days-in}
-use Rattle.dates.proofs.dates.days_in_february.Statement.{statement}
-use Rattle.dates.proofs.dates.days_in_february.Tie as tie
+use Rattle.calendar.proofs.days_in_february.Statement.{statement}
+use Rattle.calendar.proofs.days_in_february.Tie as tie
 
 is-leap-requires : tie.Need-is-leap-requires
 is-leap-requires c κs = search needs

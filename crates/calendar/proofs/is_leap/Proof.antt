@@ -1,8 +1,8 @@
 use Prim.Native.Nat.{_%_}
 use borrow.Author.Tests.{eq-eqb, ne-eqb}
 use Rattle.page.specs.Dates.{leap}
-use Rattle.dates.proofs.dates.is_leap.Statement.{statement}
-use Rattle.dates.proofs.dates.is_leap.Tie as tie
+use Rattle.calendar.proofs.is_leap.Statement.{statement}
+use Rattle.calendar.proofs.is_leap.Tie as tie
 
 returns : tie.Need-returns
 unfolding leap

@@ -1,0 +1,24 @@
+-- `fields::columns::judge_day` meets its contract. Assumes nothing.
+use mathlib.Core.Path.{sym, _∙_}
+use borrow.Author.Needs.{needs}
+use Rattle.page.specs.Section.{day-field}
+use Rattle.fields.proofs.columns.judge_day.Statement.{statement}
+use Rattle.fields.proofs.columns.judge_day.Tie as tie
+
+returns : tie.Need-returns
+unfolding day-field
+returns c = ?
+
+is-real-day-requires : tie.Need-is-real-day-requires
+is-real-day-requires c κs = search needs
+
+returns-2 : tie.Need-returns-2
+unfolding day-field
+returns-2 c = ?
+
+returns-3 : tie.Need-returns-3
+unfolding day-field
+returns-3 c = ?
+
+pub judge-day-spec : {M : Type 1} → statement M
+judge-day-spec = tie.close (tie.spec returns is-real-day-requires returns-2 returns-3)
