@@ -131,11 +131,11 @@ module _ {G : Phase → Type 0} (q : Phase) (c : Column) (f : Bytes) (y : ℕ) (
     where
       inside : (c .lo ≤ n) × (n ≤ c .hi) → ¬ Outside c f
       inside p (negative u h) = absurd (false≢true (cc))
-      inside p (out-of-range {m} u h a) = let z : m ≡ n = cc in a (rw z p)
+      inside p (out-of-range {n = m} u h a) = let z : m ≡ n = cc in a (rw z p)
       inside p (over-size u h a) = false≢true (sym t ∙ u)
 
       real : (c .lo ≤ n) × (n ≤ c .hi) → (d b : Bool) → c .day ≡ d → Decides (Day n) b → Agrees G (field-step (pick (d && not b) (F.Refused 26) (F.Number n))) (law 26 (NoSuchDay c f) ∷ more)
-      real p false b q x = let h = λ (z : c .day ≡ true). absurd (false≢true (sym q ∙ z)) in miss (λ z. false≢true (sym q ∙ z .day)) (next (field-right {o = O.Operator} (a-number t e (p .0) (p .1) h)))
+      real p false b q x = miss (λ z. false≢true (sym q ∙ z .day)) (next (field-right {o = O.Operator} (a-number t e (p .0) (p .1) (λ z. absurd (false≢true (sym q ∙ z))))))
       real p true true q (holds d) = miss (λ z. let a = z .reads in let m : z .value ≡ n = cc in z .unreal (rw m d)) (next (field-right {o = O.Operator} (a-number t e (p .0) (p .1) (λ z. d))))
       real p true false q (fails x) = hit (record { number = t; day = q; value = n; reads = e; unreal = x })
 
@@ -151,7 +151,7 @@ module _ {G : Phase → Type 0} (q : Phase) (c : Column) (f : Bytes) (y : ℕ) (
       inside : length w ≤ c .hi → ¬ Outside c f
       inside p (negative u h) = false≢true (sym u ∙ t)
       inside p (out-of-range u h a) = false≢true (sym u ∙ t)
-      inside p (over-size {x} u h a) = let z : x ≡ w = cc in let b : c .hi < length w = rw z at a in omega arith
+      inside p (over-size {t = x} u h a) = let z : x ≡ w = cc in let b : c .hi < length w = rw z at a in omega arith
 
       by : (b : Bool) → Decides (length w ≤ c .hi) b → Agrees G (field-step (pick b (F.Text (Section.own-span f)) (F.Refused 13))) rest-laws
       by true (holds p) = miss (inside p) (miss (λ z. false≢true (sym (z .number) ∙ t)) (next (field-right {o = O.Operator} (a-text t e p))))

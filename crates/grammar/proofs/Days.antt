@@ -37,7 +37,7 @@ longest y m = by (eqb m 2 && leap y)
 -- and only the months 1 to 12 have days
 no-month : (y m : ℕ) → 12 < m → days-in y m ≡ 0
 unfolding days-in months
-no-month y m h = rw (ne-eqb m 2 (λ e. omega arith)) (List·getD-eq-default months 0 (omega arith))
+no-month y m h = rw (ne-eqb m 2 (λ e. omega arith)) (List·getD-eq-default months 0 {n = m} (omega arith))
 
 month-zero : (y : ℕ) → days-in y 0 ≡ 0
 unfolding days-in
@@ -53,23 +53,26 @@ pub record Real (d : Date) : Type 0 where
 
 pub real-parts : (d : Date) → real-date d ≡ true → Real d
 unfolding real-date
-real-parts d e =
-    let x = fact (both (at-most 1 (d .year)) (both (at-most 1 (d .day)) (at-most (d .day) (days-in (d .year) (d .month))))) e in
-    record {
-      from-year = x .0;
-      from-month = first (d .month) (x .1 .0) (x .1 .1);
-      to-month = last (leb (d .month) 12) (at-most (d .month) 12);
-      from-day = x .1 .0;
-      to-day = omega (arith, longest (d .year) (d .month));
-    }
+real-parts d e = by (fact (both (both (at-most 1 (d .year)) (at-most 1 (d .day))) (at-most (d .day) (days-in (d .year) (d .month)))) e)
   where
-    first : (m : ℕ) → 1 ≤ d .day → d .day ≤ days-in (d .year) m → 1 ≤ m
-    first zero l h = absurd (let z = month-zero (d .year) in let y : ⊥ = omega arith in y)
-    first (suc m) l h = omega arith
+    first : (m : ℕ) → 1 ≤ days-in (d .year) m → 1 ≤ m
+    first zero h = absurd (let z = month-zero (d .year) in let y : ⊥ = omega arith in y)
+    first (suc m) h = omega arith
 
-    last : (b : Bool) → Decides (d .month ≤ 12) b → d .month ≤ 12
-    last true (holds h) = h
-    last false (fails n) = let x = fact (both (at-most 1 (d .year)) (both (at-most 1 (d .day)) (at-most (d .day) (days-in (d .year) (d .month))))) e in absurd (let z = no-month (d .year) (d .month) (omega arith) in let y : ⊥ = omega arith in y)
+    last : (b : Bool) → Decides (d .month ≤ 12) b → 1 ≤ days-in (d .year) (d .month) → d .month ≤ 12
+    last true (holds h) l = h
+    last false (fails n) l = absurd (let z = no-month (d .year) (d .month) (omega arith) in let y : ⊥ = omega arith in y)
+
+    by : ((1 ≤ d .year) × (1 ≤ d .day)) × (d .day ≤ days-in (d .year) (d .month)) → Real d
+    by x =
+        let l : 1 ≤ days-in (d .year) (d .month) = omega arith in
+        record {
+          from-year = x .0 .0;
+          from-month = first (d .month) l;
+          to-month = last (leb (d .month) 12) (at-most (d .month) 12) l;
+          from-day = x .0 .1;
+          to-day = omega (arith, longest (d .year) (d .month));
+        }
 
 -- a value is read as the parts that it is made of
 read-back : (y m d : ℕ) → m ≤ 12 → d ≤ 31 → day-of (y * 10000 + m * 100 + d) ≡ record { year = y; month = m; day = d }
