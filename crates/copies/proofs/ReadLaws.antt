@@ -20,7 +20,7 @@ use Rattle.page.specs.declared.Span.{Span}
 use Rattle.page.specs.declared.Field.{Field}
 use Rattle.page.specs.declared.Field.the-variants as F
 use Rattle.page.proofs.ScanLaws.{part-length, part-moved, keep-stop}
-use Rattle.page.proofs.CountLaws.{Counted, counts, refuses, counted}
+use Rattle.page.proofs.NumberFieldLaws.{NumberRead, as-number, as-refusal, number-read-so}
 use Rattle.page.proofs.FieldLaws.{end-in, span-in, span-part, field-span-in, field-span-part}
 use Rattle.page.proofs.TextLaws.{text-quoted, text-long, text-between, record-text-is, text-kept, unpadded-there, words-there, unpadded-in}
 use Rattle.digits.specs.Runs.{field-from}
@@ -58,9 +58,9 @@ read-of c f z = by (c .text) (left-out (c .optional) f) refl refl z
     worded-so k none e z = absurd (omega arith)
     worded-so k (some x) e z = sized x k e (leb (length (x .own)) (c .hi)) refl z
 
-    number : c .text ≡ false → left-out (c .optional) f ≡ false → {r : Field} → Counted (numberOf f) r → field-number r ≡ 0 → Read c f r
-    number k l (counts n e) z = a-number n k l (sym (ap amount e))
-    number k l (refuses v n) z = absurd (n z)
+    number : c .text ≡ false → left-out (c .optional) f ≡ false → {r : Field} → NumberRead (numberOf f) r → field-number r ≡ 0 → Read c f r
+    number k l (as-number n e) z = a-number n k l (sym (ap amount e))
+    number k l (as-refusal v n) z = absurd (n z)
 
     read : Bool → Bool → Field
     read b d = pick b (text-field (c .hi) (wordsOf f)) (pick d F.Missing (number-field (c .day) (c .lo) (c .hi) (numberOf f)))
@@ -68,7 +68,7 @@ read-of c f z = by (c .text) (left-out (c .optional) f) refl refl z
     by : (b d : Bool) → c .text ≡ b → left-out (c .optional) f ≡ d → field-number (read b d) ≡ 0 → Read c f (read b d)
     by true d k l z = worded-so k (wordsOf f) refl z
     by false true k l z = no-number k l
-    by false false k l z = number k l (counted (c .day) (c .lo) (c .hi) (numberOf f)) z
+    by false false k l z = number k l (number-read-so (c .day) (c .lo) (c .hi) (numberOf f)) z
 
 pub text-opens : (c : Column) (f : Bytes) → c .text ≡ true → field-number (fieldOf c f) ≡ 0 → getD f 0 0 ≡ 34
 unfolding fieldOf wordsOf textOf text-field field-number

@@ -7,7 +7,6 @@ use mathlib.Core.Option.{Option, none, some}
 use Prim.Native.Nat.{ℕ, _+_, _-_, _<_, _≤_}
 use native.Mathlib.Omega.{arith}
 use borrow.Author.Tests.{ne-eqb, le-leb, lt-leb}
-use lib.Dec.{leb}
 use lib.ListN.{length, take, drop}
 use lib.Seq.{take-take, length-take-le}
 use Rattle.page.specs.Bytes.{Bytes, pick, keep, part, moved, space, trimOf, trim, unpadded}
@@ -21,7 +20,7 @@ use Rattle.page.specs.declared.Field.{Field}
 use Rattle.page.specs.declared.Field.the-variants as F
 use Rattle.page.specs.declared.Number.the-variants as N
 use Rattle.page.proofs.ScanLaws.{keep-le, part-length}
-use Rattle.page.proofs.CountLaws.{Counted, counts, refuses, counted}
+use Rattle.page.proofs.NumberFieldLaws.{NumberRead, as-number, as-refusal, number-read-so}
 use Rattle.page.proofs.TextLaws.{text-long, text-padding}
 use Rattle.page.proofs.FieldLaws.{span-part}
 use Rattle.digits.specs.Runs.{field-from}
@@ -183,12 +182,12 @@ module _ (c : Column) (f : Bytes) (x : c .text ≡ false) where
   -- it is the same wherever it stands
   pub number-there : (k : ℕ) → later-field k (fieldOf c f) ≡ fieldOf c f
   unfolding fieldOf
-  number-there k = rw x (by (left-out (c .optional) f) (counted (c .day) (c .lo) (c .hi) (numberOf f)))
+  number-there k = rw x (by (left-out (c .optional) f) (number-read-so (c .day) (c .lo) (c .hi) (numberOf f)))
     where
-      by : (b : Bool) {r : Field} → Counted (numberOf f) r → later-field k (pick b F.Missing r) ≡ pick b F.Missing r
+      by : (b : Bool) {r : Field} → NumberRead (numberOf f) r → later-field k (pick b F.Missing r) ≡ pick b F.Missing r
       by true r = refl
-      by false (counts n e) = refl
-      by false (refuses v n) = refl
+      by false (as-number n e) = refl
+      by false (as-refusal v n) = refl
 
 -- the part is the field that begins at a place
 pub number-part : (w : Bytes) (at e : ℕ) → e ≡ at + field-size false (drop at w) → trim (take (e - at) (drop at w)) ≡ field-from w at

@@ -12,4 +12,6 @@ pub mod Counts
 pub mod Marks
 pub mod Own
 pub mod Missing
+pub mod Tells
 pub mod Combined
+pub mod Dated

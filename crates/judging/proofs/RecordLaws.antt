@@ -23,7 +23,7 @@ use Rattle.page.specs.declared.Field.{Field}
 use Rattle.page.specs.declared.Field.the-variants as F
 use Rattle.page.proofs.TestLaws.{false-true, and-left, and-right}
 use Rattle.page.proofs.TextLaws.{doubled-least, words-there}
-use Rattle.page.proofs.CountLaws.{Counted, counts, refuses, counted}
+use Rattle.page.proofs.NumberFieldLaws.{NumberRead, as-number, as-refusal, number-read-so}
 use Rattle.page.proofs.OrderLaws.{arranged-below, place-in, place-at, by-column-at}
 use Rattle.page.proofs.FieldLaws.{from, from-end}
 use Rattle.lines.proofs.RunLaws.{all-append, all-run}
@@ -77,25 +77,25 @@ span-read c f k sp e = by (c .text) (left-out (c .optional) f) e
     worded-so none w q = absurd (let z : _≡_ {A = ℕ} 0 1 = cc in omega arith)
     worded-so (some x) w q = sized x w (leb (length (x .own)) (c .hi)) q
 
-    no-text : {r : Field} → Counted (numberOf f) r → F.Text sp ≡ later-field k r → sp .from ≤ sp .to
-    no-text (counts n e) q = absurd (let z : _≡_ {A = ℕ} 0 1 = cc in omega arith)
-    no-text (refuses v n) q = absurd (let z : _≡_ {A = ℕ} 0 1 = cc in omega arith)
+    no-text : {r : Field} → NumberRead (numberOf f) r → F.Text sp ≡ later-field k r → sp .from ≤ sp .to
+    no-text (as-number n e) q = absurd (let z : _≡_ {A = ℕ} 0 1 = cc in omega arith)
+    no-text (as-refusal v n) q = absurd (let z : _≡_ {A = ℕ} 0 1 = cc in omega arith)
 
     by : (b d : Bool) → F.Text sp ≡ later-field k (pick b (text-field (c .hi) (wordsOf f)) (pick d F.Missing (number-field (c .day) (c .lo) (c .hi) (numberOf f)))) → sp .from ≤ sp .to
     by true d q = worded-so (wordsOf f) refl q
     by false true q = absurd (let z : _≡_ {A = ℕ} 0 1 = cc in omega arith)
-    by false false q = no-text (counted (c .day) (c .lo) (c .hi) (numberOf f)) q
+    by false false q = no-text (number-read-so (c .day) (c .lo) (c .hi) (numberOf f)) q
 
 -- what is kept of a field that is not wrong
 
 number-known : (c : Column) (f : Bytes) → field-number (fieldOf c f) ≡ 0 → c .text ≡ false → number-of (fieldOf c f) ≡ amount (numberOf f)
 unfolding fieldOf field-number number-of
-number-known c f z e = rw e (by (left-out (c .optional) f) refl (counted (c .day) (c .lo) (c .hi) (numberOf f)) (rw e at z))
+number-known c f z e = rw e (by (left-out (c .optional) f) refl (number-read-so (c .day) (c .lo) (c .hi) (numberOf f)) (rw e at z))
   where
-    by : (d : Bool) → left-out (c .optional) f ≡ d → {r : Field} → Counted (numberOf f) r → field-number (pick d F.Missing r) ≡ 0 → number-of (pick d F.Missing r) ≡ amount (numberOf f)
+    by : (d : Bool) → left-out (c .optional) f ≡ d → {r : Field} → NumberRead (numberOf f) r → field-number (pick d F.Missing r) ≡ 0 → number-of (pick d F.Missing r) ≡ amount (numberOf f)
     by true l r q = sym (ap amount (no-number f (eqb-true (length f) 0 (and-right (c .optional) (eqb (length f) 0) l))))
-    by false l (counts n k) q = sym (ap amount k)
-    by false l (refuses v n) q = absurd (n q)
+    by false l (as-number n k) q = sym (ap amount k)
+    by false l (as-refusal v n) q = absurd (n q)
 
 text-known : (c : Column) (f : Bytes) → field-number (fieldOf c f) ≡ 0 → c .text ≡ true → eqb (number-of (fieldOf c f)) 0 ≡ no-bytes (record-text f)
 unfolding fieldOf text-field field-number number-of record-text doubled

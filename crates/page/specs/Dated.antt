@@ -4,7 +4,8 @@ use mathlib.Core.Bool.{true}
 use mathlib.Core.List.{List, [], _∷_, _++_, map}
 use Prim.Native.Nat.{ℕ}
 use Prim.Native.String.{String}
-use Rattle.page.specs.Bytes.{Bytes, bytes}
+use Rattle.page.specs.Bytes.{Bytes, bytes, pick}
+use Rattle.page.specs.Tables.{Named, Table, all-tables}
 use Rattle.page.specs.Open.{open-all}
 use Rattle.page.specs.Cases.{section-case, file-case, form-case, value-case, a-form, a-value, answer, says, files, versions, day-types, valid-days, calendar, head}
 use Rattle.page.specs.Settled.{Pair, _gives_}
@@ -32,6 +33,19 @@ on-day fields v = section-case true (calendar "rec; " ++ (bytes fields ++ bytes 
 unfoldable pub dated : String → String → Bytes
 dated from days =
     head ++ (versions "rec; 7; \"\"\nend; 1\n" ++ (valid-days from ++ (day-types "rec; 7; 2; \"\"\nend; 1\n" ++ (calendar days ++ bytes "eof; 4\n"))))
+
+-- "VER_GUELTIGKEIT and BETRIEBSTAG", and no other column
+unfoldable pub days-of : List Named → List String
+days-of [] = []
+days-of (c ∷ cs) = pick (c .column .day) (c .name ∷ days-of cs) (days-of cs)
+
+unfoldable pub days-in-all : List Table → List String
+days-in-all [] = []
+days-in-all (t ∷ ts) = days-of (t .columns) ++ days-in-all ts
+
+these-days : days-in-all all-tables ≡ "VER_GUELTIGKEIT" ∷ "BETRIEBSTAG" ∷ []
+unfolding days-in-all days-of all-tables
+these-days = refl
 
 unfoldable pub day-points : List Pair
 day-points =

@@ -13,7 +13,7 @@ use Rattle.page.specs.declared.Column.{Column}
 use Rattle.page.specs.declared.Field.{Field}
 use Rattle.page.specs.declared.Field.the-variants as F
 use Rattle.page.proofs.TextLaws.{words-there}
-use Rattle.page.proofs.CountLaws.{Counted, counts, refuses, counted}
+use Rattle.page.proofs.NumberFieldLaws.{NumberRead, as-number, as-refusal, number-read-so}
 
 -- of a text column a text, with the place that its wording says; of another a number, or that it is missing; or a refusal
 pub data Read (c : Column) (f : Bytes) : Field → Type 0 where
@@ -34,14 +34,14 @@ read-of c f = by (c .text) (left-out (c .optional) f) refl
         sized true = a-text x t q
         sized false = no-value 13 (λ (e : _≡_ {A = ℕ} 13 0). omega arith)
 
-    number : {r : Field} → Counted (numberOf f) r → c .text ≡ false → Read c f r
-    number (counts n e) t = a-number n t
-    number (refuses v n) t = no-value v n
+    number : {r : Field} → NumberRead (numberOf f) r → c .text ≡ false → Read c f r
+    number (as-number n e) t = a-number n t
+    number (as-refusal v n) t = no-value v n
 
     by : (b d : Bool) → c .text ≡ b → Read c f (pick b (text-field (c .hi) (wordsOf f)) (pick d F.Missing (number-field (c .day) (c .lo) (c .hi) (numberOf f))))
     by true d t = words (wordsOf f) refl t
     by false true t = no-number t
-    by false false t = number (counted (c .day) (c .lo) (c .hi) (numberOf f)) t
+    by false false t = number (number-read-so (c .day) (c .lo) (c .hi) (numberOf f)) t
 
 -- the text of a field lies within it
 pub wording-in : (f : Bytes) (x : Wording) → wordsOf f ≡ some x → (x .span .from ≤ x .span .to) × (x .span .to ≤ length f)
