@@ -9,10 +9,10 @@ ghost use Rattle.page.specs.Dates.{
   time-shape,
   time-ok,
 };
-use calendar::is_real_date;
 use crate::places::is_quoted;
 use crate::places::is_triple;
 use crate::places::number_at;
+use calendar::is_real_date;
 use page::Date;
 use page::Time;
 
