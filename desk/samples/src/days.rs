@@ -77,7 +77,7 @@ fn next(Date { year, month, day }: Date) -> Option<Date> {
     }
 }
 
-/// Any day: often at a border of the calendar or of a month, mostly one of few,
+/// Any day: often at a border of the calendar or of a month, often one of few,
 /// so that keys have it in common.
 pub fn draw(random: &mut Random) -> Date {
     match random.below(10) {
@@ -109,7 +109,7 @@ fn draw_leap_year(random: &mut Random) -> u64 {
         return random.pick(&LEAP_YEARS);
     }
     let year = 4 * random.between(1, 2499);
-    // A century without a leap day is followed by a year with one.
+    // Four years after a century without a leap day there is one.
     if is_leap(year) {
         year
     } else {
