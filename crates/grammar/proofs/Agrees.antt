@@ -83,7 +83,7 @@ two false true (fails m) (holds h) s t = miss (λ n. n (inr h)) (t h)
 two false false (fails m) (fails n) s t = hit (λ x. elim x [ inl a ↦ m a | inr b ↦ n b ])
 
 -- a record's verdict is a number, 0 for none: the step that follows it
-unfoldable judged : Phase → ℕ → Step
+unfoldable pub judged : Phase → ℕ → Step
 judged q v = Section.choose (eqb v 0) (S.Go q) (S.Stop v)
 
 judged-must : {G : Phase → Type 0} (q : Phase) {v : ℕ} {b : Bool} {A : Type 0} (x : ℕ) {ls : List Law} → eqb v 0 ≡ false → Decides A b → (A → Agrees G (judged q x) ls) →
@@ -157,7 +157,7 @@ module _ {G : Phase → Type 0} (q : Phase) (c : Column) (f : Bytes) (y : ℕ) (
       by true (holds p) = miss (inside p) (miss (λ z. false≢true (sym (z .number) ∙ t)) (next (field-right {o = O.Operator} (a-text t e p))))
       by false (fails x) = hit (over-size t e (omega arith))
 
-  field-agrees : Agrees G (field-step (Section.fieldOf c f)) (kind-law (c .text) (c .optional) f ∷ rest-laws)
+  pub field-agrees : Agrees G (field-step (Section.fieldOf c f)) (kind-law (c .text) (c .optional) f ∷ rest-laws)
   unfolding Section.fieldOf
   field-agrees = by (c .text) (Section.left-out (c .optional) f) refl (left-out-d (c .optional) f)
     where
@@ -186,7 +186,7 @@ of-record : {t : ℕ} {o : Order} {ms : List ℕ} {fs : List Bytes} {vs : Record
 of-record {vs} h (holds p) = holds (vs, h, p)
 of-record {vs} h (fails n) = fails (λ x. let z : x .0 ≡ vs = reads-once (x .1) h in n (rw z at (x .2)))
 
-judged-goes : {G : Phase → Type 0} (q : Phase) → G q → Agrees G (judged q 0) []
+pub judged-goes : {G : Phase → Type 0} (q : Phase) → G q → Agrees G (judged q 0) []
 unfolding judged Section.choose
 judged-goes q g = goes g
 

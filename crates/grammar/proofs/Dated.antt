@@ -4,25 +4,21 @@ use mathlib.Core.Path.{_≡_, refl, sym, _∙_}
 use mathlib.Core.Bool.{Bool, true, false, not, _||_, _&&_, false≢true}
 use mathlib.Core.List.{List, [], _∷_, _++_}
 use mathlib.Core.Logic.{inl, inr, _↔_}
-use mathlib.Core.Option.{Option, none, some}
 use Prim.Native.Nat.{ℕ, suc, _≤_, _<_}
 use native.Mathlib.Omega.{arith}
-use lib.Dec.{leb}
+use lib.Dec.{eqb, leb}
 use lib.ListN.{length, getD}
 use borrow.Author.Tests.{eq-eqb, not-true}
 use Rattle.page.specs.Bytes.{Bytes}
 use Rattle.page.specs.Lines.{Rec}
-use Rattle.page.specs.Fields.{numberOf}
 use Rattle.page.specs.Tables.{Named, Rule, points-differ, feeder-combined, all-tables, column-at, width, rules}
 use Rattle.page.specs.Order.{Order, standing}
-use Rattle.page.specs.Section.{choose, record-text, day-field, number-field, fieldOf, field-number, first-wrong, rec-verdict, rec-step, line-step, step}
-use Rattle.page.specs.Records.{Datum, number, missing, words, Record}
-use Rattle.page.specs.Grammar.{fields-of, Day, Holds, a-number, no-number, a-text, RecLine}
-use Rattle.page.specs.Refusals.{Law, FirstBroken, kind-law, fields-laws, rules-laws, laws, Outside, negative, out-of-range, over-size, NoSuchDay, Refused, at-line, unfinished}
+use Rattle.page.specs.Section.{choose, day-field, number-field, fieldOf, field-number, first-of, first-wrong, rec-verdict, rec-step, line-step, step}
+use Rattle.page.specs.Records.{Datum, number, Record}
+use Rattle.page.specs.Grammar.{fields-of, Holds, a-number, no-number, a-text, RecLine}
+use Rattle.page.specs.Refusals.{Law, law, FirstBroken, kind-law, fields-laws, rules-laws, laws, Outside, out-of-range, NoSuchDay, Refused, at-line, unfinished}
 use Rattle.page.specs.File.{any}
 use Rattle.page.specs.declared.Column.{Column}
-use Rattle.page.specs.declared.Number.{Number}
-use Rattle.page.specs.declared.Number.the-variants as N
 use Rattle.page.specs.declared.Owner.{Owner}
 use Rattle.page.specs.declared.Owner.the-variants as O
 use Rattle.page.specs.declared.Phase.{Phase}
@@ -31,50 +27,37 @@ use Rattle.page.specs.declared.Step.the-variants as S
 use Rattle.page.proofs.TableLaws.{each, column-test}
 use Rattle.page.proofs.TestLaws.{and-left, and-right}
 use Rattle.page.proofs.OrderLaws.{arranged-long}
-use Rattle.laws.proofs.Decides.{Decides, holds, fails, fact, tested, untested, both, at-most}
+use Rattle.laws.proofs.Decides.{Decides, holds, fails, fact, tested, untested, both, equal, at-most}
 use Rattle.grammar.specs.Days.{FirstUnreal, here, later, UnrealDay, unreal, Undated, at-record, RealDay}
 use Rattle.grammar.proofs.Days.{day-d, day-within}
-use Rattle.grammar.proofs.Values.{left-out-d, number-there, field-right, held}
+use Rattle.grammar.proofs.Values.{number-there, field-right, right-field, held}
 use Rattle.grammar.proofs.Arranged.{Ordered}
+use Rattle.grammar.proofs.Agrees.{Agrees, judged, judged-goes, field-agrees}
 use Rattle.grammar.proofs.Steps.{known-step, stop-exactly}
 use Rattle.grammar.proofs.Refuses.{reach-ordered}
 use Rattle.grammar.proofs.Tells.{Tells, other, this, OfRecord, of-record, told-record}
 
 module _ (c : Column) (f : Bytes) where
+  abbrev own-laws : List Law
+  own-laws = kind-law (c .text) (c .optional) f ∷ law 13 (Outside c f) ∷ law 26 (NoSuchDay c f) ∷ []
+
   -- a field that breaks no law holds a value
   unbroken-holds : ¬ (kind-law (c .text) (c .optional) f .Broken) → ¬ Outside c f → ¬ NoSuchDay c f → (v : Datum) × Holds O.Operator c f v
-  unbroken-holds k i r = by (c .text) refl k
+  unfolding judged choose
+  unbroken-holds k i r = by (eqb (field-number (fieldOf c f)) 0) (equal (field-number (fieldOf c f)) 0) refl
     where
-      in-range : (n : ℕ) → c .text ≡ false → numberOf f ≡ N.Plus n → {b : Bool} → Decides ((c .lo ≤ n) × (n ≤ c .hi)) b → (c .lo ≤ n) × (n ≤ c .hi)
-      in-range n t e (holds p) = p
-      in-range n t e (fails x) = absurd (i (out-of-range t e x))
+      unbroken : (v : ℕ) → ¬ FirstBroken own-laws v
+      unbroken v (inl p) = k (p .0)
+      unbroken v (inr (n, inl p)) = i (p .0)
+      unbroken v (inr (n, inr (m, inl p))) = r (p .0)
+      unbroken v (inr (n, inr (m, inr (l, b)))) = b
 
-      real : (n : ℕ) → c .text ≡ false → numberOf f ≡ N.Plus n → {b : Bool} → Decides (Day n) b → c .day ≡ true → Day n
-      real n t e (holds d) y = d
-      real n t e (fails x) y = absurd (r (record { number = t; day = y; value = n; reads = e; unreal = x }))
+      agrees : Agrees (λ q. Unit) (judged P.Tbl (first-of (field-number (fieldOf c f)) 0)) own-laws
+      agrees = field-agrees P.Tbl c f 0 [] (λ z. judged-goes P.Tbl tt)
 
-      left : c .text ≡ false → numberOf f ≡ N.Nothing → ¬ ((numberOf f ≡ N.Nothing) × ¬ ((c .optional ≡ true) × (f ≡ []))) → {b : Bool} → Decides ((c .optional ≡ true) × (f ≡ [])) b → (v : Datum) × Holds O.Operator c f v
-      left t e k (holds p) = (missing, no-number t (p .0) (p .1))
-      left t e k (fails x) = absurd (k (e, x))
-
-      counted : (n : Number) → numberOf f ≡ n → c .text ≡ false → ¬ ((numberOf f ≡ N.Nothing) × ¬ ((c .optional ≡ true) × (f ≡ []))) → (v : Datum) × Holds O.Operator c f v
-      counted (N.Plus n) e t k =
-          let p = in-range n t e (both (at-most (c .lo) n) (at-most n (c .hi))) in
-          (number n, a-number t e (p .0) (p .1) (real n t e (day-d n)))
-      counted (N.Minus n) e t k = absurd (i (negative t e))
-      counted N.Nothing e t k = left t e k (left-out-d (c .optional) f)
-
-      sized : (w : Bytes) → c .text ≡ true → record-text f ≡ some w → {b : Bool} → Decides (length w ≤ c .hi) b → (v : Datum) × Holds O.Operator c f v
-      sized w t e (holds p) = (words O.Operator w, a-text t e p)
-      sized w t e (fails x) = absurd (i (over-size t e (omega arith)))
-
-      worded : (x : Option Bytes) → record-text f ≡ x → c .text ≡ true → ¬ (record-text f ≡ none) → (v : Datum) × Holds O.Operator c f v
-      worded none e t k = absurd (k e)
-      worded (some w) e t k = sized w t e (at-most (length w) (c .hi))
-
-      by : (b : Bool) → c .text ≡ b → ¬ (kind-law b (c .optional) f .Broken) → (v : Datum) × Holds O.Operator c f v
-      by true t k = worded (record-text f) refl t k
-      by false t k = counted (numberOf f) refl t k
+      by : (b : Bool) → Decides (field-number (fieldOf c f) ≡ 0) b → eqb (field-number (fieldOf c f)) 0 ≡ b → (v : Datum) × Holds O.Operator c f v
+      by true (holds z) e = right-field O.Operator c f z
+      by false (fails n) e = absurd (unbroken (field-number (fieldOf c f)) (agrees .iff (field-number (fieldOf c f)) .0 (rw (e, e))))
 
   -- and one that is within its range and no such day is refused with 26
   unreal-field : ¬ Outside c f → NoSuchDay c f → field-number (fieldOf c f) ≡ 26

@@ -94,7 +94,7 @@ field-right {c = c} {f = f} (a-number {n} t e g h d) = rw (t, number-there (c .o
 field-right {c = c} {f = f} (no-number t p q) = rw (t, tested (left-out-d (c .optional) f) (p, q))
 field-right {c = c} {f = f} (a-text {t = w} t e h) = rw (t, worded-some f w e, tested (at-most (length w) (c .hi)) h)
 
-right-field : (o : Owner) (c : Column) (f : Bytes) → field-number (fieldOf c f) ≡ 0 → (v : Datum) × Holds o c f v
+pub right-field : (o : Owner) (c : Column) (f : Bytes) → field-number (fieldOf c f) ≡ 0 → (v : Datum) × Holds o c f v
 unfolding fieldOf field-number text-field number-field
 right-field o c f = by (c .text) (left-out (c .optional) f) refl (left-out-d (c .optional) f)
   where
