@@ -1,10 +1,12 @@
 //! What the draws reach of days: real ones of all kinds, numbers that are none,
 //! and calendars with many.
 
+mod common;
+
 use std::collections::{BTreeMap, BTreeSet};
 
+use common::{refused, table_at};
 use samples::arrangement::is_arranged;
-use samples::damage::{self, ALL};
 use samples::days::NEAR_MISSES;
 use samples::large::{file, Order, Shape};
 use samples::{Random, Sample};
@@ -109,17 +111,11 @@ fn near_misses_are_what_they_must_be() {
 /// In how many files with this damage a record of each table gives the number,
 /// and in how many of them columns are arranged.
 fn broken(name: &str, number: u32) -> BTreeMap<u16, [usize; 2]> {
-    let damage = ALL.iter().find(|damage| damage.name == name).unwrap();
     let mut met = BTreeMap::new();
-    for index in 0..1_500 {
-        let file = damage::with(&mut Random::of_file(13, index), &[*damage]);
-        let answer = reader::check(&file);
-        if u32::from(answer.number) == number {
-            let row = reader::section(&file, answer.section).unwrap();
-            let [files, arranged] = met.entry(row.table).or_insert([0; 2]);
-            *files += 1;
-            *arranged += usize::from(is_arranged(&file));
-        }
+    for (file, answer) in refused(name, number) {
+        let [files, arranged] = met.entry(table_at(&file, answer)).or_insert([0; 2]);
+        *files += 1;
+        *arranged += usize::from(is_arranged(&file));
     }
     met
 }
