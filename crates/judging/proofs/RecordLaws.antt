@@ -28,7 +28,8 @@ use Rattle.page.proofs.OrderLaws.{arranged-below, place-in, place-at, by-column
 use Rattle.page.proofs.FieldLaws.{from, from-end}
 use Rattle.lines.proofs.RunLaws.{all-append, all-run}
 use Rattle.digits.proofs.RunLaws.{stop-at}
-use Rattle.fields.proofs.ColumnLaws.{no-number, column-asked}
+use Rattle.amounts.proofs.AmountLaws.{no-number}
+use Rattle.fields.proofs.ColumnLaws.{column-asked}
 use Rattle.tables.specs.Arrays.{first-column, kinds, marks, lows, highs, Said}
 use Rattle.arrangement.specs.Orders.{held, Stands}
 use Rattle.tables.proofs.ArrayLaws.{said-column}

@@ -1,10 +1,10 @@
--- `fields::columns::judge_nothing` meets its contract. Assumes nothing.
+-- `amounts::judge_nothing` meets its contract. Assumes nothing.
 use mathlib.Core.Path.{sym}
 use borrow.Author.Tests.{eq-eqb, ne-eqb, not-true, not-false}
 use borrow.Author.Needs.{needs}
 use lib.ListN.{length}
-use Rattle.fields.proofs.columns.judge_nothing.Statement.{statement}
-use Rattle.fields.proofs.columns.judge_nothing.Tie as tie
+use Rattle.amounts.proofs.judge_nothing.Statement.{statement}
+use Rattle.amounts.proofs.judge_nothing.Tie as tie
 
 returns : tie.Need-returns
 returns c = rw (not-true (c .before .before .args .optional) (c .if1 .taken))

@@ -1,10 +1,10 @@
--- `fields::columns::judge_day` meets its contract. Assumes nothing.
+-- `amounts::judge_day` meets its contract. Assumes nothing.
 use mathlib.Core.Path.{sym, _∙_}
 use borrow.Author.Tests.{not-true, not-false}
 use borrow.Author.Needs.{needs}
 use Rattle.page.specs.Section.{day-field}
-use Rattle.fields.proofs.columns.judge_day.Statement.{statement}
-use Rattle.fields.proofs.columns.judge_day.Tie as tie
+use Rattle.amounts.proofs.judge_day.Statement.{statement}
+use Rattle.amounts.proofs.judge_day.Tie as tie
 
 returns : tie.Need-returns
 unfolding day-field

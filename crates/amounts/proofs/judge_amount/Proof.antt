@@ -1,9 +1,9 @@
--- `fields::columns::judge_amount` meets its contract. Assumes nothing.
+-- `amounts::judge_amount` meets its contract. Assumes nothing.
 use mathlib.Core.Path.{sym, _∙_}
 use borrow.Author.Needs.{needs}
-use Rattle.fields.proofs.ColumnLaws.{number-under, number-over, number-fits}
-use Rattle.fields.proofs.columns.judge_amount.Statement.{statement}
-use Rattle.fields.proofs.columns.judge_amount.Tie as tie
+use Rattle.amounts.proofs.AmountLaws.{number-under, number-over, number-fits}
+use Rattle.amounts.proofs.judge_amount.Statement.{statement}
+use Rattle.amounts.proofs.judge_amount.Tie as tie
 
 returns : tie.Need-returns
 returns c = let a = c .before .args in sym (number-under (a .day) (a .lo) (a .hi) _ (c .if1 .taken))

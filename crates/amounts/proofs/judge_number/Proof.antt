@@ -1,12 +1,12 @@
--- `fields::columns::judge_number` meets its contract. Assumes nothing.
+-- `amounts::judge_number` meets its contract. Assumes nothing.
 use mathlib.Core.Path.{sym, _∙_}
 use Prim.Native.Nat.{_-_}
 use borrow.Author.Needs.{needs}
 use lib.ListN.{take, drop}
 use Rattle.page.specs.Bytes.{trim}
-use Rattle.fields.proofs.ColumnLaws.{number-plus, number-minus, number-none}
-use Rattle.fields.proofs.columns.judge_number.Statement.{statement}
-use Rattle.fields.proofs.columns.judge_number.Tie as tie
+use Rattle.amounts.proofs.AmountLaws.{number-plus, number-minus, number-none}
+use Rattle.amounts.proofs.judge_number.Statement.{statement}
+use Rattle.amounts.proofs.judge_number.Tie as tie
 
 enum-known-number : tie.Need-enum-known-number
 enum-known-number c = search needs
