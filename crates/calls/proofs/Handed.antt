@@ -28,7 +28,7 @@ use Rattle.page.specs.Reading.{no-section, section-at, row-at, later-field, fie
 use Rattle.page.specs.Writing.{put-refusal, putOf}
 use Rattle.page.specs.Handing.{text-refusal, place-of, own-text, text-owner, copied, textOut}
 use Rattle.page.specs.Grammar as Grammar
-use Rattle.page.specs.Grammar.{owner-by, Holds, Values, no-field, a-field, Reads, Then, found, skip, Records, pause, a-mark, a-record, the-end, Denotes}
+use Rattle.page.specs.Grammar.{owner-by, Day, Holds, Values, no-field, a-field, Reads, Then, found, skip, Records, pause, a-mark, a-record, the-end, Denotes}
 use Rattle.page.specs.Rules.{Every, none-left, one-more}
 use Rattle.page.specs.declared.Column.{Column}
 use Rattle.page.specs.declared.Field.{Field}
@@ -53,6 +53,7 @@ use Rattle.page.proofs.TextLaws.{words-there, worded-some}
 use Rattle.laws.specs.Begins.{begins}
 use Rattle.grammar.specs.Marks.{marks-at}
 use Rattle.calls.specs.Handed.{StandsFor, a-number, no-number, a-text}
+use Rattle.grammar.proofs.Days.{day-read}
 use Rattle.grammar.proofs.Values.{number-there}
 use Rattle.grammar.proofs.Readings.{handed-denoted, denoted-order, sound-arranged}
 use Rattle.grammar.proofs.Counts.{count-handed}
@@ -179,9 +180,9 @@ values-at {ms} {i} (a-field x g) (suc k) h =
 
 -- what a field that holds a value is read as
 
-number-read : (c : Column) (f : Bytes) (n : ℕ) → c .text ≡ false → numberOf f ≡ N.Plus n → c .lo ≤ n → n ≤ c .hi → fieldOf c f ≡ F.Number n
+number-read : (c : Column) (f : Bytes) (n : ℕ) → c .text ≡ false → numberOf f ≡ N.Plus n → c .lo ≤ n → n ≤ c .hi → (c .day ≡ true → Day n) → fieldOf c f ≡ F.Number n
 unfolding fieldOf number-field
-number-read c f n t e l h = rw (t, number-there (c .optional) f e, e, le-leb (c .lo) n l, le-leb n (c .hi) h)
+number-read c f n t e l h d = rw (t, number-there (c .optional) f e, e, le-leb (c .lo) n l, le-leb n (c .hi) h, day-read (c .day) n d)
 
 missing-read : (c : Column) (f : Bytes) → c .text ≡ false → c .optional ≡ true → f ≡ [] → fieldOf c f ≡ F.Missing
 unfolding fieldOf
@@ -299,7 +300,7 @@ module _ (s : Bytes) (i r f : ℕ) (g : Given s i r f) where
   value-says = by field-holds
     where
       by : {d : Datum} → Holds (owner-by the-marks f) (column-at the-table (f - 1)) the-field d → StandsFor s (value-at here r f) d
-      by (Grammar.a-number {n} a b c e) = rw (value-reads (F.Number n) (number-read (column-at the-table (f - 1)) the-field n a b c e)) a-number
+      by (Grammar.a-number {n} a b c e k) = rw (value-reads (F.Number n) (number-read (column-at the-table (f - 1)) the-field n a b c e k)) a-number
       by (Grammar.no-number a b c) = rw (value-reads F.Missing (missing-read (column-at the-table (f - 1)) the-field a b c)) no-number
       by (Grammar.a-text {t} a b c) =
           rw (value-reads (F.Text (own-span the-field)) (text-read (column-at the-table (f - 1)) the-field t a b c), ← owner-is) (a-text {x = the-text} (text-span t b))
@@ -314,7 +315,7 @@ module _ (s : Bytes) (i r f : ℕ) (g : Given s i r f) where
   text-says h = by (datum-at i r f (modelOf s)) refl field-holds
     where
       by : (d : Datum) → datum-at i r f (modelOf s) ≡ d → Holds (owner-by the-marks f) (column-at the-table (f - 1)) the-field d → TextSays
-      by d e (Grammar.a-number a b c k) = absurd (false≢true (sym a ∙ h))
+      by d e (Grammar.a-number a b c k l) = absurd (false≢true (sym a ∙ h))
       by d e (Grammar.no-number a b c) = absurd (false≢true (sym a ∙ h))
       by d e (Grammar.a-text {t} a b c) =
           record {

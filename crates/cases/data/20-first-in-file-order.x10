@@ -6,8 +6,8 @@ ifv; "1.0"
 tbl; FIRMENKALENDER
 atr; BASIS_VERSION; BETRIEBSTAG; BETRIEBSTAG_TEXT; TAGESART_NR
 frm; num[9.0]; num[8.0]; char[40]; num[3.0]
-rec; 7; 1; ""; 1
-rec; 7; 2; ""; 2
+rec; 7; 20240101; ""; 1
+rec; 7; 20240102; ""; 2
 end; 2
 tbl; MENGE_TAGESART
 atr; BASIS_VERSION; TAGESART_NR; TAGESART_TEXT

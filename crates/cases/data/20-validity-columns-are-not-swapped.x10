@@ -6,11 +6,11 @@ ifv; "1.0"
 tbl; MENGE_BASIS_VERSIONEN
 atr; BASIS_VERSION; BASIS_VERSION_TEXT
 frm; num[9.0]; char[40]
-rec; 7; "Winter"
+rec; 20240101; "Winter"
 end; 1
 tbl; BASIS_VER_GUELTIGKEIT
 atr; VER_GUELTIGKEIT; BASIS_VERSION
 frm; num[8.0]; num[9.0]
-rec; 7; 20240101
+rec; 20240101; 20240102
 end; 1
 eof; 2

@@ -1,6 +1,6 @@
 -- A field that passed its column's rules is read as a text, a number or a missing number, and what is read is what is written. Assumes nothing.
 use mathlib.Core.Path.{_≡_, refl, ap, sym, _∙_}
-use mathlib.Core.Bool.{Bool, true, false, _&&_}
+use mathlib.Core.Bool.{Bool, true, false}
 use mathlib.Core.List.{[], _∷_, _++_}
 use mathlib.Core.Option.{Option, none, some}
 use Prim.Native.Nat.{ℕ, _+_, _-_, _*_, _<_, _≤_}
@@ -17,11 +17,10 @@ use Rattle.page.specs.Reading.{later-field}
 use Rattle.page.specs.Form.{doubled, quoted}
 use Rattle.page.specs.declared.Column.{Column}
 use Rattle.page.specs.declared.Span.{Span}
-use Rattle.page.specs.declared.Number.{Number}
-use Rattle.page.specs.declared.Number.the-variants as N
 use Rattle.page.specs.declared.Field.{Field}
 use Rattle.page.specs.declared.Field.the-variants as F
 use Rattle.page.proofs.ScanLaws.{part-length, part-moved, keep-stop}
+use Rattle.page.proofs.NumberFieldLaws.{NumberRead, as-number, as-refusal, number-read-so}
 use Rattle.page.proofs.FieldLaws.{end-in, span-in, span-part, field-span-in, field-span-part}
 use Rattle.page.proofs.TextLaws.{text-quoted, text-long, text-between, record-text-is, text-kept, unpadded-there, words-there, unpadded-in}
 use Rattle.digits.specs.Runs.{field-from}
@@ -47,7 +46,7 @@ data Read (c : Column) (f : Bytes) : Field → Type 0 where
   no-number : c .text ≡ false → left-out (c .optional) f ≡ true → Read c f F.Missing
 
 read-of : (c : Column) (f : Bytes) → field-number (fieldOf c f) ≡ 0 → Read c f (fieldOf c f)
-unfolding fieldOf text-field number-field field-number
+unfolding fieldOf text-field field-number
 read-of c f z = by (c .text) (left-out (c .optional) f) refl refl z
   where
     sized : (x : Wording) → c .text ≡ true → wordsOf f ≡ some x → (b : Bool) → leb (length (x .own)) (c .hi) ≡ b
@@ -59,24 +58,17 @@ read-of c f z = by (c .text) (left-out (c .optional) f) refl refl z
     worded-so k none e z = absurd (omega arith)
     worded-so k (some x) e z = sized x k e (leb (length (x .own)) (c .hi)) refl z
 
-    ranged : (n : ℕ) → c .text ≡ false → left-out (c .optional) f ≡ false → n ≡ amount (numberOf f) → (b : Bool)
-        → field-number (pick b (F.Number n) (F.Refused 13)) ≡ 0 → Read c f (pick b (F.Number n) (F.Refused 13))
-    ranged n k l e true z = a-number n k l e
-    ranged n k l e false z = absurd (omega arith)
-
-    counted : c .text ≡ false → left-out (c .optional) f ≡ false → (n : Number) → numberOf f ≡ n → field-number (number-field (c .lo) (c .hi) n) ≡ 0
-        → Read c f (number-field (c .lo) (c .hi) n)
-    counted k l (N.Plus n) e z = ranged n k l (sym (ap amount e)) (leb (c .lo) n && leb n (c .hi)) z
-    counted k l (N.Minus n) e z = absurd (omega arith)
-    counted k l N.Nothing e z = absurd (omega arith)
+    number : c .text ≡ false → left-out (c .optional) f ≡ false → {r : Field} → NumberRead (numberOf f) r → field-number r ≡ 0 → Read c f r
+    number k l (as-number n e) z = a-number n k l (sym (ap amount e))
+    number k l (as-refusal v n) z = absurd (n z)
 
     read : Bool → Bool → Field
-    read b d = pick b (text-field (c .hi) (wordsOf f)) (pick d F.Missing (number-field (c .lo) (c .hi) (numberOf f)))
+    read b d = pick b (text-field (c .hi) (wordsOf f)) (pick d F.Missing (number-field (c .day) (c .lo) (c .hi) (numberOf f)))
 
     by : (b d : Bool) → c .text ≡ b → left-out (c .optional) f ≡ d → field-number (read b d) ≡ 0 → Read c f (read b d)
     by true d k l z = worded-so k (wordsOf f) refl z
     by false true k l z = no-number k l
-    by false false k l z = counted k l (numberOf f) refl z
+    by false false k l z = number k l (number-read-so (c .day) (c .lo) (c .hi) (numberOf f)) z
 
 pub text-opens : (c : Column) (f : Bytes) → c .text ≡ true → field-number (fieldOf c f) ≡ 0 → getD f 0 0 ≡ 34
 unfolding fieldOf wordsOf textOf text-field field-number

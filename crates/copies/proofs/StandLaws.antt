@@ -107,9 +107,9 @@ minus-none : (w : Bytes) → stands w ≡ true → eqb (getD w 0 0) 45 ≡ false
 unfolding stands
 minus-none w e = ne-eqb (getD w 0 0) 45 (λ (q : getD w 0 0 ≡ 45). false≢true (rw (eq-eqb (getD w 0 0) 45 q) at e))
 
-number-stands : (lo hi : ℕ) (w : Bytes) → field-number (number-field lo hi (numberOf w)) ≡ 0 → stands w ≡ true → w ≡ decimal (amount (numberOf w))
+number-stands : (day : Bool) (lo hi : ℕ) (w : Bytes) → field-number (number-field day lo hi (numberOf w)) ≡ 0 → stands w ≡ true → w ≡ decimal (amount (numberOf w))
 unfolding number-field field-number numberOf
-number-stands lo hi w z s = by (digits w) refl
+number-stands day lo hi w z s = by (digits w) refl
   where
     x : eqb (getD w 0 0) 45 ≡ false
     x = minus-none w s
@@ -139,7 +139,7 @@ module _ (c : Column) (w : Bytes) (ok : field-number (fieldOf c w) ≡ 0) (s : s
       by : (q l : Bool) → c .text ≡ q → left-out (c .optional) w ≡ l → w ≡ datum-text (datumOf o c w)
       by true l x y = rw x (text-whole c w x ok (text-bare c w x ok s))
       by false true x y = rw (x, y) (empty w (eqb-true (length w) 0 (and-right (c .optional) (eqb (length w) 0) y)))
-      by false false x y = rw (x, y) (number-stands (c .lo) (c .hi) w (rw (x, y) at ok) s)
+      by false false x y = rw (x, y) (number-stands (c .day) (c .lo) (c .hi) w (rw (x, y) at ok) s)
 
 -- nothing is marked where no mark waits and no field is filled
 

@@ -1,9 +1,6 @@
 // "a quoted real Gregorian date from year 0001 in the stated form and a quoted time 00:00:00 to 23:59:59"
 ghost use mathlib.Core.Path.{_≡_};
 ghost use Rattle.page.specs.Dates.{
-  leap,
-  days-in,
-  real-date,
   real-time,
   dateOf,
   date-shape,
@@ -15,57 +12,9 @@ ghost use Rattle.page.specs.Dates.{
 use crate::places::is_quoted;
 use crate::places::is_triple;
 use crate::places::number_at;
+use calendar::is_real_date;
 use page::Date;
 use page::Time;
-
-const DAYS: [u64; 13] = [0, 31, 28, 31, 30, 31, 30, 31, 31, 30, 31, 30, 31];
-
-fn is_leap(year: u64) -> bool
-    ensures { λ r. ⌜ r ≡ leap year ⌝ }
-{
-    if year % 4 != 0 {
-        return year % 400 == 0;
-    }
-    if year % 100 != 0 {
-        return true;
-    }
-    year % 400 == 0
-}
-
-fn days_in_february(year: u64) -> u64
-    ensures { λ r. ⌜ r ≡ days-in year 2 ⌝ }
-{
-    if is_leap(year) { 29 } else { 28 }
-}
-
-// 0 for a month that there is not.
-pub fn days_in(year: u64, month: u64) -> u64
-    ensures { λ r. ⌜ r ≡ days-in year month ⌝ }
-{
-    if month == 2 {
-        return days_in_february(year);
-    }
-    if 12 < month {
-        return 0;
-    }
-    let m = month as usize;
-    DAYS[m]
-}
-
-fn is_real_date(d: Date) -> bool
-    ensures { λ r. ⌜ r ≡ real-date d ⌝ }
-{
-    let year = d.year;
-    let month = d.month;
-    let day = d.day;
-    if year < 1 {
-        return false;
-    }
-    if day < 1 {
-        return false;
-    }
-    day <= days_in(year, month)
-}
 
 // The form DD.MM.YYYY is 1, YYYY/MM/DD is 2.
 fn is_date_shape(f: &[u8], form: u32) -> bool

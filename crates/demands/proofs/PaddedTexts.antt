@@ -97,7 +97,7 @@ Trimmed missing = Unit
 Trimmed (words o t) = unpadded t ≡ t
 
 fits-trimmed : {latin : Bool} {c : Column} {v : Datum} → Fits latin c v → Trimmed v
-fits-trimmed (a-number x l h) = tt
+fits-trimmed (a-number x l h d) = tt
 fits-trimmed (no-number x o) = tt
 fits-trimmed (a-text x l a e) = e
 fits-trimmed (a-suggestion x m p l a e) = e

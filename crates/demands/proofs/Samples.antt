@@ -113,15 +113,20 @@ formats-step latin t (c ∷ o) h a =
     (fields-allowed (format-at t) (width t) (latin && eqb Frm Rec) (λ c k. formed t c h k .printed (latin && eqb Frm Rec)) (c ∷ o) b) in
     rw (s .clean, s .shown, s .named, s .split, formats-right t h (c ∷ o) b)
 
--- a record: the least number of each column, a text that is not empty, and numbers that no rule refuses
+-- a record: the least number of each column, or the first day, a text that is not empty, and numbers that no rule refuses
 
 other : ℕ → Rule → Bool
 other k (points-differ p) = eqb k (p + 3)
 other k (feeder-combined c x) = eqb k c
 
+least : ℕ → ℕ → ℕ
+least t c = pick (column-at t c .day) 10101 (column-at t c .lo)
+
+number-at : ℕ → ℕ → ℕ
+number-at t c = pick (any (other c) (rules t)) (column-at t c .hi) (least t c)
+
 unfoldable sample-at : ℕ → ℕ → Bytes
-sample-at t c =
-    pick (column-at t c .text) (quoted (bytes "x")) (decimal (pick (any (other c) (rules t)) (column-at t c .hi) (column-at t c .lo)))
+sample-at t c = pick (column-at t c .text) (quoted (bytes "x")) (decimal (number-at t c))
 
 pub sample-line : ℕ → Order → Bytes
 sample-line t o = line E.Lf "rec" (map (sample-at t) o)
@@ -152,7 +157,7 @@ record Sampled (t : ℕ) : Type 0 where
   filled : full (samples t) ≡ true
 
 sampled : (t : ℕ) → t < TABLES → Sampled t
-unfolding listed open-all other sample-at samples full
+unfolding listed open-all other least number-at sample-at samples full
 sampled t h =
     record {
       right = each-table (λ t. first-wrong (columns t) (samples t)) (λ t. 0) refl t h;
@@ -164,12 +169,12 @@ sample-field : (t c : ℕ) → Field (sample-at t c)
 unfolding sample-at
 sample-field t c = by (column-at t c .text)
   where
-    by : (b : Bool) → Field (pick b (quoted (bytes "x")) (decimal (pick (any (other c) (rules t)) (column-at t c .hi) (column-at t c .lo))))
+    by : (b : Bool) → Field (pick b (quoted (bytes "x")) (decimal (number-at t c)))
     by true = quoted-field (bytes "x")
-    by false = decimal-field (pick (any (other c) (rules t)) (column-at t c .hi) (column-at t c .lo))
+    by false = decimal-field (number-at t c)
 
 sample-printed : (wide : Bool) (t c : ℕ) → t < TABLES → c < width t → all (allowed wide) (sample-at t c) ≡ true
-unfolding listed open-all other sample-at
+unfolding listed open-all other least number-at sample-at
 sample-printed true = each-column (λ t c. all (allowed true) (sample-at t c)) refl
 sample-printed false = each-column (λ t c. all (allowed false) (sample-at t c)) refl
 

@@ -28,7 +28,7 @@ module _ (latin : Bool) where
   strip-fit : {cs : List Named} {vs : Record} → FitAll latin cs vs → FitAll latin cs (map strip-datum vs)
   unfolding strip-datum all keep unpadded
   strip-fit no-value = no-value
-  strip-fit (a-value (a-number k l h) g) = a-value (a-number k l h) (strip-fit g)
+  strip-fit (a-value (a-number k l h d) g) = a-value (a-number k l h d) (strip-fit g)
   strip-fit (a-value (no-number k o) g) = a-value (no-number k o) (strip-fit g)
   strip-fit (a-value (a-text k l a e) g) = a-value (a-text k l a e) (strip-fit g)
   strip-fit (a-value {c} (a-suggestion k f p l a e) g) = a-value (a-text k (let z : 0 ≤ c .column .hi = omega arith in z) refl refl) (strip-fit g)
@@ -36,7 +36,7 @@ module _ (latin : Bool) where
   strip-alike : {cs : List Named} {vs : Record} → FitAll latin cs vs → Alike cs vs (map strip-datum vs)
   unfolding strip-datum
   strip-alike no-value = alike-none
-  strip-alike (a-value (a-number k l h) g) = alike-same (strip-alike g)
+  strip-alike (a-value (a-number k l h d) g) = alike-same (strip-alike g)
   strip-alike (a-value (no-number k o) g) = alike-same (strip-alike g)
   strip-alike (a-value (a-text k l a e) g) = alike-same (strip-alike g)
   strip-alike (a-value (a-suggestion k f p l a e) g) = alike-text f (strip-alike g)

@@ -9,7 +9,7 @@ use Rattle.page.specs.Bytes.{Bytes, pick}
 use Rattle.page.specs.Fields.{fields, numberOf}
 use Rattle.page.specs.Tables.{column-at, width}
 use Rattle.page.specs.Order.{standing, place}
-use Rattle.page.specs.Section.{left-out, fieldOf, field-number, first-wrong, amount}
+use Rattle.page.specs.Section.{left-out, fieldOf, ReadAlike, field-number, first-wrong, amount}
 use Rattle.page.specs.Places.{field-place, span-from}
 use Rattle.page.specs.Reading.{later-field}
 use Rattle.page.specs.declared.Column.{Column}
@@ -48,7 +48,7 @@ module _ (t : ℕ) (a : List ℕ) (x : Stands t a) (w : Bytes) (n : length (fiel
 
 -- what is read of a field, as what the code asks of its column
 module _ (t k : ℕ) (w : Bytes) (from : ℕ) (h : from ≤ length w) (ok : field-number (fieldOf (column-at t k) (field-from w from)) ≡ 0) (d : Column)
-    (x : (d .text ≡ column-at t k .text) × (d .lo ≡ column-at t k .lo) × (d .hi ≡ column-at t k .hi) × (d .optional ≡ column-at t k .optional)) (r : Field)
+    (x : ReadAlike d (column-at t k)) (r : Field)
     (q : r ≡ later-field (span-from w from .from) (fieldOf d (field-from w from))) where
   asked : r ≡ later-field (span-from w from .from) (fieldOf (column-at t k) (field-from w from))
   asked = q ∙ ap (later-field (span-from w from .from)) (column-asked (column-at t k) d x (field-from w from))

@@ -1,26 +1,24 @@
 -- A text field by its size and its place, a number field by its number.
 -- Assumes nothing.
 use mathlib.Core.Path.{_≡_, refl, ap, sym, _∙_}
-use mathlib.Core.Bool.{Bool, true, false, _&&_}
-use mathlib.Core.List.{[], _∷_}
+use mathlib.Core.Bool.{Bool, true, false}
 use mathlib.Core.Option.{Option, none, some}
 use Prim.Native.Nat.{ℕ, _+_, _-_, _<_, _≤_}
 use native.Mathlib.Omega.{arith}
-use borrow.Author.Tests.{ne-eqb, le-leb, lt-leb}
-use lib.Dec.{leb}
+use borrow.Author.Tests.{le-leb, lt-leb}
 use lib.ListN.{length, take, drop}
 use lib.Seq.{take-take, length-take-le}
 use Rattle.page.specs.Bytes.{Bytes, pick, keep, part, moved, space, trimOf, trim, unpadded}
-use Rattle.page.specs.Fields.{field-size, textOf, digits, numberOf}
-use Rattle.page.specs.Section.{own-span, worded, wordsOf, text-field, number-field, left-out, fieldOf}
+use Rattle.page.specs.Fields.{field-size, textOf, numberOf}
+use Rattle.page.specs.Section.{own-span, worded, wordsOf, text-field, left-out, fieldOf, ReadAlike}
 use Rattle.page.specs.Places.{span-from}
 use Rattle.page.specs.Reading.{later-field}
 use Rattle.page.specs.declared.Column.{Column}
 use Rattle.page.specs.declared.Span.{Span}
+use Rattle.page.specs.declared.Field.{Field}
 use Rattle.page.specs.declared.Field.the-variants as F
-use Rattle.page.specs.declared.Number.{Number}
-use Rattle.page.specs.declared.Number.the-variants as N
 use Rattle.page.proofs.ScanLaws.{keep-le, part-length}
+use Rattle.page.proofs.NumberFieldLaws.{NumberRead, as-number, as-refusal, number-read-so}
 use Rattle.page.proofs.TextLaws.{text-long, text-padding}
 use Rattle.page.proofs.FieldLaws.{span-part}
 use Rattle.digits.specs.Runs.{field-from}
@@ -133,66 +131,21 @@ text-walked w at from e size q p =
     ap (λ (k : ℕ). later-field k (text-field size (wordsOf (take (e - from) (drop from w))))) q
     ∙ ap (λ (z : Bytes). later-field (span-from w at .from) (text-field size (wordsOf z))) (sym p)
 
-module _ (lo hi n : ℕ) where
-  pub number-under : n < lo → number-field lo hi (N.Plus n) ≡ F.Refused 13
-  unfolding number-field
-  number-under h = rw (lt-leb lo n h)
-
-  pub number-over : lo ≤ n → hi < n → number-field lo hi (N.Plus n) ≡ F.Refused 13
-  unfolding number-field
-  number-over h k = rw (le-leb lo n h, lt-leb n hi k)
-
-  pub number-fits : lo ≤ n → n ≤ hi → number-field lo hi (N.Plus n) ≡ F.Number n
-  unfolding number-field
-  number-fits h k = rw (le-leb lo n h, le-leb n hi k)
-
 -- the reading of a field asks its column for its kind, its bounds and whether its number may be missing
-pub column-asked : (c d : Column) → (d .text ≡ c .text) × (d .lo ≡ c .lo) × (d .hi ≡ c .hi) × (d .optional ≡ c .optional) → (w : Bytes) → fieldOf d w ≡ fieldOf c w
+pub column-asked : (c d : Column) → ReadAlike d c → (w : Bytes) → fieldOf d w ≡ fieldOf c w
 unfolding fieldOf
-column-asked c d e w = rw (e .0, e .1, e .2, e .3)
+column-asked c d e w = rw (e .text, e .day, e .lo, e .hi, e .optional)
 
--- an empty field has no number
-pub no-number : (w : Bytes) → length w ≡ 0 → numberOf w ≡ N.Nothing
-unfolding numberOf digits
-no-number [] e = refl
-no-number (b ∷ w) e = absurd (omega arith)
-
-given : (optional : Bool) (w : Bytes) → (numberOf w ≡ N.Nothing → ⊥) → left-out optional w ≡ false
-given false w n = refl
-given true w n = ne-eqb (length w) 0 (λ (e : length w ≡ 0). n (no-number w e))
-
--- a number column's field by the number that it reads as
+-- a number column's field is the same wherever it stands
 module _ (c : Column) (f : Bytes) (x : c .text ≡ false) where
-  pub number-plus : (n : ℕ) → N.Plus n ≡ numberOf f → number-field (c .lo) (c .hi) (N.Plus n) ≡ fieldOf c f
-  unfolding fieldOf
-  number-plus n e =
-      let l : left-out (c .optional) f ≡ false = given (c .optional) f (λ (q : numberOf f ≡ N.Nothing). absurd (let z : _≡_ {A = ℕ} 0 1 = cc in omega arith)) in
-      rw (x, l, e)
-
-  pub number-minus : (n : ℕ) → N.Minus n ≡ numberOf f → F.Refused 13 ≡ fieldOf c f
-  unfolding fieldOf number-field
-  number-minus n e =
-      let l : left-out (c .optional) f ≡ false = given (c .optional) f (λ (q : numberOf f ≡ N.Nothing). absurd (let z : _≡_ {A = ℕ} 0 1 = cc in omega arith)) in
-      rw (x, l, sym e)
-
-  pub number-none : N.Nothing ≡ numberOf f → pick (left-out (c .optional) f) F.Missing (F.Refused 12) ≡ fieldOf c f
-  unfolding fieldOf number-field
-  number-none e = rw (x, sym e)
-
-  -- it is the same wherever it stands
   pub number-there : (k : ℕ) → later-field k (fieldOf c f) ≡ fieldOf c f
-  unfolding fieldOf number-field
-  number-there k = rw x (by (left-out (c .optional) f) (numberOf f))
+  unfolding fieldOf
+  number-there k = rw x (by (left-out (c .optional) f) (number-read-so (c .day) (c .lo) (c .hi) (numberOf f)))
     where
-      ranged : (b : Bool) (n : ℕ) → later-field k (pick b (F.Number n) (F.Refused 13)) ≡ pick b (F.Number n) (F.Refused 13)
-      ranged true n = refl
-      ranged false n = refl
-
-      by : (b : Bool) (n : Number) → later-field k (pick b F.Missing (number-field (c .lo) (c .hi) n)) ≡ pick b F.Missing (number-field (c .lo) (c .hi) n)
-      by true n = refl
-      by false (N.Plus n) = ranged (leb (c .lo) n && leb n (c .hi)) n
-      by false (N.Minus n) = refl
-      by false N.Nothing = refl
+      by : (b : Bool) {r : Field} → NumberRead (numberOf f) r → later-field k (pick b F.Missing r) ≡ pick b F.Missing r
+      by true r = refl
+      by false (as-number n e) = refl
+      by false (as-refusal v n) = refl
 
 -- the part is the field that begins at a place
 pub number-part : (w : Bytes) (at e : ℕ) → e ≡ at + field-size false (drop at w) → trim (take (e - at) (drop at w)) ≡ field-from w at

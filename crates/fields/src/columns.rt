@@ -4,17 +4,16 @@ ghost use mathlib.Core.Path.{_≡_};
 ghost use mathlib.Core.Bool.{Bool, true, false};
 ghost use Prim.Native.Nat.{_+_, _-_, _≤_};
 ghost use lib.ListN.{length, take, drop};
-ghost use Rattle.page.specs.Bytes.{pick, all, trim};
+ghost use Rattle.page.specs.Bytes.{all};
 ghost use Rattle.page.specs.Lines.{allowed};
-ghost use Rattle.page.specs.Fields.{field-size, textOf, numberOf};
-ghost use Rattle.page.specs.Section.{wordsOf, text-field, number-field, left-out, fieldOf, amount};
-ghost use Rattle.page.specs.declared.Number.the-variants as N;
-ghost use Rattle.page.specs.declared.Field.the-variants as F;
+ghost use Rattle.page.specs.Fields.{field-size, textOf};
+ghost use Rattle.page.specs.Section.{wordsOf, text-field, fieldOf, amount};
 ghost use Rattle.page.specs.Places.{span-from};
 ghost use Rattle.page.specs.Reading.{later-field};
 ghost use Rattle.digits.specs.Runs.{field-from};
 ghost use Rattle.quoted.specs.declared.texts.Size.the-variants as S;
 ghost use Rattle.quoted.specs.Sizes.{sizeOf};
+use amounts::judge_number;
 use digits::number_at;
 use page::Column;
 use page::Field;
@@ -57,47 +56,6 @@ fn read_text_field(w: &[u8], from: usize, to: usize, size: u64) -> Field
     match text_size(&w[from..to]) {
         Size::Is(n) => judge_text(w, from, to, n, size),
         Size::Nothing => Field::Refused(11),
-    }
-}
-
-// No number stands in the part of w from one place to another. "Where a column there allows NULL, an empty field is a missing number": any
-// other is 12.
-fn judge_nothing(w: &[u8], from: usize, to: usize, optional: bool) -> Field
-    requires { ⌜ (from ≤ to) × (to ≤ length (now w)) ⌝ }
-    ensures { λ r. ⌜ r ≡ pick (left-out optional (trim (take (to - from) (drop from (now (w .entry)))))) F.Missing (F.Refused 12) ⌝ }
-{
-    if !optional {
-        return Field::Refused(12);
-    }
-    let f = lines::trimmed(&w[from..to]);
-    if f.len() == 0 {
-        return Field::Missing;
-    }
-    Field::Refused(12)
-}
-
-// 13.
-fn judge_amount(n: u64, lo: u64, hi: u64) -> Field
-    ensures { λ r. ⌜ r ≡ number-field lo hi (N.Plus n) ⌝ }
-{
-    if n < lo {
-        return Field::Refused(13);
-    }
-    if hi < n {
-        return Field::Refused(13);
-    }
-    Field::Number(n)
-}
-
-// 12, then 13: a number column's field is the part of w from one place to another, and reads as this number.
-fn judge_number(w: &[u8], from: usize, to: usize, number: Number, column: Column) -> Field
-    requires { ⌜ (from ≤ to) × (to ≤ length (now w)) × (column .text ≡ false) × (number ≡ numberOf (trim (take (to - from) (drop from (now w))))) ⌝ }
-    ensures { λ r. ⌜ r ≡ fieldOf column (trim (take (to - from) (drop from (now (w .entry))))) ⌝ }
-{
-    match number {
-        Number::Plus(n) => judge_amount(n, column.lo, column.hi),
-        Number::Minus(_) => Field::Refused(13),
-        Number::Nothing => judge_nothing(w, from, to, column.optional),
     }
 }
 

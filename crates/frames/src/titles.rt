@@ -54,6 +54,7 @@ fn put_format_of(out: &mut [u8], at: usize, t: usize, k: usize) -> usize
         at,
         Column {
             text: text,
+            day: false,
             lo: 0,
             hi: 0,
             size: size,

@@ -1,10 +1,10 @@
 -- One walk over the machine's tests: it refuses a line exactly by the first law that the line breaks, and goes on only where the grammar leads.
 use mathlib.Core.Path.{_≡_, refl, ap, sym, _∙_}
-use mathlib.Core.Bool.{Bool, true, false, _&&_, false≢true}
+use mathlib.Core.Bool.{Bool, true, false, not, _&&_, false≢true}
 use mathlib.Core.List.{List, [], _∷_, _++_, List·Memᴰ, List·Memᴰ·head, List·Memᴰ·tail, List·Memᴰ·not-nil, List·Memᴰ·cases-cons}
 use mathlib.Core.Logic.{_⊎_, inl, inr, _↔_}
 use mathlib.Core.Option.{Option, none, some}
-use Prim.Native.Nat.{ℕ, zero, suc, _≤_}
+use Prim.Native.Nat.{ℕ, zero, suc, _≤_, _<_}
 use native.Mathlib.Omega.{arith}
 use native.Mathlib.Numerals.{add-one}
 use borrow.Author.Tests.{ne-eqb}
@@ -13,13 +13,14 @@ use lib.ListN.{length}
 use Rattle.page.specs.Bytes.{Bytes, bytes, pick}
 use Rattle.page.specs.Lines.{content, blank, command, rest, clean, Tbl, Atr, Frm, Rec, End, Com}
 use Rattle.page.specs.Fields.{fields, numberOf}
+use Rattle.page.specs.Dates.{real-day}
 use Rattle.page.specs.Tables.{Named, Rule, rule-number, table-at, rules, width}
 use Rattle.page.specs.Order.{Order, order-of, arranged, standing, by-column}
 use Rattle.page.specs.Marks.{remarkOf}
 use Rattle.page.specs.Section
-use Rattle.page.specs.Records.{Datum, number, missing, words, Record}
-use Rattle.page.specs.Grammar.{fields-of, Says, AtrLine, Quiet, empty, remark, Holds, a-number, no-number, a-text, Breaks, Reads, RecLine}
-use Rattle.page.specs.Refusals.{Law, law, FirstBroken, either-laws, marks-of, InOrder, kind-law, fields-laws, rules-laws, rec-laws, end-laws, command-laws, GoodMark, laws, Leads, quiet, tbl, atr, frm, mark, record-line, end}
+use Rattle.page.specs.Records.{words, Record}
+use Rattle.page.specs.Grammar.{fields-of, Says, AtrLine, Quiet, empty, remark, Day, a-number, no-number, a-text, Breaks, Reads, RecLine}
+use Rattle.page.specs.Refusals.{Law, law, FirstBroken, either-laws, marks-of, InOrder, Outside, negative, out-of-range, over-size, NoSuchDay, kind-law, fields-laws, rules-laws, rec-laws, end-laws, command-laws, GoodMark, laws, Leads, quiet, tbl, atr, frm, mark, record-line, end}
 use Rattle.page.specs.declared.Number.{Number}
 use Rattle.page.specs.declared.Number.the-variants as N
 use Rattle.page.specs.declared.Column.{Column}
@@ -38,7 +39,8 @@ use Rattle.page.proofs.ArrangeLaws.{order-named}
 use Rattle.page.proofs.TextLaws.{worded-none, worded-some}
 use Rattle.laws.proofs.Decides.{Decides, holds, fails, fact, when, both, equal, at-most}
 use Rattle.laws.proofs.Tests.{is-d, names-d, formats-d, rises-d, unknown-d, blank-missing, one-d, named-d}
-use Rattle.grammar.proofs.Values.{LeftOut, left-out-d, field-right}
+use Rattle.grammar.proofs.Days.{day-d}
+use Rattle.grammar.proofs.Values.{LeftOut, left-out-d, empty-no-number, number-some, field-right}
 use Rattle.grammar.proofs.Arranged.{Ordered, reads-once, reads-rule, right-reads, reads-empty}
 
 -- the step stops with v exactly if v is the first broken law's number, and goes on only to what G says
@@ -81,7 +83,7 @@ two false true (fails m) (holds h) s t = miss (λ n. n (inr h)) (t h)
 two false false (fails m) (fails n) s t = hit (λ x. elim x [ inl a ↦ m a | inr b ↦ n b ])
 
 -- a record's verdict is a number, 0 for none: the step that follows it
-unfoldable judged : Phase → ℕ → Step
+unfoldable pub judged : Phase → ℕ → Step
 judged q v = Section.choose (eqb v 0) (S.Go q) (S.Stop v)
 
 judged-must : {G : Phase → Type 0} (q : Phase) {v : ℕ} {b : Bool} {A : Type 0} (x : ℕ) {ls : List Law} → eqb v 0 ≡ false → Decides A b → (A → Agrees G (judged q x) ls) →
@@ -103,62 +105,65 @@ first-first a b c = by (eqb a 0) refl
     by true e = refl
     by false e = rw e
 
--- a field: 11 or 12, then 13; what follows may use that it is read
+-- a field: 11 or 12, then 13, then 26; what follows may use that it is read
 module _ {G : Phase → Type 0} (q : Phase) (c : Column) (f : Bytes) (y : ℕ) (more : List Law) (next : Section.field-number (Section.fieldOf c f) ≡ 0 → Agrees G (judged q y) more) where
-  abbrev holds-law : Law
-  holds-law = law 13 (¬ ((v : Datum) × Holds O.Operator c f v))
+  abbrev rest-laws : List Law
+  rest-laws = law 13 (Outside c f) ∷ law 26 (NoSuchDay c f) ∷ more
 
   abbrev field-step : Field → Step
   field-step x = judged q (Section.first-of (Section.field-number x) y)
 
-  missing-agrees : c .text ≡ false → LeftOut (c .optional) f → Agrees G (field-step F.Missing) (kind-law false (c .optional) f ∷ holds-law ∷ more)
+  missing-agrees : c .text ≡ false → LeftOut (c .optional) f → Agrees G (field-step F.Missing) (kind-law false (c .optional) f ∷ rest-laws)
   unfolding Section.field-number
-  missing-agrees t p =
-      let h : Holds O.Operator c f missing = no-number t (p .0) (p .1) in
-      miss (λ k. k .1 p) (miss (λ x. x (missing, h)) (next (field-right h)))
+  missing-agrees t p = miss (λ k. k .1 p) (miss inside (miss (λ x. number-some (x .reads) (p .1)) (next (field-right {o = O.Operator} (no-number t (p .0) (p .1))))))
+    where
+      inside : ¬ Outside c f
+      inside (negative u h) = let z = ap numberOf (p .1) ∙ empty-no-number in absurd (false≢true (cc))
+      inside (out-of-range u h a) = number-some h (p .1)
+      inside (over-size u h a) = false≢true (sym t ∙ u)
 
   number-agrees : (n : Number) → c .text ≡ false → ¬ LeftOut (c .optional) f → numberOf f ≡ n →
-      Agrees G (field-step (Section.number-field (c .lo) (c .hi) n)) (kind-law false (c .optional) f ∷ holds-law ∷ more)
-  unfolding Section.number-field Section.field-number judged Section.choose
+      Agrees G (field-step (Section.number-field (c .day) (c .lo) (c .hi) n)) (kind-law false (c .optional) f ∷ rest-laws)
+  unfolding Section.number-field Section.day-field Section.field-number judged Section.choose
   number-agrees N.Nothing t k e = hit (e, k)
-  number-agrees (N.Minus n) t k e = miss (λ h. let z = h .0 in absurd (false≢true (cc))) (hit (λ x. inv (x .0) (x .1)))
-    where
-      inv : (v : Datum) → Holds O.Operator c f v → ⊥
-      inv (number m) (a-number u h a b) = absurd (false≢true (cc))
-      inv missing (no-number u a b) = k (a, b)
-      inv (words p w) (a-text u h a) = absurd (false≢true (cc))
+  number-agrees (N.Minus n) t k e = miss (λ h. let z = h .0 in absurd (false≢true (cc))) (hit (negative t e))
   number-agrees (N.Plus n) t k e = miss (λ h. let z = h .0 in absurd (false≢true (cc))) (by (leb (c .lo) n && leb n (c .hi)) (both (at-most (c .lo) n) (at-most n (c .hi))))
     where
-      inv : (v : Datum) → Holds O.Operator c f v → (c .lo ≤ n) × (n ≤ c .hi)
-      inv (number m) (a-number u h a b) = let z : m ≡ n = cc in (rw z at a, rw z at b)
-      inv missing (no-number u a b) = absurd (k (a, b))
-      inv (words p w) (a-text u h a) = absurd (false≢true (cc))
+      inside : (c .lo ≤ n) × (n ≤ c .hi) → ¬ Outside c f
+      inside p (negative u h) = absurd (false≢true (cc))
+      inside p (out-of-range {n = m} u h a) = let z : m ≡ n = cc in a (rw z p)
+      inside p (over-size u h a) = false≢true (sym t ∙ u)
 
-      by : (b : Bool) → Decides ((c .lo ≤ n) × (n ≤ c .hi)) b → Agrees G (field-step (pick b (F.Number n) (F.Refused 13))) (holds-law ∷ more)
-      by true (holds p) = miss (λ x. x (number n, a-number t e (p .0) (p .1))) (next (field-right {o = O.Operator} (a-number t e (p .0) (p .1))))
-      by false (fails x) = hit (λ z. x (inv (z .0) (z .1)))
+      real : (c .lo ≤ n) × (n ≤ c .hi) → (d b : Bool) → c .day ≡ d → Decides (Day n) b → Agrees G (field-step (pick (d && not b) (F.Refused 26) (F.Number n))) (law 26 (NoSuchDay c f) ∷ more)
+      real p false b q x = miss (λ z. false≢true (sym q ∙ z .day)) (next (field-right {o = O.Operator} (a-number t e (p .0) (p .1) (λ z. absurd (false≢true (sym q ∙ z))))))
+      real p true true q (holds d) = miss (λ z. let a = z .reads in let m : z .value ≡ n = cc in z .unreal (rw m d)) (next (field-right {o = O.Operator} (a-number t e (p .0) (p .1) (λ z. d))))
+      real p true false q (fails x) = hit (record { number = t; day = q; value = n; reads = e; unreal = x })
 
-  text-agrees : (x : Option Bytes) → c .text ≡ true → Section.record-text f ≡ x → Agrees G (field-step (Section.text-field (c .hi) (Section.wordsOf f))) (kind-law true (c .optional) f ∷ holds-law ∷ more)
+      by : (b : Bool) → Decides ((c .lo ≤ n) × (n ≤ c .hi)) b → Agrees G (field-step (pick b (pick (c .day && not (real-day n)) (F.Refused 26) (F.Number n)) (F.Refused 13))) rest-laws
+      by true (holds p) = miss (inside p) (real p (c .day) (real-day n) refl (day-d n))
+      by false (fails x) = hit (out-of-range t e x)
+
+  text-agrees : (x : Option Bytes) → c .text ≡ true → Section.record-text f ≡ x → Agrees G (field-step (Section.text-field (c .hi) (Section.wordsOf f))) (kind-law true (c .optional) f ∷ rest-laws)
   unfolding Section.text-field Section.field-number judged Section.choose
   text-agrees none t e = rw (worded-none f e) (hit e)
   text-agrees (some w) t e = rw (worded-some f w e) (miss (λ h. absurd (false≢true (cc))) (by (leb (length w) (c .hi)) (at-most (length w) (c .hi))))
     where
-      inv : (v : Datum) → Holds O.Operator c f v → length w ≤ c .hi
-      inv (number m) (a-number u h a b) = absurd (false≢true (cc))
-      inv missing (no-number u a b) = absurd (false≢true (cc))
-      inv (words p x) (a-text u h a) = let z : x ≡ w = cc in rw z at a
+      inside : length w ≤ c .hi → ¬ Outside c f
+      inside p (negative u h) = false≢true (sym u ∙ t)
+      inside p (out-of-range u h a) = false≢true (sym u ∙ t)
+      inside p (over-size {t = x} u h a) = let z : x ≡ w = cc in let b : c .hi < length w = rw z at a in omega arith
 
-      by : (b : Bool) → Decides (length w ≤ c .hi) b → Agrees G (field-step (pick b (F.Text (Section.own-span f)) (F.Refused 13))) (holds-law ∷ more)
-      by true (holds p) = miss (λ x. x (words O.Operator w, a-text t e p)) (next (field-right {o = O.Operator} (a-text t e p)))
-      by false (fails x) = hit (λ z. x (inv (z .0) (z .1)))
+      by : (b : Bool) → Decides (length w ≤ c .hi) b → Agrees G (field-step (pick b (F.Text (Section.own-span f)) (F.Refused 13))) rest-laws
+      by true (holds p) = miss (inside p) (miss (λ z. false≢true (sym (z .number) ∙ t)) (next (field-right {o = O.Operator} (a-text t e p))))
+      by false (fails x) = hit (over-size t e (omega arith))
 
-  field-agrees : Agrees G (field-step (Section.fieldOf c f)) (kind-law (c .text) (c .optional) f ∷ holds-law ∷ more)
+  pub field-agrees : Agrees G (field-step (Section.fieldOf c f)) (kind-law (c .text) (c .optional) f ∷ rest-laws)
   unfolding Section.fieldOf
   field-agrees = by (c .text) (Section.left-out (c .optional) f) refl (left-out-d (c .optional) f)
     where
       by : (b d : Bool) → c .text ≡ b → Decides (LeftOut (c .optional) f) d →
-          Agrees G (field-step (pick b (Section.text-field (c .hi) (Section.wordsOf f)) (pick d F.Missing (Section.number-field (c .lo) (c .hi) (numberOf f)))))
-          (kind-law b (c .optional) f ∷ holds-law ∷ more)
+          Agrees G (field-step (pick b (Section.text-field (c .hi) (Section.wordsOf f)) (pick d F.Missing (Section.number-field (c .day) (c .lo) (c .hi) (numberOf f)))))
+          (kind-law b (c .optional) f ∷ rest-laws)
       by true d e x = text-agrees (Section.record-text f) e refl
       by false true e (holds p) = missing-agrees e p
       by false false e (fails n) = number-agrees (numberOf f) e n refl
@@ -181,7 +186,7 @@ of-record : {t : ℕ} {o : Order} {ms : List ℕ} {fs : List Bytes} {vs : Record
 of-record {vs} h (holds p) = holds (vs, h, p)
 of-record {vs} h (fails n) = fails (λ x. let z : x .0 ≡ vs = reads-once (x .1) h in n (rw z at (x .2)))
 
-judged-goes : {G : Phase → Type 0} (q : Phase) → G q → Agrees G (judged q 0) []
+pub judged-goes : {G : Phase → Type 0} (q : Phase) → G q → Agrees G (judged q 0) []
 unfolding judged Section.choose
 judged-goes q g = goes g
 

@@ -1,22 +1,23 @@
 -- 25, "wrong combination", as a rule of the grammar, both ways: each record of a sound section of 432 tells its feeder in exactly one of the two
 -- ways, and a line is refused with 25 exactly if it is a record of 432 that tells it in neither. Assumes nothing.
 use mathlib.Core.Path.{_≡_, refl, ap, sym, _∙_}
-use mathlib.Core.Bool.{Bool, true, false, _&&_, false≢true}
+use mathlib.Core.Bool.{Bool, true, false, _&&_}
 use mathlib.Core.List.{List, [], _∷_, _++_, List·Memᴰ, List·Memᴰ·head, List·Memᴰ·tail}
 use mathlib.Core.Logic.{_⊎_, inl, inr, _↔_}
 use Prim.Native.Nat.{ℕ, suc, _<_}
 use native.Mathlib.Omega.{arith}
 use lib.Dec.{eqb, ltb}
 use lib.ListN.{length}
-use borrow.Author.Tests.{eq-eqb, eqb-true, eqb-false}
+use borrow.Author.Tests.{eq-eqb}
 use Rattle.page.specs.Bytes.{Bytes}
-use Rattle.page.specs.Lines.{content, blank, command, clean, Rec, Com}
+use Rattle.page.specs.Lines.{Rec}
 use Rattle.page.specs.Tables.{Named, Table, Rule, points-differ, feeder-combined, TABLES, all-tables, table-at, number-at, width, rules}
 use Rattle.page.specs.Order.{Order, standing}
 use Rattle.page.specs.Section.{choose, first-broken, rec-verdict, rec-step, line-step, step, table-in}
 use Rattle.page.specs.Records.{Record}
 use Rattle.page.specs.Grammar.{fields-of, Says, OwnFeeder, ForeignFeeder, Breaks, neither-way, Reads, Denotes}
-use Rattle.page.specs.Refusals.{Law, law, FirstBroken, either-laws, marks-of, kind-law, fields-laws, rules-laws, command-laws, laws, Reaches, Refused, at-line, unfinished}
+use Rattle.page.specs.Refusals.{Law, FirstBroken, marks-of, kind-law, fields-laws, rules-laws, laws, Reaches, Refused, at-line, unfinished}
+use Rattle.page.specs.File.{any}
 use Rattle.page.specs.Rules.{Every}
 use Rattle.page.specs.declared.Phase.{Phase}
 use Rattle.page.specs.declared.Phase.the-variants as P
@@ -31,6 +32,7 @@ use Rattle.grammar.proofs.Arranged.{Ordered, reads-rule, reads-right}
 use Rattle.grammar.proofs.Steps.{known-step, stop-exactly}
 use Rattle.grammar.proofs.Readings.{denoted-lines}
 use Rattle.grammar.proofs.Refuses.{reach-ordered}
+use Rattle.grammar.proofs.Tells.{Tells, none, other, this, record-laws, OfRecord, of-record, told-record}
 
 -- the rule of 432: LEITSTELLENKENNUNG is its column 4 from 0, and LinienID its column 11
 abbrev combination : Rule
@@ -103,68 +105,39 @@ neither-stops {l = l} a (in-neither {t} {m} {n} {o} {vs} e s h p q) =
       tested (reads-rule t o m h combination i) (neither-way p q),
     )
 
--- whichever of these laws is broken first, if its number is 25 then A
-record Tells (A : Type 0) (ls : List Law) : Type 0 where
-  so : FirstBroken ls 25 → A
-
+-- no law of a field has the number 25, and of the rules that of 432 has it
 module _ {A : Type 0} where
-  none : Tells A []
-  none = record { so = λ b. absurd b }
-
-  -- a law of another number
-  other : {v : ℕ} {L : Type 0} {ls : List Law} → eqb v 25 ≡ false → (¬ L → Tells A ls) → Tells A (law v L ∷ ls)
-  other {v} n k = record { so = λ s. elim s [ inl p ↦ absurd (eqb-false v 25 n (p .1)) | inr p ↦ k (p .0) .so (p .1) ] }
-
-  this : {L : Type 0} {ls : List Law} → (L → A) → Tells A ls → Tells A (law 25 L ∷ ls)
-  this f k = record { so = λ s. elim s [ inl p ↦ f (p .0) | inr p ↦ k .so (p .1) ] }
-
-  either : (b : Bool) {x y : List Law} → (b ≡ true → Tells A x) → (b ≡ false → Tells A y) → Tells A (either-laws b x y)
-  either true f g = f refl
-  either false f g = g refl
-
-  fields-tell : (cs : List Named) (fs : List Bytes) (ls : List Law) → Tells A ls → Tells A (fields-laws cs fs ++ ls)
+  fields-tell : (cs : List Named) (fs : List Bytes) (ls : List Law) → Tells 25 A ls → Tells 25 A (fields-laws cs fs ++ ls)
   fields-tell [] fs ls k = k
   fields-tell (c ∷ cs) [] ls k = k
-  fields-tell (c ∷ cs) (f ∷ fs) ls k = by (c .column .text) (c .column .optional) (other refl (λ n. fields-tell cs fs ls k))
+  fields-tell (c ∷ cs) (f ∷ fs) ls k = by (c .column .text) (c .column .optional) (other (λ e. omega arith) (λ n. other (λ e. omega arith) (λ n. fields-tell cs fs ls k)))
     where
-      by : (b optional : Bool) {xs : List Law} → Tells A xs → Tells A (kind-law b optional f ∷ xs)
-      by true optional k = other refl (λ n. k)
-      by false optional k = other refl (λ n. k)
+      by : (b optional : Bool) {xs : List Law} → Tells 25 A xs → Tells 25 A (kind-law b optional f ∷ xs)
+      by true optional k = other (λ e. omega arith) (λ n. k)
+      by false optional k = other (λ e. omega arith) (λ n. k)
 
-  rules-tell : (B : Rule → Type 0) (rs : List Rule) (ls : List Law) → ((c x : ℕ) → List·Memᴰ (feeder-combined c x) rs → B (feeder-combined c x) → A) → Tells A ls →
-      Tells A (rules-laws B rs ++ ls)
+  rules-tell : (B : Rule → Type 0) (rs : List Rule) (ls : List Law) → ((c x : ℕ) → List·Memᴰ (feeder-combined c x) rs → B (feeder-combined c x) → A) → Tells 25 A ls →
+      Tells 25 A (rules-laws B rs ++ ls)
   rules-tell B [] ls f k = k
-  rules-tell B (points-differ p ∷ rs) ls f k = other refl (λ n. rules-tell B rs ls (λ c x m. f c x (List·Memᴰ·tail m)) k)
-  rules-tell B (feeder-combined c x ∷ rs) ls f k = this (f c x (List·Memᴰ·head refl)) (rules-tell B rs ls (λ c x m. f c x (List·Memᴰ·tail m)) k)
+  rules-tell B (points-differ p ∷ rs) ls f k = other (λ e. omega arith) (λ n. rules-tell B rs ls (λ c x m. f c x (List·Memᴰ·tail m)) k)
+  rules-tell B (feeder-combined c x ∷ rs) ls f k = this (f c x (List·Memᴰ·head refl)) (λ n. rules-tell B rs ls (λ c x m. f c x (List·Memᴰ·tail m)) k)
 
-module _ (latin : Bool) (l : Bytes) (ok : clean latin (content l) ≡ true) where
-  command-tell : (p : Phase) (o : Order) → Tells (NeitherWay latin l p o) (command-laws p o (command (content l)) (fields-of l))
-  command-tell P.Tbl o = other refl (λ n. other refl (λ n. none))
-  command-tell (P.Atr t) o = other refl (λ n. none)
-  command-tell (P.Frm t) o = other refl (λ n. none)
-  command-tell (P.Rows t m n) o =
-      either (eqb (command (content l)) Rec)
-      (λ e. other refl (λ k. fields-tell (standing t o) (fields-of l) _ (rules-tell _ (rules t) _ (λ c x i b. told (eqb-true _ Rec e) c x (of-combination t c x i) (b .1) (b .2)) (other refl (λ k. none)))))
-      (λ e. other refl (λ k. other refl (λ k. other refl (λ k. other refl (λ k. none)))))
-    where
-      told : command (content l) ≡ Rec → {vs : Record} (c x : ℕ) → (number-at t ≡ 432) × ((c ≡ 4) × (x ≡ 11)) → Reads t o (marks-of m) (fields-of l) vs → Breaks vs (feeder-combined c x) →
-          NeitherWay latin l (P.Rows t m n) o
-      told e c x z h (neither-way p q) = in-neither (z .0) (record { clean = ok; named = e }) h (rw (z .1 .0, z .1 .1) at p) (rw (z .1 .0, z .1 .1) at q)
-  command-tell (P.Ended t n) o = none
-
-laws-tell : (latin : Bool) (p : Phase) (o : Order) (l : Bytes) → Tells (NeitherWay latin l p o) (laws latin p o l)
-unfolding laws
-laws-tell latin p o l =
-    other refl (λ n. either (blank (content l)) (λ e. none) (λ e. other refl (λ k.
-    either (eqb (command (content l)) Com) (λ e. other refl (λ k. none)) (λ e. other refl (λ k. command-tell latin l (sure (clean latin (content l)) n) p o)))))
+told-neither : {latin : Bool} {l : Bytes} {p : Phase} {o : Order} → OfRecord 25 latin l p o → NeitherWay latin l p o
+told-neither {latin} {l} (of-record {t} {m} {n} {o} s e b) =
+    let k : Tells 25 (NeitherWay latin l (P.Rows t m n) o) (record-laws t o (marks-of m) (fields-of l)) =
+    fields-tell (standing t o) (fields-of l) _ (rules-tell _ (rules t) _ (λ c x i y. told c x (of-combination t c x i) (y .1) (y .2)) (other (λ e. omega arith) (λ k. none))) in
+    k .so b
   where
-    sure : (b : Bool) → ¬ ¬ (b ≡ true) → b ≡ true
-    sure true n = refl
-    sure false n = absurd (n false≢true)
+    told : {vs : Record} (c x : ℕ) → (number-at t ≡ 432) × ((c ≡ 4) × (x ≡ 11)) → Reads t o (marks-of m) (fields-of l) vs → Breaks vs (feeder-combined c x) → NeitherWay latin l (P.Rows t m n) o
+    told c x z h (neither-way p q) = in-neither (z .0) s h (rw (z .1 .0, z .1 .1) at p) (rw (z .1 .0, z .1 .1) at q)
+
+neither-told : (latin : Bool) (p : Phase) (o : Order) (l : Bytes) → FirstBroken (laws latin p o l) 25 → NeitherWay latin l p o
+unfolding any
+neither-told latin p o l b = told-neither (told-record 25 refl latin l p o b)
 
 -- a line is refused with 25 exactly if it is such a record
 pub combined-exactly : (latin : Bool) (l : Bytes) (p : Phase) (o : Order) → Ordered p o → step latin p o l ≡ S.Stop 25 ↔ NeitherWay latin l p o
-combined-exactly latin l p o a = (λ e. laws-tell latin p o l .so (stop-exactly latin l p o a 25 .0 e), neither-stops a)
+combined-exactly latin l p o a = (λ e. neither-told latin p o l (stop-exactly latin l p o a 25 .0 e), neither-stops a)
 
 -- the first failing line of a section, its line n, is one
 pub data Miscombined (latin : Bool) (ls : List Bytes) (n : ℕ) : Type 0 where
@@ -180,7 +153,7 @@ pub refused-25 : (latin : Bool) (ls : List Bytes) (k n : ℕ) → Refused latin 
 refused-25 latin ls k n = (into, λ x. back (x .0) (x .1))
   where
     into : Refused latin ls k 25 n → (k ≡ 432) × Miscombined latin ls n
-    into (at-line before after l q o s g b t p) = let x = laws-tell latin q o l .so b in (t ∙ neither-table x, at-record before after l q o s g x p)
+    into (at-line before after l q o s g b t p) = let x = neither-told latin q o l b in (t ∙ neither-table x, at-record before after l q o s g x p)
     into (unfinished q o g c t v p) = absurd (let y : ⊥ = omega arith in y)
 
     back : k ≡ 432 → Miscombined latin ls n → Refused latin ls k 25 n

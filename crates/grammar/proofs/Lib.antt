@@ -1,3 +1,4 @@
+pub mod Days
 pub mod Values
 pub mod Rules
 pub mod Arranged
@@ -11,4 +12,6 @@ pub mod Counts
 pub mod Marks
 pub mod Own
 pub mod Missing
+pub mod Tells
 pub mod Combined
+pub mod Dated

@@ -58,7 +58,7 @@ Whose ms i vs = (j : ℕ) (o : Owner) (u : Bytes) → getD vs j (number 0) ≡ w
 
 values-whose : {ms : List ℕ} {i : ℕ} {cs : List Named} {fs : List Bytes} {vs : Record} → Values ms i cs fs vs → Whose ms i vs
 values-whose no-field j o u e = absurd (false≢true (cc))
-values-whose (a-field (Grammar.a-number a b c d) g) zero o u e = absurd (false≢true (cc))
+values-whose (a-field (Grammar.a-number a b c d k) g) zero o u e = absurd (false≢true (cc))
 values-whose (a-field (Grammar.no-number a b c) g) zero o u e = absurd (false≢true (cc))
 values-whose {ms} (a-field {i} (Grammar.a-text {t} a b c) g) zero o u e =
     let z : i + 0 ≡ i = omega arith in

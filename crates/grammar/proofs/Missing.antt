@@ -20,12 +20,12 @@ use Rattle.grammar.proofs.Values.{LeftOut, number-some, text-some}
 
 module _ {o : Owner} {c : Column} {f : Bytes} where
   missing-held : {v : Datum} → Holds o c f v → v ≡ missing ↔ LeftOut (c .optional) f
-  missing-held (a-number t e g h) = (λ q. absurd (false≢true (cc)), λ p. absurd (number-some e (p .1)))
+  missing-held (a-number t e g h d) = (λ q. absurd (false≢true (cc)), λ p. absurd (number-some e (p .1)))
   missing-held (no-number t p q) = (λ e. (p, q), λ x. refl)
   missing-held (a-text t e g) = (λ q. absurd (false≢true (cc)), λ p. absurd (text-some e (p .1)))
 
   above-zero : {v : Datum} → Holds o c f v → 1 ≤ c .lo → ¬ (v ≡ number 0)
-  above-zero (a-number {n} t e g h) l q = let z : n ≡ 0 = cc in omega arith
+  above-zero (a-number {n} t e g h d) l q = let z : n ≡ 0 = cc in omega arith
   above-zero (no-number t p q) l z = false≢true (cc)
   above-zero (a-text t e g) l q = false≢true (cc)
 

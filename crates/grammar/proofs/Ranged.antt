@@ -34,7 +34,7 @@ fields-listed : (cs : List Named) (fs : List Bytes) (ls : List Law) → Listed l
 unfolding any
 fields-listed [] fs ls r = r
 fields-listed (c ∷ cs) [] ls r = r
-fields-listed (c ∷ cs) (f ∷ fs) ls r = by (c .column .text) (c .column .optional) (more refl (fields-listed cs fs ls r))
+fields-listed (c ∷ cs) (f ∷ fs) ls r = by (c .column .text) (c .column .optional) (more refl (more refl (fields-listed cs fs ls r)))
   where
     by : (k optional : Bool) {xs : List Law} → Listed xs → Listed (kind-law k optional f ∷ xs)
     by true optional r = more refl r

@@ -25,12 +25,12 @@ use Rattle.grammar.proofs.Values.{Held}
 -- what a column holds whose number is never missing, and what one of texts
 
 number-held : {o : Owner} {c : Column} {f : Bytes} {v : Datum} → Holds o c f v → c .text ≡ false → c .optional ≡ false → v ≡ number (amount (numberOf f))
-number-held (a-number t e g h) u w = rw e
+number-held (a-number t e g h d) u w = rw e
 number-held (no-number t p q) u w = absurd (false≢true (cc))
 number-held (a-text t e g) u w = absurd (false≢true (cc))
 
 text-held : {o : Owner} {c : Column} {f : Bytes} {v : Datum} → Holds o c f v → c .text ≡ true → (w : Bytes) × (v ≡ words o w) × (record-text f ≡ some w)
-text-held (a-number t e g h) u = absurd (false≢true (cc))
+text-held (a-number t e g h d) u = absurd (false≢true (cc))
 text-held (no-number t p q) u = absurd (false≢true (cc))
 text-held (a-text {t} u e g) w = (t, refl, e)
 

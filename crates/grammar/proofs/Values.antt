@@ -13,7 +13,7 @@ use Rattle.page.specs.Bytes.{Bytes, pick, all}
 use Rattle.page.specs.Fields.{textOf, bodyOf, numberOf, digit, digits, value}
 use Rattle.page.specs.Tables.{Named, no-column}
 use Rattle.page.specs.Marks.{owner-of}
-use Rattle.page.specs.Section.{own-span, wordsOf, record-text, text-field, number-field, left-out, fieldOf, field-number, first-wrong, no-bytes, empty-at, empty-marked}
+use Rattle.page.specs.Section.{own-span, wordsOf, record-text, text-field, day-field, number-field, left-out, fieldOf, field-number, first-wrong, no-bytes, empty-at, empty-marked}
 use Rattle.page.specs.Records.{Datum, number, missing, words, Record, datumOf, valuesOf}
 use Rattle.page.specs.Grammar.{Holds, a-number, no-number, a-text, marked, owner-by, Values, no-field, a-field}
 use Rattle.page.specs.Refusals.{marks-of}
@@ -26,6 +26,7 @@ use Rattle.page.specs.declared.Owner.the-variants as O
 use Rattle.page.proofs.TextLaws.{unpadded-in, record-text-is, worded-none, worded-some}
 use Rattle.laws.proofs.Decides.{Decides, holds, fails, tested, untested, when, both, one-of, equal, at-most}
 use Rattle.laws.proofs.Tests.{is-d}
+use Rattle.grammar.proofs.Days.{day-read, day-right}
 
 and-false : (b : Bool) → (b && false) ≡ false
 and-false true = refl
@@ -54,7 +55,7 @@ left-out-d optional f = both (is-d optional) (by f)
 
 -- a number or a text is something
 
-empty-no-number : numberOf [] ≡ N.Nothing
+pub empty-no-number : numberOf [] ≡ N.Nothing
 unfolding numberOf digits
 empty-no-number = refl
 
@@ -73,7 +74,7 @@ number-there optional f e = untested (left-out-d optional f) (λ p. number-some 
 
 pub holds-datum : {o : Owner} {c : Column} {f : Bytes} {v : Datum} → Holds o c f v → v ≡ datumOf o c f
 unfolding datumOf
-holds-datum {c = c} {f = f} (a-number t e g h) = rw (t, number-there (c .optional) f e, e)
+holds-datum {c = c} {f = f} (a-number t e g h d) = rw (t, number-there (c .optional) f e, e)
 holds-datum {c = c} {f = f} (no-number t p q) = rw (t, tested (left-out-d (c .optional) f) (p, q))
 holds-datum (a-text t e g) = rw (t, e)
 
@@ -89,19 +90,19 @@ values-once (a-field h k) (a-field g l) = let a = holds-once h g in let b = valu
 -- the tests on a field pass exactly if it holds a value
 pub field-right : {o : Owner} {c : Column} {f : Bytes} {v : Datum} → Holds o c f v → field-number (fieldOf c f) ≡ 0
 unfolding fieldOf field-number text-field number-field
-field-right {c = c} {f = f} (a-number {n} t e g h) = rw (t, number-there (c .optional) f e, e, tested (both (at-most (c .lo) n) (at-most n (c .hi))) (g, h))
+field-right {c = c} {f = f} (a-number {n} t e g h d) = rw (t, number-there (c .optional) f e, e, tested (both (at-most (c .lo) n) (at-most n (c .hi))) (g, h), day-read (c .day) n d)
 field-right {c = c} {f = f} (no-number t p q) = rw (t, tested (left-out-d (c .optional) f) (p, q))
 field-right {c = c} {f = f} (a-text {t = w} t e h) = rw (t, worded-some f w e, tested (at-most (length w) (c .hi)) h)
 
-right-field : (o : Owner) (c : Column) (f : Bytes) → field-number (fieldOf c f) ≡ 0 → (v : Datum) × Holds o c f v
+pub right-field : (o : Owner) (c : Column) (f : Bytes) → field-number (fieldOf c f) ≡ 0 → (v : Datum) × Holds o c f v
 unfolding fieldOf field-number text-field number-field
 right-field o c f = by (c .text) (left-out (c .optional) f) refl (left-out-d (c .optional) f)
   where
-    of-number : (n : Number) → c .text ≡ false → numberOf f ≡ n → field-number (number-field (c .lo) (c .hi) n) ≡ 0 → (v : Datum) × Holds o c f v
+    of-number : (n : Number) → c .text ≡ false → numberOf f ≡ n → field-number (number-field (c .day) (c .lo) (c .hi) n) ≡ 0 → (v : Datum) × Holds o c f v
     of-number (N.Plus n) t e z = within (leb (c .lo) n && leb n (c .hi)) (both (at-most (c .lo) n) (at-most n (c .hi))) z
       where
-        within : (b : Bool) → Decides ((c .lo ≤ n) × (n ≤ c .hi)) b → field-number (pick b (F.Number n) (F.Refused 13)) ≡ 0 → (v : Datum) × Holds o c f v
-        within true (holds p) z = (number n, a-number t e (p .0) (p .1))
+        within : (b : Bool) → Decides ((c .lo ≤ n) × (n ≤ c .hi)) b → field-number (pick b (day-field (c .day) n) (F.Refused 13)) ≡ 0 → (v : Datum) × Holds o c f v
+        within true (holds p) z = (number n, a-number t e (p .0) (p .1) (day-right (c .day) n z))
         within false d z = absurd (let y : ⊥ = omega arith in y)
     of-number (N.Minus n) t e z = absurd (let y : ⊥ = omega arith in y)
     of-number N.Nothing t e z = absurd (let y : ⊥ = omega arith in y)
@@ -115,7 +116,7 @@ right-field o c f = by (c .text) (left-out (c .optional) f) refl (left-out-d (c 
         within false d z = absurd (let y : ⊥ = omega arith in y)
 
     by : (b d : Bool) → c .text ≡ b → Decides (LeftOut (c .optional) f) d →
-        field-number (pick b (text-field (c .hi) (wordsOf f)) (pick d F.Missing (number-field (c .lo) (c .hi) (numberOf f)))) ≡ 0 → (v : Datum) × Holds o c f v
+        field-number (pick b (text-field (c .hi) (wordsOf f)) (pick d F.Missing (number-field (c .day) (c .lo) (c .hi) (numberOf f)))) ≡ 0 → (v : Datum) × Holds o c f v
     by true d t x z = of-text (record-text f) t refl z
     by false true t (holds p) z = (missing, no-number t (p .0) (p .1))
     by false false t x z = of-number (numberOf f) t refl z
@@ -186,7 +187,7 @@ no-bytes-d (some (b ∷ u)) t e = fails (λ q. absurd (false≢true (cc)))
 -- field i holds an empty suggestion exactly if the mark is its own and its text is empty
 here-d : (m i : ℕ) {c : Column} {f : Bytes} {v : Datum} → 1 ≤ i → Holds (owner-by (marks-of m) i) c f v → Decides (words O.Suggestion [] ≡ v) (eqb m i && no-bytes (record-text f))
 unfolding owner-of
-here-d m i l (a-number {n} t e g h) = rw (number-no-text _ n e, and-false) (fails (λ q. absurd (false≢true (cc))))
+here-d m i l (a-number {n} t e g h d) = rw (number-no-text _ n e, and-false) (fails (λ q. absurd (false≢true (cc))))
 here-d m i l (no-number t p q) = rw (q, empty-no-text, and-false) (fails (λ q. absurd (false≢true (cc))))
 here-d m i {f = f} l (a-text {t} u e g) = rw (owner-one m i l) (by (eqb m i) (no-bytes (record-text f)) (no-bytes-d (record-text f) t e))
   where

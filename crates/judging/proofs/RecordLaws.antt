@@ -19,17 +19,17 @@ use Rattle.page.specs.Form.{doubled}
 use Rattle.page.specs.Reading.{later-field}
 use Rattle.page.specs.declared.Column.{Column}
 use Rattle.page.specs.declared.Span.{Span}
-use Rattle.page.specs.declared.Number.{Number}
-use Rattle.page.specs.declared.Number.the-variants as N
 use Rattle.page.specs.declared.Field.{Field}
 use Rattle.page.specs.declared.Field.the-variants as F
 use Rattle.page.proofs.TestLaws.{false-true, and-left, and-right}
 use Rattle.page.proofs.TextLaws.{doubled-least, words-there}
+use Rattle.page.proofs.NumberFieldLaws.{NumberRead, as-number, as-refusal, number-read-so}
 use Rattle.page.proofs.OrderLaws.{arranged-below, place-in, place-at, by-column-at}
 use Rattle.page.proofs.FieldLaws.{from, from-end}
 use Rattle.lines.proofs.RunLaws.{all-append, all-run}
 use Rattle.digits.proofs.RunLaws.{stop-at}
-use Rattle.fields.proofs.ColumnLaws.{no-number, column-asked}
+use Rattle.amounts.proofs.AmountLaws.{no-number}
+use Rattle.fields.proofs.ColumnLaws.{column-asked}
 use Rattle.tables.specs.Arrays.{first-column, kinds, marks, lows, highs, Said}
 use Rattle.arrangement.specs.Orders.{held, Stands}
 use Rattle.tables.proofs.ArrayLaws.{said-column}
@@ -62,7 +62,7 @@ module _ (c : Column) (f : Bytes) (k : ℕ) (r : Field) (q : r ≡ later-field k
 
 -- a text's span is one
 pub span-read : (c : Column) (f : Bytes) (k : ℕ) (sp : Span) → F.Text sp ≡ later-field k (fieldOf c f) → sp .from ≤ sp .to
-unfolding fieldOf text-field number-field
+unfolding fieldOf text-field
 span-read c f k sp e = by (c .text) (left-out (c .optional) f) e
   where
     later : (n : ℕ) (s : Span) → s .from ≤ s .to → F.Text sp ≡ F.Text (moved n s) → sp .from ≤ sp .to
@@ -78,39 +78,25 @@ span-read c f k sp e = by (c .text) (left-out (c .optional) f) e
     worded-so none w q = absurd (let z : _≡_ {A = ℕ} 0 1 = cc in omega arith)
     worded-so (some x) w q = sized x w (leb (length (x .own)) (c .hi)) q
 
-    ranged : (b : Bool) (n : ℕ) → F.Text sp ≡ later-field k (pick b (F.Number n) (F.Refused 13)) → sp .from ≤ sp .to
-    ranged true n q = absurd (let z : _≡_ {A = ℕ} 0 1 = cc in omega arith)
-    ranged false n q = absurd (let z : _≡_ {A = ℕ} 0 1 = cc in omega arith)
+    no-text : {r : Field} → NumberRead (numberOf f) r → F.Text sp ≡ later-field k r → sp .from ≤ sp .to
+    no-text (as-number n e) q = absurd (let z : _≡_ {A = ℕ} 0 1 = cc in omega arith)
+    no-text (as-refusal v n) q = absurd (let z : _≡_ {A = ℕ} 0 1 = cc in omega arith)
 
-    counted : (n : Number) → F.Text sp ≡ later-field k (number-field (c .lo) (c .hi) n) → sp .from ≤ sp .to
-    counted (N.Plus n) q = ranged (leb (c .lo) n && leb n (c .hi)) n q
-    counted (N.Minus n) q = absurd (let z : _≡_ {A = ℕ} 0 1 = cc in omega arith)
-    counted N.Nothing q = absurd (let z : _≡_ {A = ℕ} 0 1 = cc in omega arith)
-
-    by : (b d : Bool) → F.Text sp ≡ later-field k (pick b (text-field (c .hi) (wordsOf f)) (pick d F.Missing (number-field (c .lo) (c .hi) (numberOf f)))) → sp .from ≤ sp .to
+    by : (b d : Bool) → F.Text sp ≡ later-field k (pick b (text-field (c .hi) (wordsOf f)) (pick d F.Missing (number-field (c .day) (c .lo) (c .hi) (numberOf f)))) → sp .from ≤ sp .to
     by true d q = worded-so (wordsOf f) refl q
     by false true q = absurd (let z : _≡_ {A = ℕ} 0 1 = cc in omega arith)
-    by false false q = counted (numberOf f) q
+    by false false q = no-text (number-read-so (c .day) (c .lo) (c .hi) (numberOf f)) q
 
 -- what is kept of a field that is not wrong
 
 number-known : (c : Column) (f : Bytes) → field-number (fieldOf c f) ≡ 0 → c .text ≡ false → number-of (fieldOf c f) ≡ amount (numberOf f)
-unfolding fieldOf number-field field-number number-of
-number-known c f z e = rw e (by (left-out (c .optional) f) refl (rw e at z))
+unfolding fieldOf field-number number-of
+number-known c f z e = rw e (by (left-out (c .optional) f) refl (number-read-so (c .day) (c .lo) (c .hi) (numberOf f)) (rw e at z))
   where
-    in-range : (b : Bool) (n : ℕ) → field-number (pick b (F.Number n) (F.Refused 13)) ≡ 0 → number-of (pick b (F.Number n) (F.Refused 13)) ≡ n
-    in-range true n q = refl
-    in-range false n q = absurd (omega arith)
-
-    counted : (n : Number) → field-number (number-field (c .lo) (c .hi) n) ≡ 0 → number-of (number-field (c .lo) (c .hi) n) ≡ amount n
-    counted (N.Plus n) q = in-range (leb (c .lo) n && leb n (c .hi)) n q
-    counted (N.Minus n) q = absurd (omega arith)
-    counted N.Nothing q = absurd (omega arith)
-
-    by : (d : Bool) → left-out (c .optional) f ≡ d → field-number (pick d F.Missing (number-field (c .lo) (c .hi) (numberOf f))) ≡ 0
-        → number-of (pick d F.Missing (number-field (c .lo) (c .hi) (numberOf f))) ≡ amount (numberOf f)
-    by true l q = sym (ap amount (no-number f (eqb-true (length f) 0 (and-right (c .optional) (eqb (length f) 0) l))))
-    by false l q = counted (numberOf f) q
+    by : (d : Bool) → left-out (c .optional) f ≡ d → {r : Field} → NumberRead (numberOf f) r → field-number (pick d F.Missing r) ≡ 0 → number-of (pick d F.Missing r) ≡ amount (numberOf f)
+    by true l r q = sym (ap amount (no-number f (eqb-true (length f) 0 (and-right (c .optional) (eqb (length f) 0) l))))
+    by false l (as-number n k) q = sym (ap amount k)
+    by false l (as-refusal v n) q = absurd (n q)
 
 text-known : (c : Column) (f : Bytes) → field-number (fieldOf c f) ≡ 0 → c .text ≡ true → eqb (number-of (fieldOf c f)) 0 ≡ no-bytes (record-text f)
 unfolding fieldOf text-field field-number number-of record-text doubled

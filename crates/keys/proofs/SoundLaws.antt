@@ -129,7 +129,7 @@ column-bytes o fs e = go (upto 0 (length o))
 -- a record's values fit their columns
 
 holds-fits : {o : Owner} {c : Column} {f : Bytes} {v : Datum} → all byte f ≡ true → Holds o c f v → Fits c v
-holds-fits e (a-number t q g h) = fits-number t
+holds-fits e (a-number t q g h d) = fits-number t
 holds-fits e (no-number t q g) = fits-missing t q
 holds-fits {f = f} e (a-text {t = u} t q h) = fits-text t h (all-text byte f u e q)
 

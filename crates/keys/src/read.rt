@@ -60,6 +60,7 @@ fn take_text(w: &[u8], at: usize) -> Taken
 {
     let column = Column {
         text: true,
+        day: false,
         lo: 0,
         hi: 18446744073709551615,
         size: 0,

@@ -64,6 +64,13 @@ unfoldable pub day-types : String → Bytes
 day-types more =
     bytes "tbl; MENGE_TAGESART\natr; BASIS_VERSION; TAGESART_NR; TAGESART_TEXT\nfrm; num[9.0]; num[3.0]; char[40]\n" ++ bytes more
 
+unfoldable pub valid-days : String → Bytes
+valid-days more = bytes "tbl; BASIS_VER_GUELTIGKEIT\natr; VER_GUELTIGKEIT; BASIS_VERSION\nfrm; num[8.0]; num[9.0]\n" ++ bytes more
+
+unfoldable pub calendar : String → Bytes
+calendar more =
+    bytes "tbl; FIRMENKALENDER\natr; BASIS_VERSION; BETRIEBSTAG; BETRIEBSTAG_TEXT; TAGESART_NR\nfrm; num[9.0]; num[8.0]; char[40]; num[3.0]\n" ++ bytes more
+
 unfoldable pub point-types : String → Bytes
 point-types more =
     bytes "tbl; MENGE_ONR_TYP\natr; BASIS_VERSION; ONR_TYP_NR; STR_ONR_TYP; ONR_TYP_TEXT\nfrm; num[9.0]; num[2.0]; char[6]; char[40]\n" ++ bytes more

@@ -1,7 +1,8 @@
--- Dates and times of `src`: "a quoted real Gregorian date from year 0001 in the stated form and a quoted time 00:00:00 to 23:59:59".
+-- Dates and times of `src`: "a quoted real Gregorian date from year 0001 in the stated form and a quoted time 00:00:00 to 23:59:59"; and the days
+-- of records, by the same calendar.
 use mathlib.Core.Bool.{Bool, not, _&&_, _||_}
 use mathlib.Core.List.{[], _∷_}
-use Prim.Native.Nat.{ℕ, suc, _+_, _%_}
+use Prim.Native.Nat.{ℕ, suc, _+_, _/_, _%_}
 use lib.Dec.{eqb, leb}
 use lib.ListN.{length, getD, take, drop}
 use Rattle.page.specs.Bytes.{Bytes, pick, all}
@@ -17,6 +18,14 @@ days-in y m = pick (eqb m 2 && leap y) 29 (getD (0 ∷ 31 ∷ 28 ∷ 31 ∷ 30 �
 
 unfoldable pub real-date : Date → Bool
 real-date d = leb 1 (d .year) && leb 1 (d .day) && leb (d .day) (days-in (d .year) (d .month))
+
+-- "Gregorian dates from 00010101 to 99991231, the number's value read as YYYYMMDD with leading zeros optional": what has passed 13 is at most
+-- 99999999, so that the year has four digits at the most
+unfoldable pub day-of : ℕ → Date
+day-of n = record { year = n / 10000; month = n / 100 % 100; day = n % 100 }
+
+unfoldable pub real-day : ℕ → Bool
+real-day n = real-date (day-of n)
 
 unfoldable pub real-time : Time → Bool
 real-time t = leb (t .hour) 23 && leb (t .minute) 59 && leb (t .second) 59

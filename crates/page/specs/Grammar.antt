@@ -3,12 +3,13 @@ use mathlib.Core.Path.{_≡_}
 use mathlib.Core.Bool.{Bool, true, false, _||_}
 use mathlib.Core.List.{List, [], _∷_, map, List·Memᴰ}
 use mathlib.Core.Option.{some}
-use Prim.Native.Nat.{ℕ, suc, _+_, _≤_, _<_}
+use Prim.Native.Nat.{ℕ, suc, _+_, _*_, _≤_, _<_}
 use lib.Dec.{eqb}
 use lib.ListN.{length, getD}
 use Rattle.page.specs.Bytes.{Bytes, bytes, pick}
 use Rattle.page.specs.Lines.{content, blank, command, rest, clean, Tbl, Atr, Frm, Rec, End, Com}
 use Rattle.page.specs.Fields.{fields, numberOf}
+use Rattle.page.specs.Dates.{real-date}
 use Rattle.page.specs.Tables.{Named, Rule, points-differ, feeder-combined, TABLES, table-at, width, columns, name-at, rules}
 use Rattle.page.specs.Order.{Order, standing, by-column, column-in}
 use Rattle.page.specs.Marks.{remarkOf, may-mark}
@@ -19,6 +20,7 @@ use Rattle.page.specs.declared.Owner.{Owner}
 use Rattle.page.specs.declared.Owner.the-variants as O
 use Rattle.page.specs.declared.Remark.the-variants as R
 use Rattle.page.specs.declared.Column.{Column}
+use Rattle.page.specs.declared.Date.{Date}
 
 abbrev pub fields-of : Bytes → List Bytes
 fields-of l = fields (rest (content l))
@@ -60,9 +62,16 @@ pub record FrmLine (latin : Bool) (t : ℕ) (o : Order) (l : Bytes) : Type 0 whe
   pub says : Says latin Frm l
   pub formats : Formats (standing t o) (fields-of l)
 
--- a field holds a value of its column: a number in its range, nothing where that is allowed, a text of its size
+-- n is a real day: "the number's value read as YYYYMMDD with leading zeros optional"
+pub record Day (n : ℕ) : Type 0 where
+  pub date : Date
+  pub real : real-date date ≡ true
+  pub read : n ≡ date .year * 10000 + date .month * 100 + date .day
+
+-- a field holds a value of its column: a number in its range, and a real day where that is asked, nothing where that is allowed, a text of its
+-- size
 pub data Holds (o : Owner) (c : Column) (f : Bytes) : Datum → Type 0 where
-  a-number : {n : ℕ} → c .text ≡ false → numberOf f ≡ N.Plus n → c .lo ≤ n → n ≤ c .hi → Holds o c f (number n)
+  a-number : {n : ℕ} → c .text ≡ false → numberOf f ≡ N.Plus n → c .lo ≤ n → n ≤ c .hi → (c .day ≡ true → Day n) → Holds o c f (number n)
   no-number : c .text ≡ false → c .optional ≡ true → f ≡ [] → Holds o c f missing
   a-text : {t : Bytes} → c .text ≡ true → record-text f ≡ some t → length t ≤ c .hi → Holds o c f (words o t)
 

@@ -31,3 +31,4 @@ pub mod Settled
 pub mod Arranged
 pub mod Padded
 pub mod Connected
+pub mod Dated

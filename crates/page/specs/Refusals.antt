@@ -2,9 +2,9 @@
 use mathlib.Core.Path.{_≡_}
 use mathlib.Core.Bool.{Bool, true, false}
 use mathlib.Core.List.{List, [], _∷_, _++_, map, List·Memᴰ}
-use mathlib.Core.Option.{none}
+use mathlib.Core.Option.{none, some}
 use mathlib.Core.Logic.{_⊎_}
-use Prim.Native.Nat.{ℕ, zero, suc, _<_}
+use Prim.Native.Nat.{ℕ, zero, suc, _≤_, _<_}
 use lib.Dec.{eqb}
 use lib.ListN.{length}
 use Rattle.page.specs.Bytes.{Bytes, bytes}
@@ -14,9 +14,10 @@ use Rattle.page.specs.Tables.{Named, Rule, rule-number, TABLES, table-at
 use Rattle.page.specs.Order.{Order, standing}
 use Rattle.page.specs.Marks.{remarkOf, may-mark}
 use Rattle.page.specs.Section.{record-text, table-in}
-use Rattle.page.specs.Records.{Datum, words, Record}
-use Rattle.page.specs.Grammar.{fields-of, Arrangement, Quiet, TblLine, AtrLine, FrmLine, MarkLine, RecLine, EndLine, Formats, Holds, Reads, Breaks, Rises}
+use Rattle.page.specs.Records.{words, Record}
+use Rattle.page.specs.Grammar.{fields-of, Arrangement, Quiet, TblLine, AtrLine, FrmLine, MarkLine, RecLine, EndLine, Formats, Day, Reads, Breaks, Rises}
 use Rattle.page.specs.File.{any}
+use Rattle.page.specs.declared.Column.{Column}
 use Rattle.page.specs.declared.Number.the-variants as N
 use Rattle.page.specs.declared.Owner.the-variants as O
 use Rattle.page.specs.declared.Remark.{Remark}
@@ -56,7 +57,21 @@ InOrder (P.Ended t n) k = ⊥
 abbrev pub One : List Bytes → Type 0
 One fs = (f : Bytes) × (fs ≡ f ∷ [])
 
--- "each field from the left (11 or 12, then 13)"
+-- 13: "number out of range, or text over its size, a doubled quote counting once"
+pub data Outside (c : Column) (f : Bytes) : Type 0 where
+  negative : {n : ℕ} → c .text ≡ false → numberOf f ≡ N.Minus n → Outside c f
+  out-of-range : {n : ℕ} → c .text ≡ false → numberOf f ≡ N.Plus n → ¬ ((c .lo ≤ n) × (n ≤ c .hi)) → Outside c f
+  over-size : {t : Bytes} → c .text ≡ true → record-text f ≡ some t → c .hi < length t → Outside c f
+
+-- "26, no such day"
+pub record NoSuchDay (c : Column) (f : Bytes) : Type 0 where
+  pub number : c .text ≡ false
+  pub day : c .day ≡ true
+  pub value : ℕ
+  pub reads : numberOf f ≡ N.Plus value
+  pub unreal : ¬ Day value
+
+-- "each field from the left (11 or 12, then 13)"; "26, no such day, at its field directly after 13"
 abbrev pub kind-law : Bool → Bool → Bytes → Law
 kind-law true optional f = law 11 (record-text f ≡ none)
 kind-law false optional f = law 12 ((numberOf f ≡ N.Nothing) × ¬ ((optional ≡ true) × (f ≡ [])))
@@ -65,7 +80,7 @@ abbrev pub fields-laws : List Named → List Bytes → List Law
 fields-laws [] fs = []
 fields-laws (c ∷ cs) [] = []
 fields-laws (c ∷ cs) (f ∷ fs) =
-    kind-law (c .column .text) (c .column .optional) f ∷ law 13 (¬ ((v : Datum) × Holds O.Operator (c .column) f v)) ∷ fields-laws cs fs
+    kind-law (c .column .text) (c .column .optional) f ∷ law 13 (Outside (c .column) f) ∷ law 26 (NoSuchDay (c .column) f) ∷ fields-laws cs fs
 
 -- the rules of a table, in their order; B says what it is to break one
 abbrev pub rules-laws : (Rule → Type 0) → List Rule → List Law
@@ -147,7 +162,7 @@ pub data Refused (latin : Bool) (ls : List Bytes) (k v n : ℕ) : Type 0 where
 
 -- a section's: the numbers of the laws above
 abbrev pub section-numbers : List ℕ
-section-numbers = 4 ∷ 5 ∷ 6 ∷ 7 ∷ 8 ∷ 9 ∷ 10 ∷ 11 ∷ 12 ∷ 13 ∷ 14 ∷ 25 ∷ 15 ∷ 16 ∷ []
+section-numbers = 4 ∷ 5 ∷ 6 ∷ 7 ∷ 8 ∷ 9 ∷ 10 ∷ 11 ∷ 12 ∷ 13 ∷ 26 ∷ 14 ∷ 25 ∷ 15 ∷ 16 ∷ []
 
 -- "After 1 or 2 no section is read."
 abbrev pub header-numbers : List ℕ

@@ -1,4 +1,5 @@
 -- A section's verdict: a machine over its lines, which counts records. Its records stand in Records.
+use mathlib.Core.Path.{_≡_}
 use mathlib.Core.Bool.{Bool, true, false, not, _&&_}
 use mathlib.Core.List.{List, [], _∷_}
 use mathlib.Core.Option.{Option, none, some}
@@ -8,6 +9,7 @@ use lib.ListN.{length, getD, take, drop}
 use Rattle.page.specs.Bytes.{Bytes, bytes, pick, same, until, keep, space, unpadded}
 use Rattle.page.specs.Lines.{content, blank, command, rest, clean, Tbl, Atr, Frm, Rec, End, Com, Unknown}
 use Rattle.page.specs.Fields.{fields, textOf, numberOf, digit, digits, value}
+use Rattle.page.specs.Dates.{real-day}
 use Rattle.page.specs.Tables.{Named, Rule, points-differ, feeder-combined, rule-number, TABLES, number-at, width, rules, table-named}
 use Rattle.page.specs.Order.{Order, order-of, arranged, standing, by-column}
 use Rattle.page.specs.Marks.{remarkOf, may-mark}
@@ -99,10 +101,14 @@ unfoldable pub text-field : ℕ → Option Wording → Field
 text-field size none = F.Refused 11
 text-field size (some x) = pick (leb (length (x .own)) size) (F.Text (x .span)) (F.Refused 13)
 
-unfoldable pub number-field : ℕ → ℕ → Number → Field
-number-field lo hi (N.Plus n) = pick (leb lo n && leb n hi) (F.Number n) (F.Refused 13)
-number-field lo hi (N.Minus n) = F.Refused 13
-number-field lo hi N.Nothing = F.Refused 12
+-- "26, no such day, at its field directly after 13"
+unfoldable pub day-field : Bool → ℕ → Field
+day-field day n = pick (day && not (real-day n)) (F.Refused 26) (F.Number n)
+
+unfoldable pub number-field : Bool → ℕ → ℕ → Number → Field
+number-field day lo hi (N.Plus n) = pick (leb lo n && leb n hi) (day-field day n) (F.Refused 13)
+number-field day lo hi (N.Minus n) = F.Refused 13
+number-field day lo hi N.Nothing = F.Refused 12
 
 -- "Where a column there allows NULL, an empty field is a missing number"; a field has no spaces around it
 abbrev pub left-out : Bool → Bytes → Bool
@@ -111,7 +117,15 @@ left-out optional f = optional && eqb (length f) 0
 unfoldable pub fieldOf : Column → Bytes → Field
 fieldOf c f =
     pick (c .text) (text-field (c .hi) (wordsOf f))
-    (pick (left-out (c .optional) f) F.Missing (number-field (c .lo) (c .hi) (numberOf f)))
+    (pick (left-out (c .optional) f) F.Missing (number-field (c .day) (c .lo) (c .hi) (numberOf f)))
+
+-- all that the reading of a field asks of its column is the same of two columns
+pub record ReadAlike (d c : Column) : Type 0 where
+  pub text : d .text ≡ c .text
+  pub day : d .day ≡ c .day
+  pub lo : d .lo ≡ c .lo
+  pub hi : d .hi ≡ c .hi
+  pub optional : d .optional ≡ c .optional
 
 -- the paper's number for what a field is read as
 unfoldable pub field-number : Field → ℕ

@@ -75,10 +75,25 @@ may-miss PC = false
 may-miss F = false
 may-miss N = true
 
-abbrev pub column-of : Bool → ℕ → ℕ → ℕ → Mark → Column
-column-of text lo hi size m =
+-- a column's kind: a number, a day, a text
+pub data Kind : Type 0 where
+  a-number a-day a-text : Kind
+
+abbrev pub is-text : Kind → Bool
+is-text a-number = false
+is-text a-day = false
+is-text a-text = true
+
+abbrev pub is-day : Kind → Bool
+is-day a-number = false
+is-day a-day = true
+is-day a-text = false
+
+abbrev pub column-of : Kind → ℕ → ℕ → ℕ → Mark → Column
+column-of k lo hi size m =
     record {
-      text = text;
+      text = is-text k;
+      day = is-day k;
       lo = lo;
       hi = hi;
       size = size;
@@ -90,10 +105,14 @@ column-of text lo hi size m =
 
 -- a number from lo to hi, written with its 452 decimal size; a text of at most `size` bytes
 abbrev pub num : String → ℕ → ℕ → ℕ → Mark → Named
-num name lo hi size m = record { name = name; column = column-of false lo hi size m }
+num name lo hi size m = record { name = name; column = column-of a-number lo hi size m }
 
 abbrev pub char : String → ℕ → Mark → Named
-char name size m = record { name = name; column = column-of true 0 size size m }
+char name size m = record { name = name; column = column-of a-text 0 size size m }
+
+-- "VER_GUELTIGKEIT and BETRIEBSTAG must be Gregorian dates": within their range in document 01
+abbrev pub day : String → Mark → Named
+day name m = record { name = name; column = column-of a-day 1 99999999 8 m }
 
 abbrev pub version : Mark → Named
 version m = num "BASIS_VERSION" 1 999999999 9 m
@@ -147,9 +166,9 @@ table number name columns references rules =
 unfoldable pub all-tables : List Table
 all-tables =
     table 485 "MENGE_BASIS_VERSIONEN" (version P ∷ char "BASIS_VERSION_TEXT" 40 F ∷ []) [] [] ∷
-    table 993 "BASIS_VER_GUELTIGKEIT" (num "VER_GUELTIGKEIT" 1 99999999 8 P ∷ version plain ∷ []) (to (1 ∷ []) "MENGE_BASIS_VERSIONEN" ∷ []) [] ∷
+    table 993 "BASIS_VER_GUELTIGKEIT" (day "VER_GUELTIGKEIT" P ∷ version plain ∷ []) (to (1 ∷ []) "MENGE_BASIS_VERSIONEN" ∷ []) [] ∷
     table 348 "FIRMENKALENDER"
-    (version P ∷ num "BETRIEBSTAG" 1 99999999 8 P ∷ char "BETRIEBSTAG_TEXT" 40 F ∷ day-type plain ∷ [])
+    (version P ∷ day "BETRIEBSTAG" P ∷ char "BETRIEBSTAG_TEXT" 40 F ∷ day-type plain ∷ [])
     (to-version ∷ to (0 ∷ 3 ∷ []) "MENGE_TAGESART" ∷ []) [] ∷
     table 290 "MENGE_TAGESART" (version P ∷ day-type P ∷ char "TAGESART_TEXT" 40 F ∷ []) (to-version ∷ []) [] ∷
     table 998 "MENGE_ONR_TYP"

@@ -42,10 +42,11 @@ pub enum Field {
     Refused(u32),
 }
 
-// A column of the fixed tables: its kind (a text of at most `hi` bytes, or a number from `lo` to `hi`), the size written in `frm`,
-// its keys, whether it may be marked and filled, and whether its number may be missing.
+// A column of the fixed tables: its kind (a text of at most `hi` bytes, or a number from `lo` to `hi`, which may have to be a day), the size
+// written in `frm`, its keys, whether it may be marked and filled, and whether its number may be missing.
 pub struct Column {
     pub text: bool,
+    pub day: bool,
     pub lo: u64,
     pub hi: u64,
     pub size: u64,

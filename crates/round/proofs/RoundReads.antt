@@ -136,8 +136,8 @@ module _ (latin : Bool) (ms : List ℕ) where
   values-fit : {i : ℕ} {cs : List Named} {fs : List Bytes} {vs : Record} → Values ms i cs fs vs → Every (Passing (allowed latin)) fs → MarksFit i cs →
       ¬ List·Memᴰ (words O.Suggestion []) vs → FitAll latin cs vs
   values-fit no-field p f n = no-value
-  values-fit (a-field {i} {c} {cs} {f = w} {vs} (Grammar.a-number k r l h) g) (one-more q qs) f n =
-      a-value (a-number k l h) (values-fit g qs (next-fit i c cs f) (λ (m : List·Memᴰ (words O.Suggestion []) vs). n (List·Memᴰ·tail m)))
+  values-fit (a-field {i} {c} {cs} {f = w} {vs} (Grammar.a-number k r l h d) g) (one-more q qs) f n =
+      a-value (a-number k l h d) (values-fit g qs (next-fit i c cs f) (λ (m : List·Memᴰ (words O.Suggestion []) vs). n (List·Memᴰ·tail m)))
   values-fit (a-field {i} {c} {cs} {vs} (Grammar.no-number k o e) g) (one-more q qs) f n =
       a-value (no-number k o) (values-fit g qs (next-fit i c cs f) (λ (m : List·Memᴰ (words O.Suggestion []) vs). n (List·Memᴰ·tail m)))
   values-fit (a-field {i} {c} {cs} {f = w} {vs} (Grammar.a-text {t} k r l) g) (one-more q qs) f n =

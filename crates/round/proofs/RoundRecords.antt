@@ -76,9 +76,9 @@ module _ (latin : Bool) (c : Column) where
   -- written, a value's field holds it
   holds-back : (o : Owner) (v : Datum) → Fits latin c v → c .hi < 10 ^ 18 → Owns o v → Holds o c (datum-text v) v
   unfolding datum-text
-  holds-back o (number n) (a-number k l h) s w =
+  holds-back o (number n) (a-number k l h d) s w =
       let z : n < 10 ^ 18 = omega arith in
-      Grammar.a-number k (number-decimal n z) l h
+      Grammar.a-number k (number-decimal n z) l h d
   holds-back o missing (no-number k q) s w = Grammar.no-number k q refl
   holds-back o (words O.Operator t) (a-text k h a e) s w = rw (← w) (Grammar.a-text k (quoted-own t e) h)
   holds-back o (words O.Suggestion t) (a-suggestion k f p h a e) s w = rw (← w) (Grammar.a-text k (quoted-own t e) h)
@@ -90,7 +90,7 @@ module _ (latin : Bool) (c : Column) where
 
   datum-allowed : (v : Datum) → Fits latin c v → all (allowed latin) (datum-text v) ≡ true
   unfolding datum-text all allowed
-  datum-allowed (number n) (a-number k l h) = all-mono digit (allowed latin) (digit-allowed latin) (decimal n) (decimal-all n)
+  datum-allowed (number n) (a-number k l h d) = all-mono digit (allowed latin) (digit-allowed latin) (decimal n) (decimal-all n)
   datum-allowed missing (no-number k o) = refl
   datum-allowed (words O.Operator t) (a-text k h a e) = quoted-all (allowed latin) t refl a
   datum-allowed (words O.Suggestion t) (a-suggestion k f p h a e) = quoted-all (allowed latin) t refl a

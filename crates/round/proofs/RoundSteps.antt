@@ -62,7 +62,7 @@ module _ (ends : LineEnd) (latin : Bool) where
   none-marked : (i : ℕ) {cs : List Named} {vs : Record} → FitAll latin cs vs → fillable-in cs ≡ false → mark-lines ends i vs ≡ []
   unfolding mark-lines mark-lines-of fillable-in
   none-marked i no-value e = refl
-  none-marked i (a-value {c} {cs} (a-number x l h) g) e = none-marked (suc i) g (neither (c .column .fillable) (fillable-in cs) e .1)
+  none-marked i (a-value {c} {cs} (a-number x l h d) g) e = none-marked (suc i) g (neither (c .column .fillable) (fillable-in cs) e .1)
   none-marked i (a-value {c} {cs} (no-number x o) g) e = none-marked (suc i) g (neither (c .column .fillable) (fillable-in cs) e .1)
   none-marked i (a-value {c} {cs} (a-text x h a d) g) e = none-marked (suc i) g (neither (c .column .fillable) (fillable-in cs) e .1)
   none-marked i (a-value {c} {cs} (a-suggestion x f p h a d) g) e = absurd (false≢true (sym (neither (c .column .fillable) (fillable-in cs) e .0) ∙ f))
@@ -70,7 +70,7 @@ module _ (ends : LineEnd) (latin : Bool) where
   none-owned : (m i : ℕ) {cs : List Named} {vs : Record} → FitAll latin cs vs → fillable-in cs ≡ false → m < i → Owned m i vs
   unfolding fillable-in
   none-owned m i no-value e h = no-owner
-  none-owned m i (a-value {c} {cs} (a-number x l q) g) e h = of-number (none-owned m (suc i) g (neither (c .column .fillable) (fillable-in cs) e .1) (omega arith))
+  none-owned m i (a-value {c} {cs} (a-number x l q d) g) e h = of-number (none-owned m (suc i) g (neither (c .column .fillable) (fillable-in cs) e .1) (omega arith))
   none-owned m i (a-value {c} {cs} (no-number x o) g) e h = of-missing (none-owned m (suc i) g (neither (c .column .fillable) (fillable-in cs) e .1) (omega arith))
   none-owned m i (a-value {c} {cs} (a-text x q a d) g) e h =
       of-words (sym (owner-other m i (λ (z : m ≡ i). omega arith))) (none-owned m (suc i) g (neither (c .column .fillable) (fillable-in cs) e .1) (omega arith))
@@ -88,7 +88,7 @@ module _ (ends : LineEnd) (latin : Bool) where
   pub marks-back : (i : ℕ) {cs : List Named} {vs : Record} → 0 < i → FitAll latin cs vs → one-fillable cs ≡ true → (m : ℕ) × Marked ends i cs vs m
   unfolding one-fillable mark-lines mark-lines-of datum-text
   marks-back i p no-value e = (0, unmarked refl no-owner)
-  marks-back i p (a-value {c} {cs} (a-number x l q) g) e =
+  marks-back i p (a-value {c} {cs} (a-number x l q d) g) e =
       let k = marks-back (suc i) (omega arith) g (and-right (not (c .column .fillable && fillable-in cs)) (one-fillable cs) e) in
       (k .0, onto i (k .0) c refl (λ n d o. of-number o) p (k .1))
   marks-back i p (a-value {c} {cs} (no-number x o) g) e =

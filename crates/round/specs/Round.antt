@@ -12,15 +12,15 @@ use Rattle.page.specs.Dates.{real-date, real-time}
 use Rattle.page.specs.Head.{Head}
 use Rattle.page.specs.Records.{Datum, number, missing, words, Record}
 use Rattle.page.specs.Model.{Content, Model}
-use Rattle.page.specs.Grammar.{Breaks}
+use Rattle.page.specs.Grammar.{Day, Breaks}
 use Rattle.page.specs.Rules.{Every}
 use Rattle.page.specs.declared.Column.{Column}
 use Rattle.page.specs.declared.Owner.the-variants as O
 
--- a value of a column: a number in its range, none where that is allowed, a text of its size without a space at its end; a suggestion only
--- where it may be marked, and not empty
+-- a value of a column: a number in its range, and a real day where that is asked, none where that is allowed, a text of its size without a space
+-- at its end; a suggestion only where it may be marked, and not empty
 pub data Fits (latin : Bool) (c : Column) : Datum → Type 0 where
-  a-number : {n : ℕ} → c .text ≡ false → c .lo ≤ n → n ≤ c .hi → Fits latin c (number n)
+  a-number : {n : ℕ} → c .text ≡ false → c .lo ≤ n → n ≤ c .hi → (c .day ≡ true → Day n) → Fits latin c (number n)
   no-number : c .text ≡ false → c .optional ≡ true → Fits latin c missing
   a-text : {t : Bytes} → c .text ≡ true → length t ≤ c .hi → all (allowed latin) t ≡ true → unpadded t ≡ t → Fits latin c (words O.Operator t)
   a-suggestion : {t : Bytes} → c .text ≡ true → c .fillable ≡ true → 0 < length t → length t ≤ c .hi → all (allowed latin) t ≡ true → unpadded t ≡ t →

@@ -12,6 +12,7 @@ use borrow.Author.Tests.{lt-ltb, le-ltb, ltb-true, ltb-false, ne-eqb, eqb-true, 
 use Rattle.page.specs.Bytes.{pick}
 use Rattle.page.specs.Tables.{Named, Table, all-tables, TABLES, WIDEST, no-table, no-column, table-at, columns, width, column-at, rules}
 use Rattle.page.specs.Order.{upto}
+use Rattle.page.specs.Section.{ReadAlike}
 use Rattle.page.specs.declared.Column.{Column}
 use Rattle.page.proofs.OrderLaws.{upto-length, upto-at}
 use Rattle.page.proofs.TableLaws.{tables-counted, past-tables, each, column-test, listed, each-table}
@@ -151,6 +152,10 @@ pub text-told : map (λ (b : ℕ). eqb b 116) kinds ≡ row-of (λ (c : Named). 
 unfolding kinds row-of flat all-tables
 text-told = refl
 
+day-told : map (λ (b : ℕ). eqb b 100) kinds ≡ row-of (λ (c : Named). c .column .day)
+unfolding kinds row-of flat all-tables
+day-told = refl
+
 low-told : map (λ (b : ℕ). b % 16) lows ≡ row-of (λ (c : Named). c .column .lo)
 unfolding lows row-of flat all-tables
 low-told = refl
@@ -170,14 +175,16 @@ fillable-told = refl
 -- what a reading asks of its column
 pub said-column : (t k i : ℕ) → i ≡ first-column t + k → k < width t → (c : Column)
     → Said (getD kinds i 0) (getD marks i 0) (getD lows i 0) (getD highs i 0) c
-    → (c .text ≡ column-at t k .text) × (c .lo ≡ column-at t k .lo) × (c .hi ≡ column-at t k .hi) × (c .optional ≡ column-at t k .optional)
+    → ReadAlike c (column-at t k)
 unfolding column-at
-said-column t k i e h c s = (
-  s .text ∙ read-at kinds 0 (λ (b : ℕ). eqb b 116) (λ (n : Named). n .column .text) text-told t k i e h,
-  s .lo ∙ read-at lows 0 (λ (b : ℕ). b % 16) (λ (n : Named). n .column .lo) low-told t k i e h,
-  s .hi ∙ read-at highs 0 (λ (n : ℕ). n) (λ (n : Named). n .column .hi) high-told t k i e h,
-  s .optional ∙ read-at marks 0 (λ (b : ℕ). eqb b 78) (λ (n : Named). n .column .optional) optional-told t k i e h,
-)
+said-column t k i e h c s =
+    record {
+      text = s .text ∙ read-at kinds 0 (λ (b : ℕ). eqb b 116) (λ (n : Named). n .column .text) text-told t k i e h;
+      day = s .day ∙ read-at kinds 0 (λ (b : ℕ). eqb b 100) (λ (n : Named). n .column .day) day-told t k i e h;
+      lo = s .lo ∙ read-at lows 0 (λ (b : ℕ). b % 16) (λ (n : Named). n .column .lo) low-told t k i e h;
+      hi = s .hi ∙ read-at highs 0 (λ (n : ℕ). n) (λ (n : Named). n .column .hi) high-told t k i e h;
+      optional = s .optional ∙ read-at marks 0 (λ (b : ℕ). eqb b 78) (λ (n : Named). n .column .optional) optional-told t k i e h;
+    }
 
 -- the size: a text's is its upper bound
 

@@ -41,9 +41,9 @@ pub record Entry (t k i : ℕ) : Type 0 where
   pub there : i < COLUMNS → (k < width t) × (i ≡ first-column t + k)
   pub none : COLUMNS ≤ i → width t ≤ k
 
--- `t` a text, `n` a number
+-- `t` a text, `d` a day, `n` any other number
 unfoldable pub kinds : List ℕ
-kinds = row-of (λ (c : Named). pick (c .column .text) 116 110)
+kinds = row-of (λ (c : Named). pick (c .column .text) 116 (pick (c .column .day) 100 110))
 
 -- `N` a number that may be missing, `F` a text that may be filled, `P` in the primary key, `C` in the second, `B` in both; else a dot
 abbrev mark-of : Column → ℕ
@@ -62,6 +62,7 @@ highs = row-of (λ (c : Named). c .column .hi)
 -- what the entries of a column in these four say of it
 pub record Said (kind mark low high : ℕ) (c : Column) : Type 0 where
   pub text : c .text ≡ eqb kind 116
+  pub day : c .day ≡ eqb kind 100
   pub lo : c .lo ≡ low % 16
   pub hi : c .hi ≡ high
   pub optional : c .optional ≡ eqb mark 78

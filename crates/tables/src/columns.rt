@@ -7,6 +7,7 @@ ghost use lib.Dec.{eqb};
 ghost use lib.ListN.{getD};
 ghost use Rattle.page.specs.Bytes.{pick};
 ghost use Rattle.page.specs.Tables.{WIDEST, number-at, width, column-at, rules};
+ghost use Rattle.page.specs.Section.{ReadAlike};
 ghost use Rattle.tables.specs.Arrays as rows;
 ghost use Rattle.tables.specs.Arrays.{first-column, Entry, Said, Flagged, either};
 ghost use Rattle.tables.specs.Keys.{rules-of};
@@ -154,6 +155,7 @@ pub fn column_of(kind: u8, mark: u8, low: u8, high: u32) -> Column
 {
     Column {
         text: kind == b't',
+        day: kind == b'd',
         lo: (low % 16) as u64,
         hi: high as u64,
         size: 0,
@@ -174,8 +176,7 @@ pub fn column_in(
     highs: &[u32; COLUMNS],
 ) -> Column
     requires { ⌜ (now kinds ≡ rows.kinds) × (now marks ≡ rows.marks) × (now lows ≡ rows.lows) × (now highs ≡ rows.highs) ⌝ }
-    ensures { λ r. ⌜ (r .text ≡ column-at t k .text) × (r .lo ≡ column-at t k .lo) × (r .hi ≡ column-at t k .hi)
-        × (r .optional ≡ column-at t k .optional) ⌝ }
+    ensures { λ r. ⌜ ReadAlike r (column-at t k) ⌝ }
 {
     let i = find_entry(t, k);
     if i < COLUMNS {
@@ -185,8 +186,7 @@ pub fn column_in(
 }
 
 pub fn find_column(t: usize, k: usize) -> Column
-    ensures { λ r. ⌜ (r .text ≡ column-at t k .text) × (r .lo ≡ column-at t k .lo) × (r .hi ≡ column-at t k .hi)
-        × (r .optional ≡ column-at t k .optional) ⌝ }
+    ensures { λ r. ⌜ ReadAlike r (column-at t k) ⌝ }
 {
     let kinds = KINDS;
     let marks = MARKS;

@@ -33,10 +33,10 @@ pub const COLUMNS: usize = 62;
 
 const NUMBERS: [u32; TABLES] = [485, 993, 348, 290, 998, 332, 225, 247, 432, 232];
 
-// `n` a number, `t` a text.
+// `t` a text, `d` a day, `n` any other number.
 pub const KINDS: [u8; COLUMNS] = *b"nt\
-    nn\
-    nntn\
+    dn\
+    ndtn\
     nnt\
     nntt\
     nnt\

@@ -1,6 +1,6 @@
 -- What a field is read as, and where the text of a field stands in it. Assumes nothing.
 use mathlib.Core.Path.{_≡_, refl}
-use mathlib.Core.Bool.{Bool, true, false, _&&_}
+use mathlib.Core.Bool.{Bool, true, false}
 use mathlib.Core.Option.{Option, none, some}
 use Prim.Native.Nat.{ℕ, _≤_}
 use native.Mathlib.Omega.{arith}
@@ -12,9 +12,8 @@ use Rattle.page.specs.Section.{Wording, wordsOf, text-field, number-field, left
 use Rattle.page.specs.declared.Column.{Column}
 use Rattle.page.specs.declared.Field.{Field}
 use Rattle.page.specs.declared.Field.the-variants as F
-use Rattle.page.specs.declared.Number.{Number}
-use Rattle.page.specs.declared.Number.the-variants as N
 use Rattle.page.proofs.TextLaws.{words-there}
+use Rattle.page.proofs.NumberFieldLaws.{NumberRead, as-number, as-refusal, number-read-so}
 
 -- of a text column a text, with the place that its wording says; of another a number, or that it is missing; or a refusal
 pub data Read (c : Column) (f : Bytes) : Field → Type 0 where
@@ -24,33 +23,25 @@ pub data Read (c : Column) (f : Bytes) : Field → Type 0 where
   no-value : (v : ℕ) → (v ≡ 0 → ⊥) → Read c f (F.Refused v)
 
 pub read-of : (c : Column) (f : Bytes) → Read c f (fieldOf c f)
-unfolding fieldOf text-field number-field
+unfolding fieldOf text-field
 read-of c f = by (c .text) (left-out (c .optional) f) refl
   where
-    over : Read c f (F.Refused 13)
-    over = no-value 13 (λ (e : _≡_ {A = ℕ} 13 0). omega arith)
-
     words : (o : Option Wording) → wordsOf f ≡ o → c .text ≡ true → Read c f (text-field (c .hi) o)
     words none q t = no-value 11 (λ (e : _≡_ {A = ℕ} 11 0). omega arith)
     words (some x) q t = sized (leb (length (x .own)) (c .hi))
       where
         sized : (b : Bool) → Read c f (pick b (F.Text (x .span)) (F.Refused 13))
         sized true = a-text x t q
-        sized false = over
+        sized false = no-value 13 (λ (e : _≡_ {A = ℕ} 13 0). omega arith)
 
-    number : (n : Number) → c .text ≡ false → Read c f (number-field (c .lo) (c .hi) n)
-    number (N.Plus n) t = ranged (leb (c .lo) n && leb n (c .hi))
-      where
-        ranged : (b : Bool) → Read c f (pick b (F.Number n) (F.Refused 13))
-        ranged true = a-number n t
-        ranged false = over
-    number (N.Minus n) t = over
-    number N.Nothing t = no-value 12 (λ (e : _≡_ {A = ℕ} 12 0). omega arith)
+    number : {r : Field} → NumberRead (numberOf f) r → c .text ≡ false → Read c f r
+    number (as-number n e) t = a-number n t
+    number (as-refusal v n) t = no-value v n
 
-    by : (b d : Bool) → c .text ≡ b → Read c f (pick b (text-field (c .hi) (wordsOf f)) (pick d F.Missing (number-field (c .lo) (c .hi) (numberOf f))))
+    by : (b d : Bool) → c .text ≡ b → Read c f (pick b (text-field (c .hi) (wordsOf f)) (pick d F.Missing (number-field (c .day) (c .lo) (c .hi) (numberOf f))))
     by true d t = words (wordsOf f) refl t
     by false true t = no-number t
-    by false false t = number (numberOf f) t
+    by false false t = number (number-read-so (c .day) (c .lo) (c .hi) (numberOf f)) t
 
 -- the text of a field lies within it
 pub wording-in : (f : Bytes) (x : Wording) → wordsOf f ≡ some x → (x .span .from ≤ x .span .to) × (x .span .to ≤ length f)

@@ -12,7 +12,7 @@ use Rattle.page.specs.Fields.{field-size, fields, textOf, digits, numberOf}
 use Rattle.page.specs.Tables.{WIDEST, column-at}
 use Rattle.page.specs.Order.{Order, place}
 use Rattle.page.specs.Marks.{owner-of}
-use Rattle.page.specs.Section.{wordsOf, text-field, number-field, left-out, fieldOf}
+use Rattle.page.specs.Section.{wordsOf, text-field, number-field, left-out, fieldOf, ReadAlike}
 use Rattle.page.specs.Places.{field-place, span-from, field-span}
 use Rattle.page.specs.File.{limit}
 use Rattle.page.specs.Reading.{later-field, field-at, valued, value-in}
@@ -67,7 +67,7 @@ module _ (w : Bytes) (p start : ℕ) (e : start ≡ field-place p 0 w) where
   field-none h o at c = rw (field-past h) (by (c .text) (c .optional))
     where
       read : Bool → Bool → Field
-      read b d = pick b (text-field (c .hi) (wordsOf [])) (pick (left-out d []) F.Missing (number-field (c .lo) (c .hi) (numberOf [])))
+      read b d = pick b (text-field (c .hi) (wordsOf [])) (pick (left-out d []) F.Missing (number-field (c .day) (c .lo) (c .hi) (numberOf [])))
 
       by : (b d : Bool) → valued O.Operator (read b d) ≡ valued o (later-field at (later-field (field-span w p .from) (read b d)))
       by true d = refl
@@ -122,7 +122,7 @@ place-few c t a p x e = omega (arith, place-le c (held t a), held-length t a x, 
 
 -- the value of a column, by the place where it stands
 pub column-value : (t f c p at m : ℕ) (o : Order) (w : Bytes) (d : Column) → c ≡ f - 1 → p ≡ place c o
-    → (d .text ≡ column-at t c .text) × (d .lo ≡ column-at t c .lo) × (d .hi ≡ column-at t c .hi) × (d .optional ≡ column-at t c .optional)
+    → ReadAlike d (column-at t c)
     → valued (owner-of m (suc p)) (later-field at (field-at d w p)) ≡ value-in t o (record { at = at; rest = w; mark = m }) f
 unfolding value-in field-at
 column-value t f c p at m o w d k e x = rw (sym k, e, column-asked (column-at t c) d x (getD (fields w) (place c o) []))

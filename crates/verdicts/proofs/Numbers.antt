@@ -20,6 +20,8 @@ use Rattle.verdicts.specs.Trailers.{TrailerFault}
 use Rattle.verdicts.specs.Files.{Unsound, TableAgain, KeyAgain, Lost, FileRefused, too-long, header, trailer, section, table-again, primary-again, second-again, reference-lost}
 use Rattle.grammar.proofs.Refuses.{refused-ranged}
 use Rattle.grammar.proofs.Combined.{Miscombined, refused-25}
+use Rattle.grammar.specs.Days.{Undated}
+use Rattle.grammar.proofs.Dated.{refused-26}
 use Rattle.verdicts.proofs.Files.{refuses-file-exactly}
 use Rattle.laws.proofs.Numbers.{other-number}
 
@@ -124,6 +126,15 @@ module _ (s : Bytes) where
       let y = exactly-section 25 i n refl in (
         λ e. let z = y .0 e in (z .0, (z .1 .0, z .1 .2, refused-25 (latinOf s) (z .1 .0 .lines) (z .1 .1) n .0 (z .1 .3) .1, z .1 .4)),
         λ z. y .1 (z .0, (z .1 .0, 432, z .1 .1, refused-25 (latinOf s) (z .1 .0 .lines) 432 n .1 (refl, z .1 .2), z .1 .3)),
+      )
+
+  -- 26, another: "no such day", where the first wrong field of the section's first failing line is within its range and no day
+  pub exactly-26 : (i n : ℕ) → file-refusal s ≡ refusal 26 i n ↔ (Opens s × ((x : Section) × (k : ℕ) × (f : First (Unsound (latinOf s)) [] (sections s) x) × Undated (latinOf s) (x .lines) k n × (i ≡ suc (length (f .before)))))
+  unfolding any
+  exactly-26 i n =
+      let y = exactly-section 26 i n refl in (
+        λ e. let z = y .0 e in (z .0, (z .1 .0, z .1 .1, z .1 .2, refused-26 (latinOf s) (z .1 .0 .lines) (z .1 .1) n .0 (z .1 .3), z .1 .4)),
+        λ z. y .1 (z .0, (z .1 .0, z .1 .1, z .1 .2, refused-26 (latinOf s) (z .1 .0 .lines) (z .1 .1) n .1 (z .1 .3), z .1 .4)),
       )
 
   -- 17: "table a second time", at the second table's line 1

@@ -12,7 +12,7 @@ use Rattle.page.specs.Answers.{refusal}
 use Rattle.page.specs.File.{limit, file-refusal}
 use Rattle.page.specs.Model.{Content, modelOf}
 use Rattle.page.specs.Open.{open-all}
-use Rattle.page.specs.Cases.{versions, day-types, point-types, links, connections, head}
+use Rattle.page.specs.Cases.{versions, day-types, valid-days, point-types, links, connections, head}
 use Rattle.page.specs.Rules.{SoundFile}
 use Rattle.page.specs.Refusals.{file-numbers}
 use Rattle.page.specs.declared.Owner.the-variants as O
@@ -47,6 +47,7 @@ faulty =
     file (versions "rec; 7; Winter\nend; 1\n" ∷ bytes "eof; 1\n" ∷ []) ∷
     file (versions "rec; x; \"Winter\"\nend; 1\n" ∷ bytes "eof; 1\n" ∷ []) ∷
     file (versions "rec; 0; \"Winter\"\nend; 1\n" ∷ bytes "eof; 1\n" ∷ []) ∷
+    file (valid-days "rec; 20230231; 7\nend; 1\n" ∷ bytes "eof; 1\n" ∷ []) ∷
     file (links "rec; 7; 0; 1; 5; 1; 5; 8\nend; 1\n" ∷ bytes "eof; 1\n" ∷ []) ∷
     file (connections "rec; 7; 1; \"\"; \"\"; 0; 0; 1; 12; ; ; ; \"\"; \"\"; \"\"; 5; 1; 9; ; ; \nend; 1\n" ∷ bytes "eof; 1\n" ∷ []) ∷
     file (versions "com; \"SUGGESTED 1\"\nrec; 7; \"Winter\"\nend; 1\n" ∷ bytes "eof; 1\n" ∷ []) ∷
@@ -61,11 +62,11 @@ faulty =
 unfoldable pub answers : List Refusal
 answers =
     refusal 2 0 0 ∷ refusal 3 0 1 ∷ refusal 4 1 4 ∷ refusal 5 1 4 ∷ refusal 6 1 4 ∷ refusal 7 1 1 ∷ refusal 8 1 2 ∷ refusal 9 1 3 ∷ refusal 10 1 4 ∷ refusal 11 1 4 ∷ refusal 12 1 4 ∷
-    refusal 13 1 4 ∷ refusal 14 1 4 ∷ refusal 25 1 4 ∷ refusal 15 1 4 ∷ refusal 16 1 5 ∷ refusal 17 2 1 ∷ refusal 18 1 5 ∷ refusal 19 2 5 ∷ refusal 20 1 4 ∷ []
+    refusal 13 1 4 ∷ refusal 26 1 4 ∷ refusal 14 1 4 ∷ refusal 25 1 4 ∷ refusal 15 1 4 ∷ refusal 16 1 5 ∷ refusal 17 2 1 ∷ refusal 18 1 5 ∷ refusal 19 2 5 ∷ refusal 20 1 4 ∷ []
 
 -- they are the answers to these files
 pub each-number : map file-refusal faulty ≡ answers
-unfolding open-all file version faulty answers versions day-types point-types links connections head
+unfolding open-all file version faulty answers versions day-types valid-days point-types links connections head
 each-number = refl
 
 -- with 1 they are all numbers that the file gives: no number is listed that no file gets

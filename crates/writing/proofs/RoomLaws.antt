@@ -51,7 +51,7 @@ Short v = length (datum-text v) ≤ 84
 
 fits-short : (latin : Bool) (c : Column) (v : Datum) → (c .text ≡ true → c .hi ≤ 40) → Fits latin c v → Short v
 unfolding datum-text
-fits-short latin c (number n) f (a-number x lo hi) = omega (arith, decimal-length n)
+fits-short latin c (number n) f (a-number x lo hi d) = omega (arith, decimal-length n)
 fits-short latin c missing f (no-number x o) = omega arith
 fits-short latin c (words O.Operator t) f (a-text x h a e) = omega (arith, quoted-length t, f x)
 fits-short latin c (words O.Suggestion t) f (a-suggestion x y p h a e) = omega (arith, quoted-length t, f x)

@@ -93,21 +93,23 @@ mod tests {
     #[test]
     fn what_was_never_given_is_missed() {
         let mut tally = Tally::default();
-        for number in (number::SOUND..=number::REFERENCE).chain([number::COMBINATION]) {
+        let of_sections = [number::COMBINATION, number::NO_SUCH_DAY];
+        for number in (number::SOUND..=number::REFERENCE).chain(of_sections) {
             tally.add_check(Refusal::placeless(number));
         }
-        assert_eq!(tally.missed().len(), 25);
+        assert_eq!(tally.missed().len(), 26);
         for number in number::HEADER..=number::REFERENCE {
             tally.add_arranged(Refusal::placeless(number));
         }
-        assert_eq!(tally.missed(), [0, 21, 22, 23, 24, 25]);
-        tally.add_arranged(Refusal::SOUND);
-        tally.add_arranged(Refusal::placeless(number::COMBINATION));
+        assert_eq!(tally.missed(), [0, 21, 22, 23, 24, 25, 26]);
+        for number in [number::SOUND].into_iter().chain(of_sections) {
+            tally.add_arranged(Refusal::placeless(number));
+        }
         for number in number::NO_ROOM..=number::NO_SUCH {
             tally.add_call(Refusal::placeless(number));
         }
         assert!(tally.missed().is_empty());
-        assert_eq!(Tally::default().missed().len(), 26);
+        assert_eq!(Tally::default().missed().len(), 27);
         assert!(tally
             .to_string()
             .contains("    20          1          1          0  a reference"));

@@ -70,7 +70,7 @@ fn cases_and_examples() {
         let compared = compare_file(pair(), &mut tally, &mut Random::new(1), &file);
         compared.unwrap_or_else(|difference| panic!("{}: {difference}", path.display()));
     }
-    let of_files = (number::SOUND..=number::REFERENCE).chain([number::COMBINATION]);
+    let of_files = (number::SOUND..=number::REFERENCE).chain(number::COMBINATION..=number::LAST);
     for number in of_files.filter(|n| *n != number::FILE_TOO_LONG) {
         assert!(tally.checks(number) >= 5, "{tally}");
     }

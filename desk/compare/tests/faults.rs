@@ -3,6 +3,7 @@
 
 mod arranged;
 mod connections;
+mod days;
 mod padded;
 
 use std::borrow::Cow;
@@ -103,10 +104,28 @@ faults! {
     NameNotFilled,
     MissingNotEmpty,
     MarksOfOneDigit,
+    LeapDayIn1900,
+    NoLeapDayIn2000,
+    LeapDayEveryFourthYear,
+    AprilOf31,
+    MonthsOf31,
+    MonthThirteen,
+    MonthZero,
+    DayZero,
+    YearZero,
+    DayAfterTheLast,
+    DaysOfEightDigits,
+    OperatingDaysUnread,
+    ValidityUnread,
+    NoSuchDayIsRange,
+    NoSuchDayLate,
+    NoSuchDayEarly,
+    NoSuchDayPlaceless,
+    DaysByPlace,
 }
 
 /// Faults that show only in files whose columns are arranged.
-const OF_ARRANGED: [Fault; 12] = [
+const OF_ARRANGED: [Fault; 13] = [
     ArrangedRefused,
     FormatsByColumn,
     FieldsByColumn,
@@ -119,6 +138,7 @@ const OF_ARRANGED: [Fault; 12] = [
     FillByPlace,
     CombinationByPlace,
     MarksOfOneDigit,
+    DaysByPlace,
 ];
 
 impl Bent {
@@ -181,6 +201,39 @@ impl Bent {
         }
     }
 
+    /// The calendar by which days are judged, if it is a wrong one.
+    fn calendar(&self) -> Option<days::Calendar> {
+        Some(match self.0 {
+            LeapDayIn1900 => days::with_leap_day_in_1900,
+            NoLeapDayIn2000 => days::without_leap_day_in_2000,
+            LeapDayEveryFourthYear => days::with_leap_day_every_fourth_year,
+            AprilOf31 => days::with_31_days_in_april,
+            MonthsOf31 => days::with_31_days_in_all_months,
+            MonthThirteen => days::with_month_13,
+            MonthZero => days::with_month_0,
+            DayZero => days::with_day_0,
+            YearZero => days::with_year_0,
+            DayAfterTheLast => days::with_a_day_after_the_last,
+            DaysOfEightDigits => days::with_eight_digits,
+            OperatingDaysUnread => days::of_validity_alone,
+            ValidityUnread => days::of_operation_alone,
+            _ => return None,
+        })
+    }
+
+    /// The right answer with days judged otherwise.
+    fn dated(&self, file: &[u8], right: Refusal) -> Refusal {
+        if let Some(calendar) = self.calendar() {
+            return days::judge_by(file, calendar);
+        }
+        match (self.0, right.number) {
+            (NoSuchDayLate, number::NO_SUCH_DAY) => days::judge_fields_first(file, right),
+            (NoSuchDayEarly, number::RANGE) => days::judge_day_first(file, right),
+            (DaysByPlace, _) => days::judge_days_by_place(file, right),
+            _ => right,
+        }
+    }
+
     fn answer(&self, right: Refusal) -> Refusal {
         match (self.0, right.number) {
             (RefusesAll, number::SOUND) => Refusal::new(number::HEADER, 0, 1),
@@ -189,6 +242,10 @@ impl Bent {
             (NoReferences, number::REFERENCE) => Refusal::SOUND,
             (NamesUnread, number::ATR) => Refusal::SOUND,
             (CombinationPasses, number::COMBINATION) => Refusal::SOUND,
+            (NoSuchDayIsRange, number::NO_SUCH_DAY) => {
+                Refusal::new(number::RANGE, right.section, right.line)
+            }
+            (NoSuchDayPlaceless, number::NO_SUCH_DAY) => Refusal::placeless(number::NO_SUCH_DAY),
             (LineOff, number::ORDER) => Refusal::new(right.number, right.section, right.line + 1),
             (SectionOff, number::PRIMARY_KEY) => Refusal::new(right.number, 1, right.line),
             (LaterLine, number::TRAILER) if right.line == 2 => Refusal::new(3, 0, 3),
@@ -233,7 +290,8 @@ impl Library for Bent {
     fn check(&self, file: &[u8]) -> Refusal {
         let right = Plain.check(&self.taken(file));
         let right = self.padded(file, self.unarranged(file, right));
-        self.answer(self.connected(file, right))
+        let right = self.connected(file, right);
+        self.answer(self.dated(file, right))
     }
 
     fn header(&self, file: &[u8]) -> Result<Header, Refusal> {

@@ -7,6 +7,7 @@ use vdv::tables::{Column, Kind};
 
 use crate::arrangement::Standing;
 use crate::combination::Broken;
+use crate::days;
 use crate::lines::{fields, rest};
 use crate::pointing::Line;
 
@@ -18,24 +19,37 @@ pub fn notes(line: &Line<'_>) -> Vec<String> {
         number::ATR => line.flaws().map_or(Vec::new(), |flaws| flaws.notes()),
         number::FRM => explain_format(line).into_iter().collect(),
         number::NOT_A_TEXT | number::NOT_A_NUMBER | number::RANGE if line.has_command(b"rec") => {
-            explain_field(line).into_iter().collect()
+            explain_field(line).unwrap_or_default()
         }
+        number::NO_SUCH_DAY => explain_day(line).unwrap_or_default(),
         number::MARK => explain_mark(line),
         number::COMBINATION => Broken::of(line).map_or(Vec::new(), |broken| broken.notes()),
         _ => Vec::new(),
     }
 }
 
-fn explain_field(line: &Line<'_>) -> Option<String> {
+fn explain_field(line: &Line<'_>) -> Option<Vec<String>> {
     let place = line.odd_place()?;
     let column = line.standing.as_ref()?.column_at(place)?;
     let (name, is_empty) = (column.name, line.field(place)?.is_empty());
     let asked = match column.kind {
-        Kind::Number { low, high } => format!("a number from {low} to {high}"),
+        Kind::Number { low, high } | Kind::Day { low, high } => {
+            format!("a number from {low} to {high}")
+        }
         Kind::Text { size } => format!("a text of up to {size} bytes"),
     };
     let empty = explain_empty(column, is_empty);
-    Some(format!("{name} stands here, {asked}{empty}"))
+    let mut notes = vec![format!("{name} stands here, {asked}{empty}")];
+    if column.is_day() {
+        notes.push(days::EXPECTED.to_owned());
+    }
+    Some(notes)
+}
+
+fn explain_day(line: &Line<'_>) -> Option<Vec<String>> {
+    let place = line.odd_place()?;
+    let column = line.standing.as_ref()?.column_at(place)?;
+    days::notes(column.name, &line.content[line.field(place)?])
 }
 
 /// What an empty field means in a column, or that it means nothing there.
@@ -69,7 +83,7 @@ fn explain_format(line: &Line<'_>) -> Option<String> {
 /// 255 without leading zeros."
 fn expect_format(column: &Column) -> String {
     let format = match column.kind {
-        Kind::Number { .. } => "num[n.0]",
+        Kind::Number { .. } | Kind::Day { .. } => "num[n.0]",
         Kind::Text { .. } => "char[n]",
     };
     format!("{}: {format} is expected, n from 1 to 255", column.name)
@@ -206,6 +220,32 @@ mod tests {
         assert_eq!(said("; ; \"\"; \"\"; \"\"; ; 0; 5; ; ; ", 12), [number]);
         let zero = "ABB_ORT_REF_ORT stands here, a number from 1 to 999999";
         assert_eq!(said("; ; \"\"; \"\"; \"\"; 5; 0; 0; ; ; ", 13), [zero]);
+    }
+
+    #[test]
+    fn days_are_told_how_they_are_written() {
+        let atr = "atr; TAGESART_NR; BETRIEBSTAG; BETRIEBSTAG_TEXT; BASIS_VERSION";
+        let said = |fields: &str, number| {
+            let content = format!("rec; {fields}; \"\"; 7");
+            notes(&line(atr, &content, number, 348))
+        };
+        let number = "BETRIEBSTAG stands here, a number from 1 to 99999999";
+        assert_eq!(said("1; 0", 13), [number, days::EXPECTED]);
+        assert_eq!(said("1; 100000000", 13), [number, days::EXPECTED]);
+        assert_eq!(said("1; 29.02.2024", 12), [number, days::EXPECTED]);
+        let missing = format!("{number}, and may not be left out");
+        assert_eq!(said("1; ", 12), [&missing, days::EXPECTED]);
+        let february = [
+            "BETRIEBSTAG stands here, and is no day: 2023 has no 29 February",
+            "20230229 reads as year 2023, month 2, day 29",
+            days::EXPECTED,
+        ];
+        assert_eq!(said("1;20230229 ", 26), february);
+        let day_type = "TAGESART_NR stands here, a number from 1 to 999";
+        assert_eq!(said("1000; 20230229", 13), [day_type]);
+        let format = "format of BETRIEBSTAG: num[n.0] is expected, n from 1 to 255";
+        let formats = line(atr, "frm; num[3.0]; char[8]; char[40]; num[9.0]", 9, 348);
+        assert_eq!(notes(&formats), [format]);
     }
 
     #[test]

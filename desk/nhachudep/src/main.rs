@@ -7,6 +7,7 @@ mod arrangement;
 mod columns;
 mod combination;
 mod commands;
+mod days;
 mod explaining;
 mod help;
 mod input;

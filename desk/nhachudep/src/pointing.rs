@@ -8,6 +8,7 @@ use vdv::tables::{Column, Kind, Table};
 
 use crate::arrangement::{Flaws, Standing};
 use crate::combination::Broken;
+use crate::days;
 use crate::lines::{command, fields};
 
 /// The columns that say where the two points lie, in each table that has them.
@@ -41,7 +42,11 @@ impl Line<'_> {
             number::UNKNOWN_TABLE | number::TABLE_TWICE | number::END_COUNT => one(self.field(1)),
             number::ATR => self.flaws().map_or(Vec::new(), |flaws| flaws.parts()),
             number::NOT_A_NUMBER if self.has_command(b"end") => one(self.field(1)),
-            number::FRM | number::NOT_A_TEXT | number::NOT_A_NUMBER | number::RANGE => {
+            number::FRM
+            | number::NOT_A_TEXT
+            | number::NOT_A_NUMBER
+            | number::RANGE
+            | number::NO_SUCH_DAY => {
                 one(self.odd_place().and_then(|place| self.field_or_gap(place)))
             }
             number::MARK => one(self.mark()),
@@ -80,6 +85,7 @@ impl Line<'_> {
                 !column.is_text() && !is_missing && read_number(value).is_none()
             },
             number::RANGE => |column, value| !fits(column, value),
+            number::NO_SUCH_DAY => |column, value| column.is_day() && !days::is_day(value),
             _ => return None,
         };
         let standing = self.standing.as_ref()?;
@@ -199,7 +205,7 @@ pub fn read_number(field: &[u8]) -> Option<i64> {
 
 fn fits(column: &Column, field: &[u8]) -> bool {
     match column.kind {
-        Kind::Number { low, high } => read_number(field)
+        Kind::Number { low, high } | Kind::Day { low, high } => read_number(field)
             .is_none_or(|n| u64::try_from(n).is_ok_and(|n| (low..=high).contains(&n))),
         Kind::Text { size } => own_size(field).is_none_or(|own| own <= size),
     }
@@ -267,6 +273,10 @@ mod tests {
             (b"end; x", 12, 290, &[b"x"]),
             (b"end; 3", 16, 290, &[b"3"]),
             (b"rec; 7; -1; 1; 2; 1; 3; 4", 13, 225, &[b"-1"]),
+            (b"rec; 7; 0; \"\"; 1", 13, 348, &[b"0"]),
+            (b"rec; 7; 20230229; \"\"; 1000", 26, 348, &[b"20230229"]),
+            (b"rec;20230229 ; 0", 26, 993, &[b"20230229"]),
+            (b"rec; 20230229; 0", 13, 993, &[b"0"]),
         ]);
     }
 

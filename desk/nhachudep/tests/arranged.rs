@@ -213,7 +213,8 @@ fn fields_at_fault() {
             "section 3, line 4: 12 not a number\n    \
              24 | rec; 1; \"Montag\"; 13.01.2025; 42\n       \
              |                   ^^^^^^^^^^\n       \
-             = BETRIEBSTAG stands here, a number from 1 to 99999999\n",
+             = BETRIEBSTAG stands here, a number from 1 to 99999999\n       \
+             = a day is YYYYMMDD, from 00010101 to 99991231, leading zeros optional\n",
         ),
         (
             "rec; \"HP\"; \"Haltepunkt\"; 1; 42",

@@ -331,6 +331,9 @@ fn every_case() {
         .matches("\n       = with LEITSTELLENKENNUNG ")
         .count();
     assert_eq!(broken, named);
+    let unreal = told.iter().filter(|line| line.contains(": 26 ")).count();
+    let named = run.err.matches(" stands here, and is no day: ").count();
+    assert_eq!(unreal, named);
     assert!(!run.err.contains('\x1b'));
     assert_eq!(run.text().lines().count(), names.len() - expected.len());
 }

@@ -60,9 +60,9 @@ fn no_line_is_wider_than_a_terminal() {
         atr; BASIS_VERSION; BETRIEBSTAG; BETRIEBSTAG_TEXT; TAGESART_NR\n\
         frm; num[9.0]; num[8.0]; char[40]; num[3.0]\n{}\
         com; \"SUGGESTED 3\"\n\
-        rec; 999999999; 99999999; \"{text}\"; 999\n\
+        rec; 999999999; 99991231; \"{text}\"; 999\n\
         end; 100001\n",
-        "rec;1;1;\"\";1\n".repeat(100_000)
+        "rec;1;10101;\"\";1\n".repeat(100_000)
     );
     let versions = "tbl; MENGE_BASIS_VERSIONEN\n\
         atr; BASIS_VERSION; BASIS_VERSION_TEXT\n\
@@ -76,7 +76,7 @@ fn no_line_is_wider_than_a_terminal() {
     folder.put("a.x10", latin);
     let run = folder.run(&["marks", "a.x10"]);
     assert_eq!(run.code, 1);
-    let row = format!("\"{text}\"  999999999;99999999  100001  100017\n");
+    let row = format!("\"{text}\"  999999999;99991231  100001  100017\n");
     assert!(run.text().contains(&row), "{}", run.text());
     assert!(run
         .text()

@@ -31,6 +31,7 @@ pub mod number {
     pub const MAY_NOT_FILL: u8 = 23;
     pub const NO_SUCH: u8 = 24;
     pub const COMBINATION: u8 = 25;
+    pub const NO_SUCH_DAY: u8 = 26;
 }
 
 /// What a file, or a request on it, gives back.

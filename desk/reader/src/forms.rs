@@ -201,7 +201,7 @@ fn put_table_lines(out: &mut Vec<u8>, table: &Table) {
     out.extend_from_slice(b"\nfrm");
     for column in table.columns {
         let format = match column.kind {
-            Kind::Number { .. } => format!("; num[{}.0]", column.written),
+            Kind::Number { .. } | Kind::Day => format!("; num[{}.0]", column.written),
             Kind::Text { .. } => format!("; char[{}]", column.written),
         };
         out.extend_from_slice(format.as_bytes());

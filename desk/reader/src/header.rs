@@ -2,6 +2,7 @@
 
 use std::ops::Range;
 
+use crate::calendar::Date;
 use crate::fields::{Fields, Text};
 use crate::lines::{is_plain, Command, Head, Lines, Part};
 
@@ -9,13 +10,6 @@ use crate::lines::{is_plain, Command, Head, Lines, Part};
 pub enum Charset {
     Ascii,
     Latin1,
-}
-
-#[derive(Clone, Copy, Debug, PartialEq, Eq)]
-pub struct Date {
-    pub year: u16,
-    pub month: u8,
-    pub day: u8,
 }
 
 #[derive(Clone, Copy, Debug, PartialEq, Eq)]
@@ -178,23 +172,7 @@ fn read_date(bytes: &[u8], form: DateForm) -> Option<Date> {
         }
         DateForm::Slashed => triple(bytes, b'/', [4, 2, 2])?,
     };
-    let real = year >= 1 && (1..=days_of(year, month)).contains(&day);
-    real.then_some(Date {
-        year,
-        month: month as u8,
-        day: day as u8,
-    })
-}
-
-fn days_of(year: u16, month: u16) -> u16 {
-    let leap = year.is_multiple_of(4) && (!year.is_multiple_of(100) || year.is_multiple_of(400));
-    match month {
-        1 | 3 | 5 | 7 | 8 | 10 | 12 => 31,
-        4 | 6 | 9 | 11 => 30,
-        2 if leap => 29,
-        2 => 28,
-        _ => 0,
-    }
+    Date::real(year, month, day)
 }
 
 fn read_time(bytes: &[u8]) -> Option<Time> {

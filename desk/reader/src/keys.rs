@@ -6,7 +6,7 @@ use std::ops::Range;
 use crate::answer::{number, Answer};
 use crate::header::Charset;
 use crate::section::{Field, Record, Records};
-use crate::tables::{position, Kind, Table, ALL};
+use crate::tables::{position, Kind, Table, ALL, EIGHT_DIGITS};
 
 /// A key's values in one number: each column's value is a digit in a base as
 /// wide as the column, so that equal numbers mean equal keys.
@@ -106,6 +106,7 @@ fn extend(key: Key, field: Field<'_>, kind: Kind) -> Key {
         (Field::Number(value), Kind::Number { low, high }) => {
             key * (high - low + 1) as Key + (value - low) as Key
         }
+        (Field::Number(value), Kind::Day) => key * (EIGHT_DIGITS + 1) as Key + value as Key,
         // Bytes count from 1 and absent ones as 0, so that "HP" and "HP1"
         // differ. A second key's text has at most six bytes.
         (Field::Text(text), Kind::Text { size }) => {
@@ -129,6 +130,7 @@ mod tests {
                 let top = columns.iter().try_fold(1u128, |top, &column| {
                     match table.columns[column].kind {
                         Kind::Number { low, high } => top.checked_mul((high - low + 1) as u128),
+                        Kind::Day => top.checked_mul((EIGHT_DIGITS + 1) as u128),
                         Kind::Text { size } => top.checked_mul(257u128.checked_pow(size as u32)?),
                     }
                 });
@@ -151,7 +153,7 @@ mod tests {
                         },
                     ) = (table.columns[from].kind, target.columns[to].kind)
                     else {
-                        panic!("{} refers by a text", table.name);
+                        panic!("{} refers by a text or a day", table.name);
                     };
                     assert!(least <= low && high <= most, "{}", table.name);
                 }

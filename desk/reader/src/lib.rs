@@ -6,6 +6,7 @@
 
 mod answer;
 mod arrangement;
+mod calendar;
 mod fields;
 mod file;
 mod forms;
@@ -19,13 +20,14 @@ mod showing;
 mod tables;
 
 pub use answer::{number, Answer, Verdict, LIMIT};
+pub use calendar::Date;
 pub use fields::Text;
 pub use file::{
     check, header, list, list_into, section, sections, table, trailer, value, visit, Listed, Row,
     TableView,
 };
 pub use forms::{fill, strip, write};
-pub use header::{Charset, Date, Header, Time};
+pub use header::{Charset, Header, Time};
 pub use listing::{listing, LISTED};
 pub use section::{Owner, Record, Value};
 pub use showing::forms_shown;

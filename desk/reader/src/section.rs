@@ -5,11 +5,12 @@ use std::ops::Range;
 
 use crate::answer::{number, Verdict};
 use crate::arrangement::Arrangement;
+use crate::calendar::Date;
 use crate::fields::{read_number, Fields, Text};
 use crate::header::Charset;
 use crate::lines::{is_latin, is_plain, Command, Head, Lines, Part};
 use crate::marks::{Comment, Marks};
-use crate::tables::{self, Column, Feeder, Kind, Table, WIDEST};
+use crate::tables::{self, Column, Feeder, Kind, Table, EIGHT_DIGITS, WIDEST};
 
 /// Whose a text is.
 #[derive(Clone, Copy, Debug, PartialEq, Eq)]
@@ -295,9 +296,10 @@ impl<'a> Records<'a> {
     }
 }
 
-/// "10, each field from the left (11 or 12, then 13)": a wrong count is known
-/// only at the line's end, so a field's refusal waits for it. The left is that
-/// of the line; the value goes to its column.
+/// "10, each field from the left (11 or 12, then 13)", and "26, no such day, at
+/// its field directly after 13": a wrong count is known only at the line's end,
+/// so a field's refusal waits for it. The left is that of the line; the value
+/// goes to its column.
 fn read_fields<'a>(
     rest: Part<'a>,
     table: &Table,
@@ -324,11 +326,10 @@ fn read_fields<'a>(
 fn read_field<'a>(part: Part<'a>, column: &Column) -> Result<Field<'a>, u8> {
     match column.kind {
         Kind::Number { .. } if column.may_be_missing && part.bytes.is_empty() => Ok(Field::Missing),
-        Kind::Number { low, high } => {
-            let value = read_number(part.bytes).ok_or(number::NOT_A_NUMBER)?;
-            if !(low..=high).contains(&value) {
-                return Err(number::RANGE);
-            }
+        Kind::Number { low, high } => read_within(part, low, high).map(Field::Number),
+        Kind::Day => {
+            let value = read_within(part, 1, EIGHT_DIGITS)?;
+            Date::numbered(value).ok_or(number::NO_SUCH_DAY)?;
             Ok(Field::Number(value))
         }
         Kind::Text { size } => {
@@ -339,6 +340,14 @@ fn read_field<'a>(part: Part<'a>, column: &Column) -> Result<Field<'a>, u8> {
             Ok(Field::Text(text))
         }
     }
+}
+
+fn read_within(part: Part<'_>, low: i64, high: i64) -> Result<i64, u8> {
+    let value = read_number(part.bytes).ok_or(number::NOT_A_NUMBER)?;
+    if !(low..=high).contains(&value) {
+        return Err(number::RANGE);
+    }
+    Ok(value)
 }
 
 /// "the two points, type and number together, differ".

@@ -4,9 +4,19 @@
 /// Range or size of a column's values.
 #[derive(Clone, Copy, Debug, PartialEq, Eq)]
 pub enum Kind {
-    Number { low: i64, high: i64 },
-    Text { size: usize },
+    Number {
+        low: i64,
+        high: i64,
+    },
+    /// A number from 1 to [`EIGHT_DIGITS`], "the number's value read as
+    /// YYYYMMDD".
+    Day,
+    Text {
+        size: usize,
+    },
 }
+
+pub const EIGHT_DIGITS: i64 = 99_999_999;
 
 #[derive(Debug)]
 pub struct Column {
@@ -65,6 +75,15 @@ const fn num(name: &'static str, low: i64, high: i64, written: usize) -> Column 
     }
 }
 
+const fn day(name: &'static str) -> Column {
+    Column {
+        name,
+        kind: Kind::Day,
+        written: 8,
+        may_be_missing: false,
+    }
+}
+
 /// ">0, NULL": "up to the decimal size".
 const fn num_or_null(name: &'static str, size: u32) -> Column {
     Column {
@@ -108,7 +127,7 @@ pub static ALL: [Table; 10] = [
     Table {
         number: 993,
         name: "BASIS_VER_GUELTIGKEIT",
-        columns: &[num("VER_GUELTIGKEIT", 1, 99_999_999, 8), V],
+        columns: &[day("VER_GUELTIGKEIT"), V],
         primary: &[0],
         second: &[],
         references: &[Reference { to: 485, by: &[1] }],
@@ -121,7 +140,7 @@ pub static ALL: [Table; 10] = [
         name: "FIRMENKALENDER",
         columns: &[
             V,
-            num("BETRIEBSTAG", 1, 99_999_999, 8),
+            day("BETRIEBSTAG"),
             char("BETRIEBSTAG_TEXT", 40),
             TAGESART_NR,
         ],
@@ -316,7 +335,7 @@ impl Column {
     /// without leading zeros".
     pub fn takes_format(&self, format: &[u8]) -> bool {
         let (start, end): (&[u8], &[u8]) = match self.kind {
-            Kind::Number { .. } => (b"num[", b".0]"),
+            Kind::Number { .. } | Kind::Day => (b"num[", b".0]"),
             Kind::Text { .. } => (b"char[", b"]"),
         };
         format
@@ -388,6 +407,14 @@ mod tests {
                 assert_eq!(table.columns[field - 1].kind, Kind::Text { size: 40 });
             }
         }
+    }
+
+    #[test]
+    fn days() {
+        let columns = ALL.iter().flat_map(|table| table.columns);
+        let days = columns.filter(|column| column.kind == Kind::Day);
+        let names: Vec<_> = days.map(|column| column.name).collect();
+        assert_eq!(names, ["VER_GUELTIGKEIT", "BETRIEBSTAG"]);
     }
 
     #[test]

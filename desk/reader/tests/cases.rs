@@ -73,7 +73,7 @@ fn every_number_a_file_can_give_is_met() {
     assert!(cases.len() >= 220);
     let count = |number| cases.keys().filter(|n| number_in(n) == number).count();
     assert!(count(0) >= 30);
-    for number in (2..=20).chain([25]) {
+    for number in (2..=20).chain([25, 26]) {
         assert!(count(number) >= 5, "{number}");
     }
     assert!(cases.values().all(|file| file.len() < 2048));
@@ -139,7 +139,7 @@ fn every_cut_is_answered() {
     for file in cases().values() {
         for length in 0..file.len() {
             let cut = &file[..length];
-            assert!(matches!(check(cut).number, 0..=20 | 25));
+            assert!(matches!(check(cut).number, 0..=20 | 25 | 26));
             assert!(listing(cut).ends_with(b"\n"));
         }
     }

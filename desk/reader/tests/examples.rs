@@ -94,6 +94,18 @@ fn connections_have_missing_numbers_and_a_suggestion() {
     }
 }
 
+/// "A sender delivered 20230231 as an operating day."
+#[test]
+fn a_calendar_with_a_day_that_is_none() {
+    let file = example("no-such-day.x10");
+    assert_eq!(answer(&file), (26, 4, 6));
+    let verdicts: Vec<_> = list(&file).unwrap().iter().map(|row| row.verdict).collect();
+    assert_eq!(verdicts, [0, 0, 0, 26]);
+    let text = String::from_utf8(file).unwrap();
+    let real = text.replace("20230231", "20230226");
+    assert_eq!(answer(real.as_bytes()), (0, 0, 0));
+}
+
 #[test]
 fn sound_examples_are_written_and_stay_so() {
     for name in [

@@ -129,7 +129,7 @@ fn the_smallest_number_anywhere_comes_first() {
         b"end; 2",
     ]);
     let primary_key = day_types(&[b"rec; 7; 1; \"\"", b"rec; 7; 1; \"\"", b"end; 2"]);
-    let lost = calendar(&[b"rec; 7; 1; \"\"; 99", b"end; 1"]);
+    let lost = calendar(&[b"rec; 7; 20240101; \"\"; 99", b"end; 1"]);
     let all = file(&[&lost, &second_key, &primary_key, VERSIONS]);
     assert_eq!(answer(&all), (18, 3, 5));
     assert_eq!(answer(&file(&[&lost, &second_key, VERSIONS])), (19, 2, 5));
@@ -159,15 +159,11 @@ fn links_and_running_times() {
 
 #[test]
 fn validity_refers_by_its_second_column() {
-    let validity = |record: &str| {
-        format!(
-            "tbl; BASIS_VER_GUELTIGKEIT\natr; VER_GUELTIGKEIT; BASIS_VERSION\n\
-             frm; num[8.0]; num[9.0]\nrec; {record}\nend; 1\n"
-        )
-    };
-    let with = |record| answer(&file(&[VERSIONS, validity(record).as_bytes()]));
-    assert_eq!(with("20240101; 7"), (0, 0, 0));
-    assert_eq!(with("7; 20240101"), (20, 2, 4));
+    let versions = b"tbl; MENGE_BASIS_VERSIONEN\natr; BASIS_VERSION; BASIS_VERSION_TEXT\n\
+        frm; num[9.0]; char[40]\nrec; 20240101; \"\"\nend; 1\n";
+    let with = |record: &[u8]| answer(&file(&[versions, &validity(&[record, b"end; 1"])]));
+    assert_eq!(with(b"rec; 20240102; 20240101"), (0, 0, 0));
+    assert_eq!(with(b"rec; 20240101; 20240102"), (20, 2, 4));
 }
 
 #[test]

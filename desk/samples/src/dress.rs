@@ -39,6 +39,9 @@ const HEADER_COMMENTS: [&[u8]; 3] = [
     b"com;\"SUGGESTED 2\" ",
 ];
 
+/// YYYYMMDD, as days before the year 1000 are mostly written too.
+const DIGITS_OF_A_DAY: usize = 8;
+
 #[derive(Clone, Copy, PartialEq, Eq)]
 enum Ends {
     Feeds,
@@ -224,7 +227,10 @@ impl Dresser<'_> {
         if !self.random.percent(self.style.zeros) {
             return bytes(&number.to_string());
         }
-        let width = 1 + self.random.below(18);
+        let width = match self.random.below(2) {
+            0 => DIGITS_OF_A_DAY,
+            _ => 1 + self.random.below(18),
+        };
         let sign = if number == 0 && self.random.percent(60) {
             "-"
         } else {

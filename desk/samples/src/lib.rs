@@ -4,6 +4,7 @@
 
 pub mod arrangement;
 pub mod damage;
+pub mod days;
 pub mod dress;
 mod feeder;
 pub mod form;

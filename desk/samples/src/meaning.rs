@@ -6,8 +6,9 @@ use vdv::tables::{
     Column, Kind, Table, ALL, CALENDAR, CONNECTIONS, DAY_TYPES, LINKS, POINT_TYPES, TIMES,
     TRANSFERS, TRIP_TYPES, VALIDITY, VERSIONS,
 };
-use vdv::{Date, Owner, Time};
+use vdv::{Owner, Time};
 
+use crate::days;
 use crate::feeder;
 use crate::model::{Content, Datum, Heading, Model, Record};
 use crate::random::Random;
@@ -76,7 +77,7 @@ fn draw_header(random: &mut Random) -> Heading {
     let [source, ver, ifv, dve, fft] = [(); 5].map(|()| text());
     Heading {
         source,
-        date: draw_date(random),
+        date: days::draw(random),
         time: Time {
             hour: random.between(0, 23),
             minute: random.between(0, 59),
@@ -87,21 +88,6 @@ fn draw_header(random: &mut Random) -> Heading {
         ifv,
         dve: random.percent(40).then_some(dve),
         fft: random.percent(40).then_some(fft),
-    }
-}
-
-fn draw_date(random: &mut Random) -> Date {
-    let date = |year, month, day| Date { year, month, day };
-    match random.below(8) {
-        0 => date(1, 1, 1),
-        1 => date(9999, 12, 31),
-        2 => date(random.pick(&[2000, 2024, 1600, 4]), 2, 29),
-        3 => date(random.between(1, 9999), random.pick(&[4, 6, 9, 11]), 30),
-        _ => date(
-            random.between(1, 9999),
-            random.between(1, 12),
-            random.between(1, 28),
-        ),
     }
 }
 
@@ -278,6 +264,7 @@ impl Records<'_> {
                 2 => self.random.between(low, high),
                 _ => self.random.between(low, high.min(low + 12)),
             }),
+            Kind::Day { .. } => Datum::Number(days::number_of(days::draw(self.random))),
             Kind::Text { size } => {
                 let text = texts::draw(self.random, self.latin, size);
                 Datum::Text(texts::unpadded(text), Owner::Operator)

@@ -1,8 +1,10 @@
 //! What the draws reach of connections, transfers and missing numbers.
 
+mod common;
+
 use std::collections::{BTreeMap, BTreeSet};
 
-use samples::damage::{self, ALL};
+use common::{refused, table_at};
 use samples::{Datum, Random, Record, Sample};
 use vdv::number;
 use vdv::tables::{Table, CONNECTIONS, TRANSFERS};
@@ -94,15 +96,9 @@ fn marks_at_places_of_two_digits() {
 
 /// In how many files with this damage a record of each table gives the number.
 fn broken(name: &str, number: u32) -> BTreeMap<u16, usize> {
-    let damage = ALL.iter().find(|damage| damage.name == name).unwrap();
     let mut met = BTreeMap::new();
-    for index in 0..1_500 {
-        let file = damage::with(&mut Random::of_file(13, index), &[*damage]);
-        let answer = reader::check(&file);
-        if u32::from(answer.number) == number {
-            let row = reader::section(&file, answer.section).unwrap();
-            *met.entry(row.table).or_insert(0) += 1;
-        }
+    for (file, answer) in refused(name, number) {
+        *met.entry(table_at(&file, answer)).or_insert(0) += 1;
     }
     met
 }
@@ -139,14 +135,9 @@ fn every_reference_of_transfers_is_broken() {
     let met = broken("transfer astray", number::REFERENCE);
     assert_eq!(met.len(), 1, "{met:?}");
     assert!(met[&232] >= 200, "{met:?}");
-    let damage = ALL.iter().find(|d| d.name == "transfer astray").unwrap();
     let mut lost = BTreeMap::new();
-    for index in 0..1_500 {
-        let file = damage::with(&mut Random::of_file(13, index), &[*damage]);
-        let answer = reader::check(&file);
-        if u32::from(answer.number) == number::REFERENCE {
-            *lost.entry(lost_by(&file, answer)).or_insert(0) += 1;
-        }
+    for (file, answer) in refused("transfer astray", number::REFERENCE) {
+        *lost.entry(lost_by(&file, answer)).or_insert(0) += 1;
     }
     for parents in [vec![432], vec![290], vec![485, 432, 290]] {
         assert!(lost.get(&parents).is_some_and(|n| *n >= 20), "{lost:?}");

@@ -129,7 +129,7 @@ fn every_number_of_a_file_is_reached() {
         *met.entry(u32::from(reader::check(&file).number))
             .or_insert(0) += 1;
     }
-    let of_files = (number::SOUND..=number::REFERENCE).chain([number::COMBINATION]);
+    let of_files = (number::SOUND..=number::REFERENCE).chain(number::COMBINATION..=number::LAST);
     for number in of_files.filter(|n| *n != number::FILE_TOO_LONG) {
         let count = met.get(&number).copied().unwrap_or(0);
         assert!(count >= 5, "{number}: {count} of {met:?}");
@@ -153,6 +153,10 @@ fn damage_does_what_its_name_says() {
         ("combination wrong", number::COMBINATION),
         ("combination and more wrong", number::COMBINATION),
         ("transfer astray", number::REFERENCE),
+        ("day nearly missed", number::NO_SUCH_DAY),
+        ("leap day in a common year", number::NO_SUCH_DAY),
+        ("no such day", number::NO_SUCH_DAY),
+        ("no such day and more wrong", number::NO_SUCH_DAY),
         ("record of too few fields", number::FIELD_COUNT),
         ("record of too many fields", number::FIELD_COUNT),
         ("end count wrong", number::END_COUNT),

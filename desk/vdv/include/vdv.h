@@ -52,6 +52,7 @@ enum vdv_number {
     VDV_MAY_NOT_FILL = 23, /* field may not be filled */
     VDV_NO_SUCH = 24, /* no such section, record or field */
     VDV_COMBINATION = 25, /* wrong combination */
+    VDV_NO_SUCH_DAY = 26, /* no such day */
 };
 
 /* `number` is one of enum vdv_number, as in every answer. */
@@ -112,7 +113,9 @@ enum vdv_kind { VDV_NUMBER = 0, VDV_OPERATOR = 1, VDV_SUGGESTION = 2, VDV_MISSIN
 /* `kind` is one of enum vdv_kind: a number has its amount, a text its bytes
  * between the quotes, doubled quotes still doubled, up to the spaces at its end.
  * A missing number, an empty field of a column that allows it, has neither: what
- * follows its kind is 0, and that is no amount. */
+ * follows its kind is 0, and that is no amount. The amount of VER_GUELTIGKEIT or of
+ * BETRIEBSTAG is a Gregorian day from 10101 to 99991231: amount / 10000 is its year,
+ * amount / 100 % 100 its month, amount % 100 its day. */
 typedef struct vdv_value_answer {
     uint32_t number;
     size_t section;

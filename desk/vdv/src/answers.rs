@@ -171,15 +171,13 @@ pub enum Owner {
 /// its owner".
 #[derive(Clone, Copy, Debug, PartialEq, Eq)]
 pub enum Value {
+    /// In a column of days a Gregorian day, year, month and day as YYYYMMDD.
     Number(u64),
     /// An empty field of a column whose number may be missing. It is not 0.
     Missing,
     /// What stands between the quotes, doubled quotes still doubled, up to
     /// the spaces at its end.
-    Text {
-        span: Span,
-        owner: Owner,
-    },
+    Text { span: Span, owner: Owner },
 }
 
 impl Value {
@@ -268,6 +266,10 @@ mod tests {
         assert_eq!(
             words(3, 0, 0),
             "refused with 3 at trailer, line 0: trailer breaks a rule"
+        );
+        assert_eq!(
+            words(26, 3, 4),
+            "refused with 26 at section 3, line 4: no such day"
         );
         assert_eq!(words(21, 0, 0), "refused with 21: no room");
         assert_eq!(Refusal::SOUND.to_string(), "sound");

@@ -48,10 +48,11 @@ numbers! {
     23 MAY_NOT_FILL "field may not be filled",
     24 NO_SUCH "no such section, record or field",
     25 COMBINATION "wrong combination",
+    26 NO_SUCH_DAY "no such day",
 }
 
 /// The highest number given back.
-pub const LAST: u32 = COMBINATION;
+pub const LAST: u32 = NO_SUCH_DAY;
 
 #[cfg(test)]
 mod tests {

@@ -5,8 +5,20 @@
 /// Range or size of a column's values.
 #[derive(Clone, Copy, Debug, PartialEq, Eq)]
 pub enum Kind {
-    Number { low: u64, high: u64 },
-    Text { size: usize },
+    Number {
+        low: u64,
+        high: u64,
+    },
+    /// "Gregorian dates from 00010101 to 99991231, the number's value read as
+    /// YYYYMMDD with leading zeros optional". What is outside the range is 13,
+    /// what is in it and no such day 26.
+    Day {
+        low: u64,
+        high: u64,
+    },
+    Text {
+        size: usize,
+    },
 }
 
 #[derive(Debug, PartialEq, Eq)]
@@ -64,6 +76,16 @@ const fn num_or_null(name: &'static str, high: u64, written: usize) -> Column {
     }
 }
 
+const fn day(name: &'static str) -> Column {
+    let (low, high) = (1, 99_999_999);
+    Column {
+        name,
+        kind: Kind::Day { low, high },
+        written: 8,
+        may_be_missing: false,
+    }
+}
+
 const fn text(name: &'static str, size: usize) -> Column {
     let kind = Kind::Text { size };
     let written = size;
@@ -90,7 +112,7 @@ pub static VERSIONS: Table = Table {
 pub static VALIDITY: Table = Table {
     number: 993,
     name: "BASIS_VER_GUELTIGKEIT",
-    columns: &[num("VER_GUELTIGKEIT", 1, 99_999_999, 8), V],
+    columns: &[day("VER_GUELTIGKEIT"), V],
     primary: &[1],
     second: &[],
     markable: None,
@@ -102,7 +124,7 @@ pub static CALENDAR: Table = Table {
     name: "FIRMENKALENDER",
     columns: &[
         V,
-        num("BETRIEBSTAG", 1, 99_999_999, 8),
+        day("BETRIEBSTAG"),
         text("BETRIEBSTAG_TEXT", 40),
         num("TAGESART_NR", 1, 999, 3),
     ],
@@ -268,13 +290,17 @@ impl Column {
 
     pub fn format_of_size(&self, size: usize) -> String {
         match self.kind {
-            Kind::Number { .. } => format!("num[{size}.0]"),
+            Kind::Number { .. } | Kind::Day { .. } => format!("num[{size}.0]"),
             Kind::Text { .. } => format!("char[{size}]"),
         }
     }
 
     pub fn is_text(&self) -> bool {
         matches!(self.kind, Kind::Text { .. })
+    }
+
+    pub fn is_day(&self) -> bool {
+        matches!(self.kind, Kind::Day { .. })
     }
 }
 
@@ -310,6 +336,22 @@ mod tests {
             if let Some(field) = table.markable {
                 assert_eq!(table.columns[field - 1].kind, Kind::Text { size: 40 });
             }
+        }
+    }
+
+    /// "VER_GUELTIGKEIT and BETRIEBSTAG must be Gregorian dates": no others, and
+    /// both stay numbers.
+    #[test]
+    fn days() {
+        let columns = ALL.iter().flat_map(|table| table.columns);
+        let days: Vec<_> = columns.filter(|column| column.is_day()).collect();
+        assert_eq!(
+            days.iter().map(|day| day.name).collect::<Vec<_>>(),
+            ["VER_GUELTIGKEIT", "BETRIEBSTAG"]
+        );
+        for day in days {
+            assert_eq!((day.format().as_str(), day.is_text()), ("num[8.0]", false));
+            assert!(!day.may_be_missing);
         }
     }
 

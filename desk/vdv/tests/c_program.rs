@@ -52,6 +52,21 @@ fn connection(last: &str) -> String {
     )
 }
 
+/// A version, and the day from which it is valid.
+fn valid_from(day: &str) -> Vec<u8> {
+    let (file, trailer) = FILE.split_at(FILE.len() - b"eof; 1\n".len());
+    assert_eq!(trailer, b"eof; 1\n");
+    let validity = format!(
+        "tbl; BASIS_VER_GUELTIGKEIT\n\
+        atr; VER_GUELTIGKEIT; BASIS_VERSION\n\
+        frm; num[8.0]; num[9.0]\n\
+        rec; {day}; 7\n\
+        end; 1\n\
+        eof; 2\n"
+    );
+    [file, validity.as_bytes()].concat()
+}
+
 fn compiled(name: &str) -> PathBuf {
     let here = Path::new(env!("CARGO_MANIFEST_DIR"));
     let out = Path::new(env!("CARGO_TARGET_TMPDIR")).join(name);
@@ -145,6 +160,21 @@ fn c_is_told_a_missing_number() {
         assert!(said.contains(&format!("\n{told}")), "{said}");
         let form = format!("write;0\n{file}strip;0\n{file}");
         assert!(said.contains(&form), "{said}");
+    }
+}
+
+/// "20240229 passes, 20230229 does not."
+#[test]
+fn c_is_told_a_day_that_is_none() {
+    let program = compiled("day");
+    for (day, check, write) in [
+        ("20240229", "check;sound\n", "\nwrite;0\nmod; "),
+        ("20230229", "check;26;2;4\n", "\nwrite;26\nstrip;26\n"),
+    ] {
+        let said = said(&program, &valid_from(day));
+        let said = String::from_utf8_lossy(&said);
+        assert!(said.starts_with(check), "{said}");
+        assert!(said.contains(write), "{said}");
     }
 }
 

@@ -14,7 +14,8 @@ _Static_assert(sizeof(vdv_value_answer) == 56 && offsetof(vdv_value_answer, amou
 _Static_assert(sizeof(vdv_length_answer) == 32 && offsetof(vdv_length_answer, length) == 24, "length");
 _Static_assert(sizeof(vdv_text_answer) == 40 && offsetof(vdv_text_answer, owner) == 32, "text");
 
-_Static_assert(VDV_SOUND == 0 && VDV_NO_SUCH == 24 && VDV_COMBINATION == 25, "numbers");
+_Static_assert(VDV_SOUND == 0 && VDV_NO_SUCH == 24 && VDV_COMBINATION == 25 && VDV_NO_SUCH_DAY == 26,
+               "numbers");
 _Static_assert(VDV_NUMBER == 0 && VDV_OPERATOR == 1 && VDV_SUGGESTION == 2 && VDV_MISSING == 3, "kinds");
 
 static uint8_t file[65536];

@@ -44,6 +44,10 @@ const TIME_HEAD: &[u8] = b"tbl; UEB_FZT\n\
 atr; BASIS_VERSION; BEREICH_NR; FGR_NR; ONR_TYP_NR; ORT_NR; UEB_ZIEL_TYP; UEB_ZIEL; UEB_FAHRZEIT\n\
 frm; num[9.0]; num[3.0]; num[9.0]; num[2.0]; num[6.0]; num[2.0]; num[6.0]; num[6.0]\n";
 
+const VALIDITY_HEAD: &[u8] = b"tbl; BASIS_VER_GUELTIGKEIT\n\
+atr; VER_GUELTIGKEIT; BASIS_VERSION\n\
+frm; num[8.0]; num[9.0]\n";
+
 const CALENDAR_HEAD: &[u8] = b"tbl; FIRMENKALENDER\n\
 atr; BASIS_VERSION; BETRIEBSTAG; BETRIEBSTAG_TEXT; TAGESART_NR\n\
 frm; num[9.0]; num[8.0]; char[40]; num[3.0]\n";
@@ -106,6 +110,10 @@ pub fn links(lines: &[&[u8]]) -> Vec<u8> {
 
 pub fn times(lines: &[&[u8]]) -> Vec<u8> {
     section(TIME_HEAD, lines)
+}
+
+pub fn validity(lines: &[&[u8]]) -> Vec<u8> {
+    section(VALIDITY_HEAD, lines)
 }
 
 pub fn calendar(lines: &[&[u8]]) -> Vec<u8> {

@@ -97,7 +97,8 @@ pub fn leave_range(random: &mut Random, model: &mut Model) {
     };
     let content = &mut model.tables[table];
     let column = random.below(content.table.columns.len());
-    if let Kind::Number { low, high } = content.table.columns[column].kind {
+    let kind = content.table.columns[column].kind;
+    if let Kind::Number { low, high } | Kind::Day { low, high } = kind {
         let beyond = [high + 1, 999_999_999_999_999_999, low.saturating_sub(1)];
         content.records[record][column] = Datum::Number(random.pick(&beyond));
     }

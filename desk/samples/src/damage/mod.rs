@@ -4,6 +4,7 @@
 mod bytes;
 mod columns;
 mod connections;
+mod days;
 mod header;
 mod lines;
 mod marks;
@@ -45,7 +46,7 @@ const fn to_bytes(name: &'static str, damage: fn(&mut Random, &mut Vec<u8>)) -> 
     Damage { name, level }
 }
 
-pub const ALL: [Damage; 54] = [
+pub const ALL: [Damage; 58] = [
     to_meaning("primary key repeated", meaning::repeat_primary_key),
     to_meaning("second key repeated", meaning::repeat_second_key),
     to_meaning("parent lost", meaning::lose_parent),
@@ -62,6 +63,10 @@ pub const ALL: [Damage; 54] = [
         connections::break_combination_and_more,
     ),
     to_meaning("transfer astray", connections::lead_transfer_astray),
+    to_meaning("day nearly missed", days::nearly_miss_day),
+    to_meaning("leap day in a common year", days::put_false_leap_day),
+    to_meaning("no such day", days::put_no_day),
+    to_meaning("no such day and more wrong", days::put_no_day_and_more),
     to_lines("line dropped", lines::drop_line),
     to_lines("line doubled", lines::double_line),
     to_lines("lines swapped", lines::swap_lines),

@@ -5,9 +5,10 @@ mod connections;
 use vdv::tables::{
     named, Table, CALENDAR, DAY_TYPES, LINKS, POINT_TYPES, TIMES, VALIDITY, VERSIONS,
 };
-use vdv::{number, At};
+use vdv::{number, At, Date};
 
 use crate::arrangement::Arrangement;
+use crate::days;
 use crate::form::form;
 use crate::meaning::{self, PARENTS_FIRST};
 use crate::page::Line;
@@ -25,6 +26,17 @@ const RESERVE: usize = 512;
 
 /// Links of one area, so that 18 MB need no more areas than there are.
 const LINKS_OF_AREA: usize = 860;
+
+/// The first day that is used; its number and every later one has eight digits.
+const FIRST_DAY: Date = Date {
+    year: 1000,
+    month: 1,
+    day: 1,
+};
+
+/// The most days from one record of a calendar to the next, so that 18 MB need
+/// no more days than there are.
+const WIDEST_STEP: usize = 6;
 
 #[derive(Clone, Copy, Debug, PartialEq, Eq)]
 pub enum Order {
@@ -308,9 +320,8 @@ fn calendar(random: &mut Random, bytes: usize, order: Order) -> Vec<u8> {
     let mut parts = parents();
     let mut room = room(&parts, &[&CALENDAR], bytes);
     let mut records = Vec::new();
-    let mut day = 10_000_000;
-    loop {
-        day += random.between(1, 100);
+    let mut days = days::from(FIRST_DAY);
+    while let Some(day) = days.nth(random.below(WIDEST_STEP)) {
         let record = draw_day(random, day, records.len() % 8 == 7);
         if record.len() > room {
             break;
@@ -328,7 +339,8 @@ fn calendar(random: &mut Random, bytes: usize, order: Order) -> Vec<u8> {
     assemble(&parts, bytes)
 }
 
-fn draw_day(random: &mut Random, day: u64, is_suggestion: bool) -> Vec<u8> {
+fn draw_day(random: &mut Random, day: Date, is_suggestion: bool) -> Vec<u8> {
+    let day = days::number_of(day);
     let texts: [&[u8]; 4] = [
         b"Freitag",
         b"Samstag nach Dreik\xf6nig",
@@ -349,8 +361,8 @@ fn eight(random: &mut Random, bytes: usize, order: Order) -> Vec<u8> {
     let tables: [_; 8] = std::array::from_fn(|index| PARENTS_FIRST[index]);
     let mut room = room(&[], &tables, bytes);
     let mut parts = tables.map(|table| Part::new(table, &[]));
-    for version in 1.. {
-        let records = draw_version(random, version);
+    for (version, valid) in (1..).zip(days::from(FIRST_DAY)) {
+        let records = draw_version(random, version, valid);
         let length: usize = records.iter().flatten().map(Vec::len).sum();
         if length > room {
             break;
@@ -375,14 +387,14 @@ fn eight(random: &mut Random, bytes: usize, order: Order) -> Vec<u8> {
 
 /// One version's records of each table, parents first. Every second version
 /// has no text.
-fn draw_version(random: &mut Random, version: usize) -> [Vec<Vec<u8>>; 8] {
+fn draw_version(random: &mut Random, version: usize, valid: Date) -> [Vec<Vec<u8>>; 8] {
     let lines = |lines: &[String]| lines.iter().map(|line| line.clone().into_bytes()).collect();
     let text = if version.is_multiple_of(2) {
         ""
     } else {
         "Fahrplan"
     };
-    let valid = 10_000_000 + version;
+    let valid = days::number_of(valid);
     let (from, to) = (random.between(1, 499_999), random.between(500_000, 999_998));
     let (metres, seconds) = (random.between(100, 81_890), random.between(30, 9_999));
     let points = [format!("1; {from}; 2; {to}"), format!("2; {to}; 1; {from}")];

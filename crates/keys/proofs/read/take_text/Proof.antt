@@ -9,7 +9,7 @@ use Rattle.keys.proofs.read.take_text.Statement.{statement}
 use Rattle.keys.proofs.read.take_text.Tie as tie
 
 abbrev any-text : Column
-any-text = record { text = true; lo = 0; hi = 18446744073709551615; size = 0; primary = false; second = false; fillable = false; optional = false }
+any-text = record { text = true; day = false; lo = 0; hi = 18446744073709551615; size = 0; primary = false; second = false; fillable = false; optional = false }
 
 read-field-requires : tie.Need-read-field-requires
 read-field-requires c κs = search needs

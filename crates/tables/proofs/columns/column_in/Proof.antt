@@ -42,12 +42,14 @@ unfolding column-at
 returns-2 c =
     let s = c .column-of2 .ensures in
     let x = c .before .before .find-entry .ensures in
-    let h = c .before .if1 .left in (
-      s .text ∙ no-entry (λ (n : Named). n .column .text) x h,
-      s .lo ∙ no-entry (λ (n : Named). n .column .lo) x h,
-      s .hi ∙ no-entry (λ (n : Named). n .column .hi) x h,
-      s .optional ∙ no-entry (λ (n : Named). n .column .optional) x h,
-    )
+    let h = c .before .if1 .left in
+    record {
+      text = s .text ∙ no-entry (λ (n : Named). n .column .text) x h;
+      day = s .day ∙ no-entry (λ (n : Named). n .column .day) x h;
+      lo = s .lo ∙ no-entry (λ (n : Named). n .column .lo) x h;
+      hi = s .hi ∙ no-entry (λ (n : Named). n .column .hi) x h;
+      optional = s .optional ∙ no-entry (λ (n : Named). n .column .optional) x h;
+    }
 
 pub column-in-spec : {M : Type 1} → statement M
 column-in-spec =

@@ -1,0 +1,30 @@
+mod; DD.MM.YYYY; HH:MM:SS; free
+src; "Desk"; "01.02.2024"; "06:00:00"
+chs; "ISO8859-1"
+ver; "1"
+ifv; "1.0"
+tbl; MENGE_BASIS_VERSIONEN
+atr; BASIS_VERSION; BASIS_VERSION_TEXT
+frm; num[9.0]; char[40]
+rec; 7; "Winter"
+end; 1
+tbl; MENGE_TAGESART
+atr; BASIS_VERSION; TAGESART_NR; TAGESART_TEXT
+frm; num[9.0]; num[3.0]; char[40]
+rec; 7; 1; "Schultag"
+end; 1
+tbl; BASIS_VER_GUELTIGKEIT
+atr; VER_GUELTIGKEIT; BASIS_VERSION
+frm; num[8.0]; num[9.0]
+rec; 020240229; 7
+rec; 000000000020240301; 7
+end; 2
+tbl; FIRMENKALENDER
+atr; BASIS_VERSION; BETRIEBSTAG; BETRIEBSTAG_TEXT; TAGESART_NR
+frm; num[9.0]; num[8.0]; char[40]; num[3.0]
+rec; 7; 010102; ""; 1
+rec; 7; 00010103; ""; 1
+rec; 7; 000010104; ""; 1
+rec; 7; 020240229; ""; 1
+end; 4
+eof; 4
