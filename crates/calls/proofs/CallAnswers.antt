@@ -7,7 +7,7 @@ use native.Mathlib.Omega.{arith}
 use lib.Dec.{eqb}
 use borrow.Author.Tests.{ne_eqb}
 use Rattle.page.specs.Bytes.{pick}
-use Rattle.page.specs.Answers.{headed, listed, got, written, handed}
+use Rattle.page.specs.Answers.{checked, headed, listed, got, written, paper-written, handed, paper-handed}
 use Rattle.page.specs.declared.Refusal.{Refusal}
 use Rattle.page.specs.declared.Row.{Row}
 use Rattle.page.specs.declared.Header.{Header}
@@ -15,6 +15,7 @@ use Rattle.page.specs.declared.Value.{Value}
 use Rattle.page.specs.declared.Written.{Written}
 use Rattle.page.specs.declared.Copied.{Copied}
 use Rattle.page.specs.declared.Handed.{Handed}
+use Rattle.page.specs.declared.Checked.TheVariants as C
 use Rattle.page.specs.declared.Headed.TheVariants as H
 use Rattle.page.specs.declared.Listed.TheVariants as L
 use Rattle.page.specs.declared.Got.TheVariants as G
@@ -65,6 +66,14 @@ module _ (r x : Refusal) (z : ¬ (x.number ≡ 0)) where
       by true e = absurd (false≢true (cc))
       by false e = cc
 
+  pub checked_exactly : checked r ≡ C.Refused x ↔ r ≡ x
+  unfolding checked
+  checked_exactly = (by (eqb r.number 0), λ e. rw (refuses e) (ap C.Refused e))
+    where
+      by : (b : Bool) → pick b C.Sound (C.Refused r) ≡ C.Refused x → r ≡ x
+      by true e = absurd (false≢true (cc))
+      by false e = cc
+
 -- an accepted text is the one that was to be handed out
 pub handed_is : (r : Refusal) (t x : Copied) → handed r t ≡ Ha.Is x → t ≡ x
 unfolding handed
@@ -86,6 +95,11 @@ handed_written r t = by (eqb r.number 0)
     by : (b : Bool) → as_written (pick b (Ha.Is t) (Ha.Refused r)) ≡ pick b (W.Length t.length) (W.Refused r)
     by true = refl
     by false = refl
+
+pub handed_number : (w : Handed) → paper-handed w ≡ paper-written (as_written w)
+unfolding paper-handed paper-written
+handed_number (Ha.Is x) = refl
+handed_number (Ha.Refused r) = refl
 
 pub some_number : (v : ℕ) → 0 < v → ¬ (v ≡ 0)
 some_number v l e = omega arith

@@ -23,12 +23,12 @@ use Rattle.page.specs.Writing.{put_refusal}
 use Rattle.page.specs.Refusals.{Refused, section_numbers, header_numbers, file_numbers, gives, OneOf, SoundOr}
 use Rattle.page.specs.declared.Refusal.{Refusal}
 use Rattle.page.specs.declared.Finding.{Finding}
+use Rattle.page.specs.declared.Checked.TheVariants as C
 use Rattle.page.specs.declared.Listed.TheVariants as L
 use Rattle.page.specs.declared.Got.TheVariants as G
 use Rattle.page.specs.declared.Written.TheVariants as W
 use Rattle.page.specs.declared.Handed.TheVariants as Ha
-use Rattle.page.specs.Faults.{HeaderFault}
-use Rattle.calls.specs.Numbers.{Open, SectionRefused, NoValue, Given, Nowhere, IsText}
+use Rattle.verdicts.specs.Headers.{HeaderFault}
 use Rattle.calls.specs.Turns.{Outside, Within}
 use Rattle.laws.proofs.Decides.{Decides, holds, fails, one_of, below}
 use Rattle.laws.proofs.Tests.{is_d}
@@ -36,7 +36,7 @@ use Rattle.verdicts.proofs.Headers.{header_refused_exactly, header_settled}
 use Rattle.grammar.proofs.Refuses.{refuses_exactly, refused_ranged, section_settled}
 use Rattle.verdicts.proofs.Numbers.{exactly_section}
 use Rattle.calls.proofs.PromisesListing.{header_told, file_told}
-use Rattle.calls.proofs.CallAnswers.{some_number, written_exactly, handed_exactly, got_exactly, listed_exactly}
+use Rattle.calls.proofs.CallAnswers.{some_number, written_exactly, handed_exactly, got_exactly, listed_exactly, checked_exactly}
 use Rattle.calls.proofs.Turns.{earlier_exactly, turned, via, second, outside_d, within_not, not_within}
 use Rattle.laws.proofs.Earlier.{earlier_none}
 use Rattle.laws.proofs.Numbers.{other_number, apart}
@@ -91,6 +91,10 @@ header_2 s n = (by (ltb limit (length s)) refl, λ h. back (ltb limit (length s)
     back true h x = absurd (let w : ⊥ = omega (arith, ltb-true limit (length s) h, x) in w)
     back false h x = ap found ((header_refused_exactly (header_lines s) n).1 x.1)
 
+-- nothing is wrong before the sections
+abbrev pub Open : Bytes → Type 0
+Open s = (header_refusal s).number ≡ 0
+
 -- what follows the header's answer
 pub after_header : (s : Bytes) (b : Refusal) (x : Refusal) → ¬ (x.number ≡ 0) → gives header_numbers x.number ≡ false → earlier (header_refusal s) b ≡ x ↔ (Open s × (b ≡ x))
 after_header s b x z l = (λ e. into ((earlier_exactly (header_refusal s) b x z).0 e), λ h. (earlier_exactly (header_refusal s) b x z).1 (inr h))
@@ -117,11 +121,12 @@ unfolding section_of
 section_24 s i = via (listed_exactly (find_refusal s i) (refusal 24 0 0) (some_number 24 (omega arith)) (row_at s i)) (find_24 s i)
 
 -- `list`: 21, "Too few rows"
-pub list_21 : (s : Bytes) (room : ℕ) → list_of s room ≡ refusal 21 0 0 ↔ (Open s × (room < length (sections s)))
+pub list_21 : (s : Bytes) (room : ℕ) → list_of s room ≡ C.Refused (refusal 21 0 0) ↔ (Open s × (room < length (sections s)))
 unfolding list_of list_refusal any
 list_21 s room =
-    via (λ e. into ((earlier_exactly (list_refusal s room) (file_refusal s) (refusal 21 0 0) (some_number 21 (omega arith))).0 e), λ e. (earlier_exactly (list_refusal s room) (file_refusal s) (refusal 21 0 0) (some_number 21 (omega arith))).1 (inl e))
-    (via (after_header s (refuse-if (ltb room (length (sections s))) 21) (refusal 21 0 0) (some_number 21 (omega arith)) refl) (second (if_exactly 21 (some_number 21 (omega arith)) (below room (length (sections s))))))
+    via (checked_exactly (earlier (list_refusal s room) (file_refusal s)) (refusal 21 0 0) (some_number 21 (omega arith)))
+    (via (λ e. into ((earlier_exactly (list_refusal s room) (file_refusal s) (refusal 21 0 0) (some_number 21 (omega arith))).0 e), λ e. (earlier_exactly (list_refusal s room) (file_refusal s) (refusal 21 0 0) (some_number 21 (omega arith))).1 (inl e))
+    (via (after_header s (refuse-if (ltb room (length (sections s))) 21) (refusal 21 0 0) (some_number 21 (omega arith)) refl) (second (if_exactly 21 (some_number 21 (omega arith)) (below room (length (sections s)))))))
   where
     into : (list_refusal s room ≡ refusal 21 0 0) ⊎ (((list_refusal s room).number ≡ 0) × (file_refusal s ≡ refusal 21 0 0)) → list_refusal s room ≡ refusal 21 0 0
     into (inl e) = e
@@ -138,7 +143,7 @@ unfolding refuse-if
 if_none v z (holds a) = (λ e. absurd (z e), λ n. absurd (n a))
 if_none v z (fails n) = (λ e. n, λ m. refl)
 
-pub find_open : (s : Bytes) (i : ℕ) → (find_refusal s i).number ≡ 0 ↔ (Open s × Within i (length (sections s)))
+find_open : (s : Bytes) (i : ℕ) → (find_refusal s i).number ≡ 0 ↔ (Open s × Within i (length (sections s)))
 unfolding find_refusal
 find_open s i =
     via (none_exactly (header_refusal s) (refuse-if (outside i (length (sections s))) 24))
@@ -173,6 +178,10 @@ verdict_exactly s i v j n z = (into (section_settled (latin_of s) (section_at s 
     back (e, (k, r)) = rw (((refuses_exactly (latin_of s) (section_at s i).lines k v n).1 r).0, ne_eqb v 0 z, e)
 
 -- what the calls that read a section answer before they look at its records: 24, or the section's verdict
+
+-- a section's verdict, handed on
+abbrev pub SectionRefused : Bytes → ℕ → ℕ → ℕ → ℕ → Type 0
+SectionRefused s i v j n = (Open s × Within i (length (sections s))) × ((j ≡ i) × ((k : ℕ) × Refused (latin_of s) (section_at s i).lines k v n))
 
 find_else : (s : Bytes) (i : ℕ) (x : Refusal) → ¬ (x.number ≡ 0) → gives header_numbers x.number ≡ false → ¬ (x.number ≡ 24) → ¬ (find_refusal s i ≡ x)
 unfolding find_refusal refuse-if
@@ -209,8 +218,20 @@ after_verdict s i b v j n g other = (into, back)
 
 -- `value`
 
+-- "24 for the record or field"
+abbrev pub NoValue : Bytes → ℕ → ℕ → ℕ → Type 0
+NoValue s i r f = Outside r (row_at s i).records ⊎ Outside f (width (table_index (section_at s i).lines))
+
 no_value_d : (s : Bytes) (i r f : ℕ) → Decides (NoValue s i r f) (outside r (row_at s i).records || outside f (width (table_index (section_at s i).lines)))
 no_value_d s i r f = one_of (outside_d r (row_at s i).records) (outside_d f (width (table_index (section_at s i).lines)))
+
+-- what a value is read from: the header is sound, and the section is there, is sound and has that record and field
+pub record Given (s : Bytes) (i r f : ℕ) : Type 0 where
+  pub opens : Open s
+  pub section : Within i (length (sections s))
+  pub sound : (row_at s i).verdict ≡ 0
+  pub record_there : Within r (row_at s i).records
+  pub field_there : Within f (width (table_index (section_at s i).lines))
 
 pub value_given : (s : Bytes) (i r f : ℕ) → (value_refusal s i r f).number ≡ 0 ↔ Given s i r f
 unfolding value_refusal
@@ -241,6 +262,10 @@ value_given s i r f = (into, back)
           (none_exactly (verdict_of i (row_at s i)) _).1
               ((verdict_open s i).1 g.sound, (if_none 24 (some_number 24 (omega arith)) (no_value_d s i r f)).1 (neither g)),
         )
+
+-- "24 for the section, the section's verdict, 24 for the record or field"
+abbrev pub Nowhere : Bytes → ℕ → ℕ → ℕ → Type 0
+Nowhere s i r f = (Open s × Outside i (length (sections s))) ⊎ ((Open s × Within i (length (sections s))) × (((row_at s i).verdict ≡ 0) × NoValue s i r f))
 
 pub value_refused_24 : (s : Bytes) (i r f : ℕ) → value_refusal s i r f ≡ refusal 24 0 0 ↔ Nowhere s i r f
 unfolding value_refusal any
@@ -297,6 +322,10 @@ value_verdict s i r f v j n g =
     (if_number (outside r (row_at s i).records || outside f (width (table_index (section_at s i).lines))) 24 v z (λ e. other_number section_numbers v 24 g refl (sym e))))
 
 -- `text`: 11, "not a text", after all that refuses a value; any other refusal but 21 is the value's
+
+-- a column of texts
+abbrev pub IsText : Bytes → ℕ → ℕ → Type 0
+IsText s i f = (column_at (table_index (section_at s i).lines) (f - 1)).text ≡ true
 
 value_other : (s : Bytes) (i r f : ℕ) → ¬ (value_refusal s i r f ≡ refusal 11 0 0)
 unfolding value_refusal any

@@ -21,6 +21,7 @@ use Rattle.page.specs.Writing.{put_refusal, put_of, write_form, write_of, strip_
 use Rattle.page.specs.Trailer.{trailer_of}
 use Rattle.page.specs.Refusals.{section_numbers, header_numbers, later_numbers, gives, OneOf, SoundOr}
 use Rattle.page.specs.declared.Refusal.{Refusal}
+use Rattle.page.specs.declared.Checked.TheVariants as C
 use Rattle.page.specs.declared.Headed.TheVariants as H
 use Rattle.page.specs.declared.Listed.TheVariants as L
 use Rattle.page.specs.declared.Got.TheVariants as G
@@ -29,7 +30,7 @@ use Rattle.page.specs.declared.Handed.TheVariants as Ha
 use Rattle.laws.proofs.Decides.{below}
 use Rattle.grammar.proofs.Refuses.{refused_ranged}
 use Rattle.calls.proofs.PromisesListing.{file_ranged, header_told}
-use Rattle.calls.proofs.CallAnswers.{some_number, written_exactly, got_exactly, listed_exactly, headed_exactly}
+use Rattle.calls.proofs.CallAnswers.{some_number, written_exactly, got_exactly, listed_exactly, headed_exactly, checked_exactly}
 use Rattle.calls.proofs.Turns.{earlier_exactly, via}
 use Rattle.calls.proofs.CallNumbers.{told_other, verdict_exactly, after_header, none_exactly, if_none, if_number, first_alone, table_first, text_else}
 use Rattle.laws.proofs.Numbers.{other_number, apart}
@@ -119,9 +120,10 @@ module _ (s : Bytes) (x : Refusal) (early : OneOf header_numbers x.number) where
       by (inl h) e = h
       by (inr h) e = absurd (told_other later_numbers (file_ranged s h.0) numbered (apart header_numbers later_numbers x.number refl early) e)
 
-  pub list_header : (room : ℕ) → list_of s room ≡ x ↔ header_refusal s ≡ x
+  pub list_header : (room : ℕ) → list_of s room ≡ C.Refused x ↔ header_refusal s ≡ x
   unfolding list_of list_refusal any
   list_header room =
+      via (checked_exactly (earlier (list_refusal s room) (file_refusal s)) x numbered)
       (λ e. by ((earlier_exactly (list_refusal s room) (file_refusal s) x numbered).0 e), λ e. (earlier_exactly (list_refusal s room) (file_refusal s) x numbered).1 (inl (begun.1 e)))
     where
       begun : earlier (header_refusal s) (refuse-if (ltb room (length (sections s))) 21) ≡ x ↔ header_refusal s ≡ x
@@ -132,9 +134,10 @@ module _ (s : Bytes) (x : Refusal) (early : OneOf header_numbers x.number) where
       by (inr e) = file_header.0 e.1
 
 -- `list`: what the file gives after 1 and 2 is the file's, if the rows suffice
-pub list_verdict : (s : Bytes) (room : ℕ) (x : Refusal) → OneOf later_numbers x.number → list_of s room ≡ x ↔ ((length (sections s) ≤ room) × (file_refusal s ≡ x))
+pub list_verdict : (s : Bytes) (room : ℕ) (x : Refusal) → OneOf later_numbers x.number → list_of s room ≡ C.Refused x ↔ ((length (sections s) ≤ room) × (file_refusal s ≡ x))
 unfolding list_of list_refusal any
 list_verdict s room x g =
+    via (checked_exactly (earlier (list_refusal s room) (file_refusal s)) x z)
     (λ e. into ((earlier_exactly (list_refusal s room) (file_refusal s) x z).0 e), λ h. (earlier_exactly (list_refusal s room) (file_refusal s) x z).1 (inr ((none_exactly (header_refusal s) _).1 (opens h.1, enough h.0), h.1)))
   where
     z : ¬ (x.number ≡ 0)

@@ -2,30 +2,31 @@
 -- with its owner. Assumes nothing.
 use mathlib.Core.Path.{◌≡◌, refl, ap, sym, ◌∙◌}
 use mathlib.Core.Bool.{Bool, true, false, not, false≢true}
-use mathlib.Core.List.{List, [], ◌∷◌, map}
+use mathlib.Core.List.{List, [], ◌∷◌, ◌++◌, map, append_assoc}
 use mathlib.Core.Option.{some}
 use Prim.Native.Nat.{ℕ, zero, suc, ◌+◌, ◌-◌, ◌<◌, ◌≤◌}
 use native.Mathlib.Omega.{arith}
-use lib.Dec.{eqb}
-use lib.ListN.{length, get_or, take, drop}
-use borrow.Author.Tests.{eqb-true, eq-eqb, le-leb}
-use Rattle.page.specs.Bytes.{Bytes, pick}
-use Rattle.page.specs.Lines.{content, rest, Tbl, Atr, Frm}
+use lib.Dec.{eqb, ltb}
+use lib.ListN.{length, get_or, take, drop, length-append, take-append-drop}
+use lib.Seq.{take-append_seam, drop-append-le, drop-append-add}
+use borrow.Author.Tests.{eqb-true, eq-eqb, le-leb, ltb-true, ltb-false}
+use Rattle.page.specs.Bytes.{Bytes, pick, until, moved, part}
+use Rattle.page.specs.Lines.{joined, content_size, content, command, rest, semicolon, Tbl, Atr, Frm, Rec}
 use Rattle.page.specs.Fields.{fields, number_of}
 use Rattle.page.specs.Tables.{Named, no_column, column_at, width}
 use Rattle.page.specs.Order.{Order, arranged, by_column, column_in}
 use Rattle.page.specs.Cut.{Section, sections}
 use Rattle.page.specs.Head.{latin_of}
 use Rattle.page.specs.Section.{own_span, record_text, text_field, number_field, field_of, outcome}
-use Rattle.page.specs.Records.{Datum, number, words, Record, records_of, table_index, order_in}
-use Rattle.page.specs.Places.{field_span, stands, record_at}
+use Rattle.page.specs.Records.{Datum, number, words, Record, waits, records_of, table_index, order_in}
+use Rattle.page.specs.Places.{Standing, field_span, stands, record_at, this_or}
 use Rattle.page.specs.Model.{Content, content_of, model_of, datum_at}
 use Rattle.page.specs.File.{row_given, row_of}
 use Rattle.page.specs.Form.{doubled}
 use Rattle.page.specs.Answers.{refuse-if, got, written}
 use Rattle.page.specs.Reading.{no_section, section_at, row_at, later_field, field_at, valued, value_in, record_of, value_refusal, value_at, value_of}
 use Rattle.page.specs.Writing.{put_refusal, put_of}
-use Rattle.page.specs.Handing.{text_refusal, place_of, own_text, text_owner, copied, text_out, text_after}
+use Rattle.page.specs.Handing.{text_refusal, place_of, own_text, text_owner, copied, text_out}
 use Rattle.page.specs.Grammar as Grammar
 use Rattle.page.specs.Grammar.{owner_by, Day, Holds, Values, no_field, a_field, Reads, Then, found, skip, Records, pause, a_mark, a_record, the_end, Denotes}
 use Rattle.page.specs.Rules.{Every, none_left, one_more}
@@ -34,6 +35,7 @@ use Rattle.page.specs.declared.Field.{Field}
 use Rattle.page.specs.declared.Field.TheVariants as F
 use Rattle.page.specs.declared.Number.TheVariants as N
 use Rattle.page.specs.declared.Refusal.{Refusal}
+use Rattle.page.specs.declared.Span.{Span}
 use Rattle.page.specs.declared.Text.{Text}
 use Rattle.page.specs.declared.Value.{Value}
 use Rattle.page.specs.declared.Value.TheVariants as Va
@@ -41,11 +43,15 @@ use Rattle.page.specs.declared.Got.TheVariants as G
 use Rattle.page.specs.declared.Written.TheVariants as W
 use Rattle.page.specs.declared.Copied.{Copied}
 use Rattle.page.specs.declared.Handed.TheVariants as Ha
+use Rattle.page.proofs.LineLaws.{joined_lines, joined_append}
+use Rattle.page.proofs.ContentLaws.{rest_none}
+use Rattle.page.proofs.CutLaws.{section_stands}
+use Rattle.page.proofs.ScanLaws.{part_length, part_moved}
+use Rattle.page.proofs.FieldLaws.{field_span_in, field_span_part}
 use Rattle.page.proofs.OrderLaws.{arranged_long, place_in, by_column_at}
-use Rattle.page.proofs.TextLaws.{worded_some}
+use Rattle.page.proofs.TextLaws.{words_there, worded_some}
 use Rattle.laws.specs.Begins.{begins}
 use Rattle.grammar.specs.Marks.{marks_at}
-use Rattle.calls.specs.Numbers.{Given, IsText}
 use Rattle.calls.specs.Handed.{StandsFor, a_number, no_number, a_text}
 use Rattle.grammar.proofs.Days.{day_read}
 use Rattle.grammar.proofs.Values.{number_there}
@@ -53,13 +59,79 @@ use Rattle.grammar.proofs.Readings.{handed_denoted, denoted_order, sound_arrange
 use Rattle.grammar.proofs.Counts.{count_handed}
 use Rattle.laws.proofs.Sections.{sections_begin}
 use Rattle.grammar.proofs.Marks.{pass_marks, quiet_marks, mark_marks, record_marks, pass_at, quiet_at, mark_at, rec_at, owner_handed}
-use Rattle.calls.proofs.Promises.{put_first}
 use Rattle.calls.proofs.CallAnswers.{as_written, handed_is}
-use Rattle.calls.proofs.CallNumbers.{value_given}
-use Rattle.calls.proofs.PromisesHanding.{text_put, text_done}
-use Rattle.calls.proofs.Contents.{content_at}
-use Rattle.calls.proofs.Lies.{section_lies, span_bytes}
+use Rattle.calls.proofs.CallNumbers.{Given, IsText, value_given}
+use Rattle.calls.proofs.PromisesHanding.{text_put}
 use Rattle.laws.proofs.Earlier.{earlier_none}
+
+-- where a record's fields stand among the bytes
+
+-- what follows the first `;` stands in s at its place
+abbrev Lies : Bytes → Standing → Type 0
+Lies s x = take (length x.rest) (drop x.at s) ≡ x.rest
+
+lies_in : (a c z : Bytes) (k : ℕ) → k ≤ length c → take (length (drop k c)) (drop (length a + k) (a ++ (c ++ z))) ≡ drop k c
+lies_in a c z k h = rw (drop-append-add a (c ++ z) k, drop-append-le k c z h) (take-append_seam (drop k c) z)
+
+content_first : (l z : Bytes) → l ++ z ≡ content l ++ (drop (content_size l) l ++ z)
+unfolding content
+content_first l z = ap (λ (w : Bytes). w ++ z) (sym (take-append-drop (content_size l) l)) ∙ append_assoc (take (content_size l) l) (drop (content_size l) l) z
+
+stands_lies : (a l z : Bytes) (m : ℕ) → Lies (a ++ (l ++ z)) (stands (length a) l m)
+unfolding stands rest
+stands_lies a l z m = by (ltb (until semicolon (content l)) (length (content l))) refl
+  where
+    place : length a + until semicolon (content l) + 1 ≡ length a + (until semicolon (content l) + 1)
+    place = omega arith
+
+    by : (b : Bool) → ltb (until semicolon (content l)) (length (content l)) ≡ b → Lies (a ++ (l ++ z)) (stands (length a) l m)
+    by true h = rw (place, content_first l z) (lies_in a (content l) (drop (content_size l) l ++ z) (until semicolon (content l) + 1) (omega (arith, ltb-true (until semicolon (content l)) (length (content l)) h)))
+    by false h =
+        let n : drop (until semicolon (content l) + 1) (content l) ≡ [] = rest_none (content l) (until semicolon (content l)) refl (ltb-false (until semicolon (content l)) (length (content l)) h) in
+        rw n
+
+record_lies : (q m : ℕ) (a : Bytes) (ls : List Bytes) (z : Bytes) → Lies (a ++ (joined ls ++ z)) (record_at q m (length a) ls)
+unfolding record_at joined
+record_lies q m a [] z = refl
+record_lies q m a (l ∷ ls) z = by (eqb (command (content l)) Rec) q (λ r n. record_lies r n (a ++ l) ls z)
+  where
+    shift : (a ++ l) ++ (joined ls ++ z) ≡ a ++ ((l ++ joined ls) ++ z)
+    shift = simp append_assoc
+
+    by : (b : Bool) (q : ℕ) → ((r n : ℕ) → Lies ((a ++ l) ++ (joined ls ++ z)) (record_at r n (length (a ++ l)) ls)) →
+        Lies (a ++ ((l ++ joined ls) ++ z))
+        (pick b (this_or q (stands (length a) l m) (λ r. record_at r 0 (length a + length l) ls)) (record_at q (waits m (content l)) (length a + length l) ls))
+    by true zero ih = rw (append_assoc l (joined ls) z) (stands_lies a l (joined ls ++ z) m)
+    by true (suc r) ih = rw (shift, length-append a l) at (ih r 0)
+    by false q ih = rw (shift, length-append a l) at (ih q (waits m (content l)))
+
+section_lies : (s : Bytes) (i r : ℕ) → 0 < i → i ≤ length (sections s) → Lies s (record_of (section_at s i) r)
+unfolding record_of section_at
+section_lies s i r p h =
+    let t = section_stands s (i - 1) (omega arith) in
+    let x = get_or (sections s) (i - 1) no_section in
+    let e : s ≡ joined t.before ++ (joined x.lines ++ joined t.after) =
+    sym (joined_lines s) ∙ (ap joined t.whole ∙ (joined_append t.before (x.lines ++ t.after) ∙ ap (λ (w : Bytes). joined t.before ++ w) (joined_append x.lines t.after))) in
+    let l = record_lies (r - 1) 0 (joined t.before) x.lines (joined t.after) in
+    rw (← e, ← t.place) at l
+
+-- a text's own bytes, a quote doubled, stand in its span
+span_bytes : (s : Bytes) (x : Standing) → Lies s x → (k : ℕ) → k < length (fields x.rest) → (u : Bytes) → record_text (get_or (fields x.rest) k []) ≡ some u →
+    part (moved x.at (moved (field_span x.rest k).from (own_span (get_or (fields x.rest) k [])))) s ≡ doubled u
+span_bytes s x lies k h u e =
+    let i = field_span_in x.rest k h in
+    let p = field_span_part x.rest k h in
+    let n : length (part (field_span x.rest k) x.rest) ≡ (field_span x.rest k).to - (field_span x.rest k).from =
+    part_length (field_span x.rest k).from (field_span x.rest k).to x.rest i.1 in
+    let f : Bytes = get_or (fields x.rest) k [] in
+    let t = words_there f _ (worded_some f u e) in
+    let m : length f ≡ (field_span x.rest k).to - (field_span x.rest k).from = sym (ap length p) ∙ n in
+    let sp : Span = moved (field_span x.rest k).from (own_span f) in
+    let a : part sp (take (length x.rest) (drop x.at s)) ≡ part (moved x.at sp) s =
+    part_moved sp x.at (length x.rest) s (omega (arith, t.ends)) (omega (arith, t.within)) in
+    let b : part (own_span f) (take ((field_span x.rest k).to - (field_span x.rest k).from) (drop (field_span x.rest k).from x.rest)) ≡ part sp x.rest =
+    part_moved (own_span f) (field_span x.rest k).from ((field_span x.rest k).to - (field_span x.rest k).from) x.rest (omega (arith, t.ends)) (omega (arith, t.within)) in
+    sym a ∙ (ap (part sp) lies ∙ (sym b ∙ (ap (part (own_span f)) p ∙ t.stands)))
 
 -- what a record's line holds: the record after r others of lines that denote records
 
@@ -120,7 +192,7 @@ text_read : (c : Column) (f u : Bytes) → c.text ≡ true → record_text f ≡
 unfolding field_of text_field
 text_read c f u t e h = rw (t, worded_some f u e, le-leb (length u) c.hi h)
 
-pub section_begins : (s : Bytes) (i : ℕ) → 0 < i → i ≤ length (sections s) → begins (section_at s i).lines ≡ true
+section_begins : (s : Bytes) (i : ℕ) → 0 < i → i ≤ length (sections s) → begins (section_at s i).lines ≡ true
 unfolding section_at
 section_begins s i p h = at (sections_begin s) (i - 1) (omega arith)
   where
@@ -159,9 +231,14 @@ module _ (s : Bytes) (i r f : ℕ) (g : Given s i r f) where
   starts : begins here.lines ≡ true
   starts = section_begins s i g.section.0 g.section.1
 
-  pub datum_is : datum_at i r f (model_of s) ≡ get_or (get_or (records_of (latin_of s) here.lines) (r - 1) []) (f - 1) (number 0)
-  unfolding datum_at content_of
-  datum_is = ap (λ (c : Content). get_or (get_or c.records (r - 1) []) (f - 1) (number 0)) (content_at s i g.section.0 g.section.1)
+  datum_is : datum_at i r f (model_of s) ≡ get_or (get_or (records_of (latin_of s) here.lines) (r - 1) []) (f - 1) (number 0)
+  unfolding datum_at model_of content_of section_at
+  datum_is = ap (λ (c : Content). get_or (get_or c.records (r - 1) []) (f - 1) (number 0)) (map_at (content_of (latin_of s)) (sections s) (i - 1) (omega (arith, g.section)))
+    where
+      map_at : (h : Section → Content) (xs : List Section) (k : ℕ) → k < length xs → get_or (map h xs) k (record { table = 0; records = [] }) ≡ h (get_or xs k no_section)
+      map_at h [] k l = absurd (omega arith)
+      map_at h (x ∷ xs) zero l = refl
+      map_at h (x ∷ xs) (suc k) l = map_at h xs k (omega arith)
 
   reads : Reads the_table the_order (marks_at (r - 1) [] here.lines) the_fields (get_or (records_of (latin_of s) here.lines) (r - 1) [])
   unfolding record_of
@@ -295,24 +372,9 @@ module _ (s : Bytes) (i r f room : ℕ) (x : Copied) (e : text_out s i r f room 
   pub text_handed : datum_at i r f (model_of s) ≡ words x.owner (own_text s i r f)
   text_handed = rw (← owner_told) says.datum
 
-  -- the owner is the suggestion's exactly if a mark before the record names the field
-  pub text_marked : x.owner ≡ owner_by (map (column_in (order_in (section_at s i).lines)) (marks_at (r - 1) [] (section_at s i).lines)) f
-  text_marked = sym owner_told ∙ owner_is s i r f ((value_given s i r f).0 a_text_there.0)
-
-  -- the value that `value` hands out has these bytes in its span, and this owner
-  pub text_value : (v : Value) → value_of s i r f ≡ G.Is v → StandsFor s v (words x.owner (own_text s i r f))
-  text_value v h = rw text_handed at (value_handed s i r f v h)
-
   -- and the owner is the one that `value` tells
   pub text_whose : (t : Text) × ((value_of s i r f ≡ G.Is (Va.Words t)) × (t.owner ≡ x.owner))
   unfolding value_of got
   text_whose =
       let z : eqb (value_refusal s i r f).number 0 ≡ true = eq-eqb (value_refusal s i r f).number 0 a_text_there.0 in
       (the_text s i r f ((value_given s i r f).0 a_text_there.0), (rw (z, says.value), owner_told))
-
--- the bytes that stand in the output, with the owner that is told, are the model's text
-pub text_output : (s : Bytes) (i r f : ℕ) (out : Bytes) (x : Copied) → text_out s i r f (length out) ≡ Ha.Is x →
-    datum_at i r f (model_of s) ≡ words x.owner (take x.length (text_after s i r f out))
-unfolding text_after
-text_output s i r f out x e =
-    rw (put_first (text_refusal s i r f) (own_text s i r f) out x.length (text_done s i r f out x e)) (text_handed s i r f (length out) x e)

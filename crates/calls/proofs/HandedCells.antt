@@ -6,7 +6,7 @@ use Prim.Native.Nat.{ℕ, zero, suc, ◌+◌, ◌-◌, ◌*◌, ◌<◌}
 use native.Mathlib.Nat.{zero-mul, suc-mul}
 use native.Mathlib.Omega.{arith}
 use lib.Dec.{eqb}
-use lib.ListN.{length, length-append}
+use lib.ListN.{length, drop, length-append}
 use Rattle.page.specs.Bytes.{Bytes, pick}
 use Rattle.page.specs.Lines.{content, command, Rec}
 use Rattle.page.specs.Tables.{width}
@@ -17,14 +17,13 @@ use Rattle.page.specs.Records.{waits, table_index, order_in}
 use Rattle.page.specs.Places.{Standing, stands, record_at, this_or}
 use Rattle.page.specs.Rules.{times}
 use Rattle.page.specs.Reading.{section_at, row_at, find_refusal, verdict_of, record_of, value_at}
-use Rattle.page.specs.Handing.{cell_of, record_cells, cells_in, cells_of, table_refusal, table_of}
+use Rattle.page.specs.Handing.{cell_of, record_cells, cells_in, cells_of, table_refusal, table_of, cells_after}
 use Rattle.page.specs.declared.Value.{Value}
 use Rattle.page.specs.declared.Value.TheVariants as Va
 use Rattle.page.specs.declared.Written.TheVariants as W
-use Rattle.calls.specs.Numbers.{Given}
-use Rattle.calls.specs.Handed.{row_cells, table_cells, CellAt, TableHanded}
+use Rattle.calls.specs.Handed.{row_cells, table_cells, CellAt}
 use Rattle.grammar.proofs.Own.{row_count}
-use Rattle.calls.proofs.CallNumbers.{none_exactly, verdict_open}
+use Rattle.calls.proofs.CallNumbers.{none_exactly, verdict_open, Given}
 use Rattle.calls.proofs.PromisesHanding.{table_done}
 
 -- the cells of n records that stand so
@@ -80,7 +79,7 @@ unfolding row_at
 cells_handed s i e = cells_are (section_at s i) ∙ ap (table_cells (section_at s i) 1) (sym (row_count (latin_of s) (section_at s i) e))
 
 -- and three numbers for each value
-pub cell_length : (v : Value) → length (cell_of v) ≡ 3
+cell_length : (v : Value) → length (cell_of v) ≡ 3
 unfolding cell_of
 cell_length (Va.Number n) = refl
 cell_length Va.Missing = refl
@@ -156,6 +155,10 @@ cell_stands s i r f g =
     rw (cells_handed s i g.sound) (rw (y, z) at c)
 
 -- `table`: the count that is given, and the cells that stand first in what was lent
+pub record TableHanded (s : Bytes) (i : ℕ) (cells : List ℕ) (n : ℕ) : Type 0 where
+  pub count : n ≡ (row_at s i).records * (width (table_index (section_at s i).lines) * 3)
+  pub holds : cells_after s i cells ≡ table_cells (section_at s i) 1 (row_at s i).records ++ drop n cells
+
 pub table_handed : (s : Bytes) (i : ℕ) (cells : List ℕ) (n : ℕ) → table_of s i (length cells) ≡ W.Length n → TableHanded s i cells n
 unfolding table_refusal
 table_handed s i cells n e =

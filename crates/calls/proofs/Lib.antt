@@ -6,9 +6,6 @@ pub mod Turns
 pub mod CallNumbers
 pub mod FillNumbers
 pub mod CallAnswers
-pub mod Contents
-pub mod Lies
 pub mod Handed
 pub mod HandedCells
-pub mod HandedHeader
 pub mod CallVerdicts

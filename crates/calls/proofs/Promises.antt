@@ -1,12 +1,12 @@
--- Refused calls leave what is lent to them as it was, and a file that is too long is 1 for every call. Assumes nothing.
-use mathlib.Core.Path.{◌≡◌, refl, sym}
+-- "That two answers meeting it are equal is proved": the promises settle answers and the later content of what is lent. Refused calls leave
+-- it as it was, and a file that is too long is 1 for every call. Assumes nothing.
+use mathlib.Core.Path.{◌≡◌, refl, sym, ◌∙◌}
 use mathlib.Core.Bool.{Bool, true, false, ◌||◌, false≢true}
 use mathlib.Core.List.{List, ◌++◌}
 use Prim.Native.Nat.{ℕ, ◌<◌, ◌≤◌}
 use native.Mathlib.Omega.{arith}
 use lib.Dec.{eqb, ltb}
-use lib.ListN.{length, take, drop, length-append, length-drop}
-use lib.Seq.{take-append_seam}
+use lib.ListN.{length, drop, length-append, length-drop}
 use borrow.Author.Tests.{lt-ltb, ltb-false, eqb-true}
 use Rattle.page.specs.Bytes.{Bytes, pick, unpadded}
 use Rattle.page.specs.Answers.{refusal, earlier, refuse-if, checked, headed, listed, got, written}
@@ -14,14 +14,49 @@ use Rattle.page.specs.File.{limit, too_long, header_refusal, file_refusal, check
 use Rattle.page.specs.Reading.{header_of, find_refusal, section_of, list_refusal, list_of, rows_after, value_refusal, value_of}
 use Rattle.page.specs.Writing.{put_refusal, put_of, put_after, write_form, write_of, write_after, strip_form, strip_of, strip_after, fill_refusal, fill_form, fill_of, fill_after}
 use Rattle.page.specs.declared.Refusal.{Refusal}
+use Rattle.page.specs.declared.Checked.{Checked}
 use Rattle.page.specs.declared.Checked.TheVariants as C
+use Rattle.page.specs.declared.Headed.{Headed}
 use Rattle.page.specs.declared.Headed.TheVariants as H
+use Rattle.page.specs.declared.Listed.{Listed}
 use Rattle.page.specs.declared.Listed.TheVariants as L
+use Rattle.page.specs.declared.Got.{Got}
 use Rattle.page.specs.declared.Got.TheVariants as G
+use Rattle.page.specs.declared.Written.{Written}
 use Rattle.page.specs.declared.Written.TheVariants as W
 use Rattle.page.specs.declared.Row.{Row}
-use Rattle.calls.specs.Outputs.{Done}
+use Rattle.calls.specs.Promises.{Kept, Checks, ReadsHeader, ReadsSection, ReadsValue, Lists, Writes, Strips, Fills}
 use Rattle.page.proofs.TestLaws.{neither}
+
+one_answer : {A : Type 0} {x r q : A} → r ≡ x → q ≡ x → r ≡ q
+one_answer p q = p ∙ sym q
+
+pub one_outcome : {A B : Type 0} {x r q : A} {y after later : B} → Kept x y r after → Kept x y q later → (r ≡ q) × (after ≡ later)
+one_outcome p q = (p.answers ∙ sym q.answers, p.leaves ∙ sym q.leaves)
+
+pub checks_settled : (s : Bytes) {r q : Checked} → Checks s r → Checks s q → r ≡ q
+checks_settled s p q = one_answer p q
+
+pub header_settled : (s : Bytes) {r q : Headed} → ReadsHeader s r → ReadsHeader s q → r ≡ q
+header_settled s p q = one_answer p q
+
+pub section_settled : (s : Bytes) (i : ℕ) {r q : Listed} → ReadsSection s i r → ReadsSection s i q → r ≡ q
+section_settled s i p q = one_answer p q
+
+pub value_settled : (s : Bytes) (i j f : ℕ) {r q : Got} → ReadsValue s i j f r → ReadsValue s i j f q → r ≡ q
+value_settled s i j f p q = one_answer p q
+
+pub list_settled : (s : Bytes) (rows : List Row) {after later : List Row} {r q : Checked} → Lists s rows r after → Lists s rows q later → (r ≡ q) × (after ≡ later)
+list_settled s rows p q = one_outcome p q
+
+pub write_settled : (s out : Bytes) {after later : Bytes} {r q : Written} → Writes s out r after → Writes s out q later → (r ≡ q) × (after ≡ later)
+write_settled s out p q = one_outcome p q
+
+pub strip_settled : (s out : Bytes) {after later : Bytes} {r q : Written} → Strips s out r after → Strips s out q later → (r ≡ q) × (after ≡ later)
+strip_settled s out p q = one_outcome p q
+
+pub fill_settled : (s : Bytes) (i j f : ℕ) (t out : Bytes) {after later : Bytes} {r q : Written} → Fills s i j f t out r after → Fills s i j f t out q later → (r ≡ q) × (after ≡ later)
+fill_settled s i j f t out p q = one_outcome p q
 
 -- a refused call leaves the output as it was
 
@@ -51,7 +86,15 @@ pub refused_list : (s : Bytes) (rows : List Row) → eqb (list_refusal s (length
 unfolding rows_after
 refused_list s rows e = rw e
 
--- and one that is not refused puts the form into it
+-- "On success the form's length is given, and the bytes after the form keep their values."
+pub record Done (r : Refusal) (form out : Bytes) (n : ℕ) : Type 0 where
+  pub given : n ≡ length form
+  pub accepted : r.number ≡ 0
+  pub fits : length form ≤ length out
+  pub small : length form ≤ limit
+  pub holds : put_after r form out ≡ form ++ drop (length form) out
+  pub as_long : length (put_after r form out) ≡ length out
+
 pub done_put : (r : Refusal) (form out : Bytes) (n : ℕ) → put_of r form (length out) ≡ W.Length n → Done r form out n
 unfolding put_of put_after put_refusal written earlier refuse-if
 done_put r form out n e = by (eqb r.number 0) (ltb (length out) (length form) || ltb limit (length form)) refl refl e
@@ -75,10 +118,6 @@ done_put r form out n e = by (eqb r.number 0) (ltb (length out) (length form) ||
       where
         refused_number : pick (eqb r.number 0) (W.Length (length form)) (W.Refused r) ≡ W.Length n → true ≡ false
         refused_number e = let z : W.Refused r ≡ W.Length n = rw h at e in cc
-
--- the form stands first in the output
-pub put_first : (r : Refusal) (form out : Bytes) (n : ℕ) → Done r form out n → take n (put_after r form out) ≡ form
-put_first r form out n d = rw (d.holds, d.given) (take-append_seam form (drop (length form) out))
 
 -- 1: "file over 16,777,216 bytes", for every call
 
@@ -119,8 +158,8 @@ module _ (s : Bytes) (long : limit < length s) where
   unfolding value_of value_refusal got earlier
   long_value i j f = rw (long_find i)
 
-  pub long_list : (room : ℕ) → list_of s room ≡ refusal 1 0 0
-  unfolding list_of list_refusal earlier
+  pub long_list : (room : ℕ) → list_of s room ≡ C.Refused (refusal 1 0 0)
+  unfolding list_of list_refusal checked earlier
   long_list room = rw long_header
 
   pub long_rows : (rows : List Row) → rows_after s rows ≡ rows

@@ -7,31 +7,39 @@ use Prim.Native.Nat.{ℕ, ◌-◌, ◌<◌, ◌≤◌}
 use native.Mathlib.Omega.{arith}
 use lib.Dec.{eqb, ltb}
 use lib.ListN.{length, drop, length-append, length-drop}
-use borrow.Author.Tests.{eqb-true, ltb-false}
+use borrow.Author.Tests.{eqb-true, ltb-true, ltb-false, lt-ltb}
 use Rattle.page.specs.Bytes.{Bytes, pick}
 use Rattle.page.specs.Tables.{column_at, width}
 use Rattle.page.specs.Cut.{sections}
 use Rattle.page.specs.Head.{latin_of}
 use Rattle.page.specs.Section.{outcome}
 use Rattle.page.specs.Records.{table_index}
-use Rattle.page.specs.Answers.{refusal, earlier, refuse-if, written, handed}
+use Rattle.page.specs.Answers.{refusal, earlier, refuse-if, written, paper-written, handed, paper-handed}
 use Rattle.page.specs.File.{limit, row_given, row_of, header_refusal, any}
 use Rattle.page.specs.Reading.{outside, section_at, row_at, find_refusal, verdict_of, value_refusal}
 use Rattle.page.specs.Writing.{put_refusal, put_of}
 use Rattle.page.specs.Handing.{text_refusal, own_text, text_owner, copied, text_out, text_after, cells_of, table_refusal, cells_refusal, table_of, cells_after}
 use Rattle.page.specs.Refusals.{section_numbers, header_numbers}
 use Rattle.page.specs.declared.Refusal.{Refusal}
+use Rattle.page.specs.declared.Written.{Written}
 use Rattle.page.specs.declared.Written.TheVariants as W
 use Rattle.page.specs.declared.Copied.{Copied}
+use Rattle.page.specs.declared.Handed.{Handed}
 use Rattle.page.specs.declared.Handed.TheVariants as Ha
-use Rattle.laws.proofs.Decides.{below}
-use Rattle.calls.specs.Outputs.{TooLong, Done, TableDone}
+use Rattle.calls.specs.Promises.{HandsText, HandsTable}
 use Rattle.grammar.proofs.Refuses.{verdict_ranged}
-use Rattle.calls.proofs.Promises.{refused_put, done_put, long_find}
+use Rattle.calls.proofs.Promises.{one_outcome, refused_put, Done, done_put, long_find}
 use Rattle.calls.proofs.PromisesListing.{header_told}
-use Rattle.calls.proofs.CallAnswers.{written_exactly, handed_exactly, as_written, handed_written, some_number}
-use Rattle.calls.proofs.Turns.{via}
-use Rattle.calls.proofs.PromisesRoom.{last_exactly, put_exactly, earlier_never, if_never, told_never}
+use Rattle.calls.proofs.CallAnswers.{as_written, handed_written, handed_number}
+use Rattle.calls.proofs.PromisesRoom.{TooLong, answer_number, room_exactly, earlier_never, if_never, told_never}
+
+-- two answers, and two later contents, that meet the promise are equal
+
+pub text_settled : (s : Bytes) (i j f : ℕ) (out : Bytes) {after later : Bytes} {r q : Handed} → HandsText s i j f out r after → HandsText s i j f out q later → (r ≡ q) × (after ≡ later)
+text_settled s i j f out p q = one_outcome p q
+
+pub table_settled : (s : Bytes) (i : ℕ) (cells : List ℕ) {after later : List ℕ} {r q : Written} → HandsTable s i cells r after → HandsTable s i cells q later → (r ≡ q) × (after ≡ later)
+table_settled s i cells p q = one_outcome p q
 
 -- but for its owner, a text is put into lent output as a form is
 pub text_put : (s : Bytes) (i j f room : ℕ) → as_written (text_out s i j f room) ≡ put_of (text_refusal s i j f) (own_text s i j f) room
@@ -57,6 +65,13 @@ refused_table s i cells x e = by (eqb (cells_refusal s i (length cells)).number 
 
 pub text_done : (s : Bytes) (i j f : ℕ) (out : Bytes) (x : Copied) → text_out s i j f (length out) ≡ Ha.Is x → Done (text_refusal s i j f) (own_text s i j f) out x.length
 text_done s i j f out x e = done_put (text_refusal s i j f) (own_text s i j f) out x.length (sym (text_put s i j f (length out)) ∙ ap as_written e)
+
+pub record TableDone (s : Bytes) (i : ℕ) (cells : List ℕ) (n : ℕ) : Type 0 where
+  pub given : n ≡ length (cells_of (section_at s i))
+  pub accepted : (table_refusal s i).number ≡ 0
+  pub fits : length (cells_of (section_at s i)) ≤ length cells
+  pub holds : cells_after s i cells ≡ cells_of (section_at s i) ++ drop (length (cells_of (section_at s i))) cells
+  pub as_long : length (cells_after s i cells) ≡ length cells
 
 pub table_done : (s : Bytes) (i : ℕ) (cells : List ℕ) (n : ℕ) → table_of s i (length cells) ≡ W.Length n → TableDone s i cells n
 unfolding table_of cells_after cells_refusal written earlier refuse-if
@@ -125,15 +140,28 @@ text_never s i j f =
     (if_never (not (column_at (table_index (section_at s i).lines) (f - 1)).text) 11 (λ (z : 11 ≡ 21). omega arith))
 
 -- 21: nothing else refuses, and the text is longer than the room (or than a file may be)
-pub text_room : (s : Bytes) (i j f room : ℕ) → text_out s i j f room ≡ Ha.Refused (refusal 21 0 0) ↔ (((text_refusal s i j f).number ≡ 0) × TooLong (own_text s i j f) room)
-unfolding text_out
-text_room s i j f room =
-    via (handed_exactly (put_refusal (text_refusal s i j f) (own_text s i j f) room) (refusal 21 0 0) (some_number 21 (omega arith)) (copied (own_text s i j f) (text_owner s i j f)))
-    (put_exactly (text_refusal s i j f) (text_never s i j f) (own_text s i j f) room)
+pub text_room : (s : Bytes) (i j f room : ℕ) → (paper-handed (text_out s i j f room)).number ≡ 21 ↔ (((text_refusal s i j f).number ≡ 0) × TooLong (own_text s i j f) room)
+text_room s i j f room = rw (handed_number (text_out s i j f room), text_put s i j f room) (room_exactly (text_refusal s i j f) (text_never s i j f) (own_text s i j f) room)
+
+table_number : (s : Bytes) (i room : ℕ) → (paper-written (table_of s i room)).number ≡ pick (eqb (table_refusal s i).number 0) (pick (ltb room (length (cells_of (section_at s i)))) 21 0) (table_refusal s i).number
+unfolding table_of cells_refusal earlier refuse-if
+table_number s i room = answer_number (cells_refusal s i room) (length (cells_of (section_at s i))) ∙ by (eqb (table_refusal s i).number 0) (ltb room (length (cells_of (section_at s i))))
+  where
+    by : (a b : Bool) → (pick a (refuse-if b 21) (table_refusal s i)).number ≡ pick a (pick b 21 0) (table_refusal s i).number
+    by true true = refl
+    by true false = refl
+    by false b = refl
 
 -- 21: nothing else refuses, and the values are more than the room
-pub table_room : (s : Bytes) (i room : ℕ) → table_of s i room ≡ W.Refused (refusal 21 0 0) ↔ (((table_refusal s i).number ≡ 0) × (room < length (cells_of (section_at s i))))
-unfolding table_of cells_refusal
-table_room s i room =
-    via (written_exactly (cells_refusal s i room) (refusal 21 0 0) (some_number 21 (omega arith)) (length (cells_of (section_at s i))))
-    (last_exactly (table_refusal s i) (table_never s i) (below room (length (cells_of (section_at s i)))))
+pub table_room : (s : Bytes) (i room : ℕ) → (paper-written (table_of s i room)).number ≡ 21 ↔ (((table_refusal s i).number ≡ 0) × (room < length (cells_of (section_at s i))))
+table_room s i room = (λ e. into (eqb (table_refusal s i).number 0) refl (ltb room (length (cells_of (section_at s i)))) refl (sym (table_number s i room) ∙ e), back)
+  where
+    into : (a : Bool) → eqb (table_refusal s i).number 0 ≡ a → (b : Bool) → ltb room (length (cells_of (section_at s i))) ≡ b →
+        pick (eqb (table_refusal s i).number 0) (pick (ltb room (length (cells_of (section_at s i)))) 21 0) (table_refusal s i).number ≡ 21 →
+        ((table_refusal s i).number ≡ 0) × (room < length (cells_of (section_at s i)))
+    into true x true y e = (eqb-true (table_refusal s i).number 0 x, ltb-true room (length (cells_of (section_at s i))) y)
+    into true x false y e = let z : ◌≡◌ {A = ℕ} 0 21 = rw (x, y) at e in absurd (let w : ⊥ = omega arith in w)
+    into false x b y e = let z : (table_refusal s i).number ≡ 21 = rw x at e in absurd (table_never s i z)
+
+    back : ((table_refusal s i).number ≡ 0) × (room < length (cells_of (section_at s i))) → (paper-written (table_of s i room)).number ≡ 21
+    back h = table_number s i room ∙ rw (h.0, lt-ltb room (length (cells_of (section_at s i))) h.1)

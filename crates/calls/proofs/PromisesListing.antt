@@ -6,7 +6,7 @@ use mathlib.Core.Logic.{◌⊎◌, inl, inr}
 use Prim.Native.Nat.{ℕ, suc}
 use lib.Dec.{eqb, ltb}
 use lib.ListN.{length, drop}
-use borrow.Author.Tests.{ne_eqb}
+use borrow.Author.Tests.{eqb-true, ne_eqb}
 use Rattle.page.specs.Bytes.{Bytes, pick}
 use Rattle.page.specs.Lines.{content, blank}
 use Rattle.page.specs.Cut.{Section, sections, header_lines, trailer_lines}
@@ -14,7 +14,7 @@ use Rattle.page.specs.Header.{head_of}
 use Rattle.page.specs.Head.{latin_of}
 use Rattle.page.specs.Section.{outcome}
 use Rattle.page.specs.Trailer.{eof_ok, all_blank, trailer_finding, trailer_of}
-use Rattle.page.specs.Answers.{refusal, earlier, refuse-if}
+use Rattle.page.specs.Answers.{refusal, earlier, refuse-if, checked, paper-checked}
 use Rattle.page.specs.File.{too_long, found, header_refusal, row_given, row_of, rows_of, first_unsound, any, first_again, by_primary, by_second, Filed, repeats, lost, first_record, filed_of, record_refusal, section_refusal, file_refusal}
 use Rattle.page.specs.Reading.{list_refusal, list_of, rows_after}
 use Rattle.page.specs.Refusals.{section_numbers, header_numbers, later_numbers, file_numbers, OneOf, SoundOr}
@@ -25,7 +25,6 @@ use Rattle.round.specs.RoundKeys.{again, breaks}
 use Rattle.verdicts.proofs.Headers.{header_settled}
 use Rattle.grammar.proofs.Refuses.{verdict_ranged}
 use Rattle.round.proofs.RoundKeys.{breaks_number, again_number}
-use Rattle.calls.specs.Numbers.{row_less, NoRows}
 use Rattle.laws.proofs.Earlier.{earlier_none}
 use Rattle.laws.proofs.Numbers.{other_number, apart, within}
 
@@ -119,6 +118,13 @@ file_told s = by (header_told s)
         let z : ¬ ((header_refusal s).number ≡ 0) = other_number header_numbers (header_refusal s).number 0 g refl in
         inr (rw (ne_eqb (header_refusal s).number 0 z) (within [] header_numbers later_numbers (header_refusal s).number g))
 
+-- 1, 2, 21
+abbrev pub row_less : List ℕ
+row_less = header_numbers ++ (21 ∷ [])
+
+abbrev pub NoRows : ℕ → Type 0
+NoRows n = OneOf row_less n
+
 list_told : (s : Bytes) (room : ℕ) → SoundOr row_less (list_refusal s room).number
 unfolding list_refusal refuse-if any
 list_told s room = earlier_ranged row_less (header_refusal s) (refuse-if (ltb room (length (sections s))) 21) (first (header_told s)) (second (ltb room (length (sections s))))
@@ -131,17 +137,30 @@ list_told s room = earlier_ranged row_less (header_refusal s) (refuse-if (ltb ro
     second true = inr refl
     second false = inl refl
 
+-- the paper's number of the answer
+answer_number : (r : Refusal) → (paper-checked (checked r)).number ≡ r.number
+unfolding paper-checked checked
+answer_number r = by (eqb r.number 0) refl
+  where
+    by : (b : Bool) → eqb r.number 0 ≡ b → (paper-checked (checked r)).number ≡ r.number
+    by true e = rw e (sym (eqb-true r.number 0 e))
+    by false e = rw e
+
 module _ (s : Bytes) (rows : List Row) where
   abbrev the_answer : ℕ
-  the_answer = (list_of s (length rows)).number
+  the_answer = (paper-checked (list_of s (length rows))).number
+
+  number_is : the_answer ≡ (earlier (list_refusal s (length rows)) (file_refusal s)).number
+  unfolding list_of
+  number_is = answer_number (earlier (list_refusal s (length rows)) (file_refusal s))
 
   refused_is : (n : ℕ) → (list_refusal s (length rows)).number ≡ n → ¬ (n ≡ 0) → the_answer ≡ n
-  unfolding list_of earlier
-  refused_is n e z = rw (the_answer, e, ne_eqb n 0 z)
+  unfolding earlier
+  refused_is n e z = number_is ∙ rw (e, ne_eqb n 0 z)
 
   open_is : (list_refusal s (length rows)).number ≡ 0 → the_answer ≡ (file_refusal s).number
-  unfolding list_of earlier
-  open_is e = rw (the_answer, e)
+  unfolding earlier
+  open_is e = number_is ∙ rw e
 
   open_ranged : (list_refusal s (length rows)).number ≡ 0 → SoundOr later_numbers the_answer
   unfolding list_refusal
@@ -159,7 +178,7 @@ module _ (s : Bytes) (rows : List Row) where
   never_both n (inr g) w = false≢true (sym (apart later_numbers row_less n refl g) ∙ w)
 
   -- refused by 1, 2 or 21: no row is written
-  pub rows_untouched : NoRows (list_of s (length rows)).number → rows_after s rows ≡ rows
+  pub rows_untouched : NoRows the_answer → rows_after s rows ≡ rows
   unfolding rows_after
   rows_untouched w = by (list_told s (length rows))
     where
@@ -168,7 +187,7 @@ module _ (s : Bytes) (rows : List Row) where
       by (inr n) = rw (ne_eqb (list_refusal s (length rows)).number 0 (not_zero (list_refusal s (length rows)).number n))
 
   -- any other answer: one row a section, and "spare rows keep their values"
-  pub rows_written : ¬ NoRows (list_of s (length rows)).number → rows_after s rows ≡ rows_of s ++ drop (length (sections s)) rows
+  pub rows_written : ¬ NoRows the_answer → rows_after s rows ≡ rows_of s ++ drop (length (sections s)) rows
   unfolding rows_after
   rows_written w = by (list_told s (length rows))
     where

@@ -8,12 +8,12 @@ use native.Mathlib.Omega.{arith}
 use lib.Dec.{eqb, ltb}
 use borrow.Author.Tests.{eqb-true, eqb-false, ne_eqb, ltb-true, ltb-false}
 use Rattle.page.specs.Bytes.{pick}
-use Rattle.page.specs.Answers.{refusal, earlier, refuse-if, Question, ask, first-refusal}
+use Rattle.page.specs.Answers.{refusal, earlier, refuse-if}
 use Rattle.page.specs.File.{any}
 use Rattle.page.specs.Reading.{outside}
 use Rattle.page.specs.Rules.{Every, none_left, one_more}
 use Rattle.page.specs.declared.Refusal.{Refusal}
-use Rattle.calls.specs.Turns.{Turn, now, next, Outside, Within}
+use Rattle.calls.specs.Turns.{Question, ask, first_refusal, Turn, now, next, Outside, Within}
 use Rattle.laws.proofs.Decides.{Decides, holds, fails, one_of, equal, below}
 use Rattle.page.proofs.TestLaws.{neither}
 
@@ -34,29 +34,29 @@ earlier_exactly a b x z = (into (eqb a.number 0) refl, back)
     back (inl e) = rw (ne_eqb a.number 0 (λ (w : a.number ≡ 0). z (ap (λ (r : Refusal). r.number) (sym e) ∙ w))) e
     back (inr e) = rw e.0 e.1
 
-turn_into : (v : ℕ) → ¬ (v ≡ 0) → {qs : List Question} → Numbered qs → first-refusal qs ≡ refusal v 0 0 → Turn v qs
-unfolding first-refusal refuse-if earlier
+turn_into : (v : ℕ) → ¬ (v ≡ 0) → {qs : List Question} → Numbered qs → first_refusal qs ≡ refusal v 0 0 → Turn v qs
+unfolding first_refusal refuse-if earlier
 turn_into v z none_left e = absurd (z (sym (ap (λ (r : Refusal). r.number) e)))
 turn_into v z (one_more {x = q} {xs = qs} m n) e = by q.refuses q.number m e (turn_into v z n)
   where
-    by : (b : Bool) (w : ℕ) → ¬ (w ≡ 0) → earlier (refuse-if b w) (first-refusal qs) ≡ refusal v 0 0 → (first-refusal qs ≡ refusal v 0 0 → Turn v qs) → Turn v (ask b w ∷ qs)
+    by : (b : Bool) (w : ℕ) → ¬ (w ≡ 0) → earlier (refuse-if b w) (first_refusal qs) ≡ refusal v 0 0 → (first_refusal qs ≡ refusal v 0 0 → Turn v qs) → Turn v (ask b w ∷ qs)
     by true w m e further = let k : w ≡ v = ap (λ (r : Refusal). r.number) (rw (ne_eqb w 0 m) at e) in rw k now
     by false w m e further = next (further e)
 
-turn_back : (v : ℕ) → ¬ (v ≡ 0) → {qs : List Question} → Turn v qs → first-refusal qs ≡ refusal v 0 0
-unfolding first-refusal refuse-if earlier
+turn_back : (v : ℕ) → ¬ (v ≡ 0) → {qs : List Question} → Turn v qs → first_refusal qs ≡ refusal v 0 0
+unfolding first_refusal refuse-if earlier
 turn_back v z now = rw (ne_eqb v 0 z)
 turn_back v z (next t) = turn_back v z t
 
 -- "the first of": asked one after another, questions refuse with v exactly if it is v's turn
-pub first_exactly : (v : ℕ) → ¬ (v ≡ 0) → {qs : List Question} → Numbered qs → first-refusal qs ≡ refusal v 0 0 ↔ Turn v qs
+pub first_exactly : (v : ℕ) → ¬ (v ≡ 0) → {qs : List Question} → Numbered qs → first_refusal qs ≡ refusal v 0 0 ↔ Turn v qs
 first_exactly v z n = (turn_into v z n, turn_back v z)
 
 -- after something that does not itself answer v with no place
-pub after_exactly : (a : Refusal) (v : ℕ) → ¬ (v ≡ 0) → ¬ (a ≡ refusal v 0 0) → {qs : List Question} → Numbered qs → earlier a (first-refusal qs) ≡ refusal v 0 0 ↔ ((a.number ≡ 0) × Turn v qs)
-after_exactly a v z other {qs} n = (λ e. into ((earlier_exactly a (first-refusal qs) (refusal v 0 0) z).0 e), λ h. (earlier_exactly a (first-refusal qs) (refusal v 0 0) z).1 (inr (h.0, turn_back v z h.1)))
+pub after_exactly : (a : Refusal) (v : ℕ) → ¬ (v ≡ 0) → ¬ (a ≡ refusal v 0 0) → {qs : List Question} → Numbered qs → earlier a (first_refusal qs) ≡ refusal v 0 0 ↔ ((a.number ≡ 0) × Turn v qs)
+after_exactly a v z other {qs} n = (λ e. into ((earlier_exactly a (first_refusal qs) (refusal v 0 0) z).0 e), λ h. (earlier_exactly a (first_refusal qs) (refusal v 0 0) z).1 (inr (h.0, turn_back v z h.1)))
   where
-    into : (a ≡ refusal v 0 0) ⊎ ((a.number ≡ 0) × (first-refusal qs ≡ refusal v 0 0)) → (a.number ≡ 0) × Turn v qs
+    into : (a ≡ refusal v 0 0) ⊎ ((a.number ≡ 0) × (first_refusal qs ≡ refusal v 0 0)) → (a.number ≡ 0) × Turn v qs
     into (inl e) = absurd (other e)
     into (inr e) = (e.0, turn_into v z n e.1)
 

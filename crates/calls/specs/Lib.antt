@@ -1,4 +1,3 @@
+pub mod Promises
 pub mod Turns
 pub mod Handed
-pub mod Numbers
-pub mod Outputs

@@ -8,11 +8,11 @@ use lib.ListN.{length, take, drop, length-append, length-drop}
 use lib.Seq.{drop-drop}
 use Rattle.page.specs.Bytes.{Bytes, pick}
 use Rattle.page.specs.Lines.{lines, joined}
-use Rattle.page.specs.Cut.{begins_table, begins_end, Cut, cut, flat, header_lines}
+use Rattle.page.specs.Cut.{begins_table, begins_end, Cut, cut, header_lines}
 use Rattle.page.proofs.ScanLaws.{part_length}
 use Rattle.page.proofs.PartLaws.{part_rest}
 use Rattle.page.proofs.LineLaws.{line_size, line_in, cut_at, lines_end, run_within, run_lines}
-use Rattle.page.proofs.CutLaws.{cut_whole, front_size, sections_from, sections_table, sections_trailer, sections_more, sections_skip}
+use Rattle.page.proofs.CutLaws.{flat, cut_whole, front_size, sections_from, sections_table, sections_trailer, sections_more, sections_skip}
 use Rattle.cut.specs.Walk.{section_size, section_from, next_table, Settled}
 
 -- at a place, whose line ends at e

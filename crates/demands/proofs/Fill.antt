@@ -8,7 +8,6 @@ use Rattle.page.specs.Bytes.{Bytes}
 use Rattle.page.specs.Records.{Datum, number, words}
 use Rattle.page.specs.Model.{Content, Model, change, fill_record, fill_content, fill_model, datum_at}
 use Rattle.page.specs.declared.Owner.TheVariants as O
-use Rattle.grammar.specs.Own.{no_content}
 
 module _ {A : Type 0} (f : A → A) where
   pub change_here : (xs : List A) (k : ℕ) (d : A) → k < length xs → get_or (change f k xs) k d ≡ f (get_or xs k d)
@@ -30,6 +29,9 @@ module _ {A : Type 0} (f : A → A) where
   change_length [] k = refl
   change_length (x ∷ xs) zero = refl
   change_length (x ∷ xs) (suc k) = rw (change_length xs k)
+
+abbrev pub no_content : Content
+no_content = record { table = 0; records = [] }
 
 module _ (i r f : ℕ) (t : Bytes) (m : Model) where
   abbrev table_here : Content

@@ -1,11 +1,11 @@
 -- A filled file is an accepted file that says the same with the given text, a suggestion's, at its place. Assumes nothing.
-use mathlib.Core.Path.{◌≡◌, refl, ap}
+use mathlib.Core.Path.{◌≡◌, refl, ap, sym, ◌∙◌}
 use mathlib.Core.Bool.{Bool, true, false, not, ◌&&◌, ◌||◌, false≢true}
-use mathlib.Core.List.{List, [], ◌∷◌}
+use mathlib.Core.List.{List, [], ◌∷◌, map}
 use Prim.Native.Nat.{ℕ, zero, suc, ◌-◌, ◌<◌, ◌≤◌}
 use native.Mathlib.Omega.{arith}
 use lib.Dec.{eqb, leb, ltb}
-use lib.ListN.{length, get_or}
+use lib.ListN.{length, get_or, length-map}
 use borrow.Author.Tests.{eqb-true, eqb-false, ltb-false, leb-true, not-false}
 use Rattle.page.specs.Bytes.{Bytes, all, unpadded}
 use Rattle.page.specs.Lines.{allowed}
@@ -14,26 +14,24 @@ use Rattle.page.specs.Cut.{sections}
 use Rattle.page.specs.Head.{head_values, latin_of}
 use Rattle.page.specs.Records.{Datum, words, Record, table_index}
 use Rattle.page.specs.Model.{Content, Model, content_of, model_of, change, fill_record, fill_content, fill_model, changed, kept, datum_at}
-use Rattle.page.specs.Answers.{sound, refuse-if, first-refusal}
-use Rattle.page.specs.File.{limit, file_refusal}
-use Rattle.page.specs.Reading.{outside, section_at, row_at}
+use Rattle.page.specs.Answers.{sound, refuse-if}
+use Rattle.page.specs.File.{limit, row_given, row_of, file_refusal}
+use Rattle.page.specs.Reading.{no_section, outside, section_at, row_at}
 use Rattle.page.specs.Form.{form_of}
-use Rattle.page.specs.Writing.{form_by, write_form, empty_datum, fill_place, fill_questions, fill_refusal, fill_form}
+use Rattle.page.specs.Writing.{form_by, write_form, empty_datum, fill_place, fill_refusal, fill_form}
 use Rattle.page.specs.Rules.{Every, none_left, one_more}
 use Rattle.page.specs.declared.LineEnd.{LineEnd}
 use Rattle.page.specs.declared.LineEnd.TheVariants as E
 use Rattle.page.specs.declared.Owner.TheVariants as O
-use Rattle.grammar.specs.Own.{no_content}
 use Rattle.round.specs.Round.{a_suggestion, FitAll, no_value, a_value, SoundRecord, SoundContent, SoundModel}
 use Rattle.round.specs.RoundKeys.{KeysHold}
-use Rattle.page.specs.Lexical.{Pairs, no_pair, a_pair}
-use Rattle.demands.specs.RoundAlike.{Alike, alike_none, alike_same, alike_text, AlikeContent}
+use Rattle.demands.specs.RoundAlike.{Pairs, no_pair, a_pair, Alike, alike_none, alike_same, alike_text, AlikeContent}
+use Rattle.grammar.proofs.Counts.{count_handed}
 use Rattle.round.proofs.RoundRecords.{width_back}
 use Rattle.round.proofs.RoundForm.{form_model, form_sound}
 use Rattle.demands.proofs.RoundAlike.{only_texts, settled, keys_alike, sound_alike, alike_self}
-use Rattle.calls.proofs.Contents.{tables_count, content_at, records_count}
 use Rattle.round.proofs.Round.{accepted_model, accepted_keys}
-use Rattle.demands.proofs.Fill.{fill_here, fill_other_section, fill_other_record, fill_other_field}
+use Rattle.demands.proofs.Fill.{no_content, fill_here, fill_other_section, fill_other_record, fill_other_field}
 use Rattle.page.proofs.ScanLaws.{unpadded_once}
 use Rattle.page.proofs.TestLaws.{and_left, and_right, neither}
 use Rattle.laws.proofs.Earlier.{earlier_none}
@@ -64,6 +62,11 @@ filled true b e h = h
 filled false b e h = absurd (false≢true e)
 
 -- one of a list
+
+map_at : {A B : Type 0} (f : A → B) (xs : List A) (k : ℕ) (d : A) (e : B) → k < length xs → get_or (map f xs) k e ≡ f (get_or xs k d)
+map_at f [] k d e h = absurd (omega arith)
+map_at f (x ∷ xs) zero d e h = refl
+map_at f (x ∷ xs) (suc k) d e h = map_at f xs k d e (omega arith)
 
 pub every_at : {A : Type 0} {Q : A → Type 0} {xs : List A} → Every Q xs → (k : ℕ) (d : A) → k < length xs → Q (get_or xs k d)
 every_at none_left k d h = absurd (omega arith)
@@ -158,15 +161,14 @@ module _ (s : Bytes) (i r f : ℕ) (sent : Bytes) (h : (fill_refusal s i r f (un
     small : length t ≤ 40
 
   all_open : Open
-  unfolding fill_refusal fill_questions first-refusal
+  unfolding fill_refusal
   all_open =
       let a = earlier_none (file_refusal s) _ h in
       let b = earlier_none (refuse-if (fill_place s i r f) 24) _ a.1 in
       let c = earlier_none (refuse-if (not (column_at the_table (f - 1)).fillable) 23) _ b.1 in
       let d = earlier_none (refuse-if (not (empty_datum (datum_at i r f (model_of s)))) 22) _ c.1 in
       let e = earlier_none (refuse-if (eqb (length t) 0) 11) _ d.1 in
-      let g = earlier_none (refuse-if (not (all (allowed (latin_of s)) t)) 4) _ e.1 in
-      let k = earlier_none (refuse-if (ltb 40 (length t)) 13) sound g.1 in
+      let g = earlier_none (refuse-if (not (all (allowed (latin_of s)) t)) 4) (refuse-if (ltb 40 (length t)) 13) e.1 in
       record {
         file = a.0;
         place = open_if (fill_place s i r f) 24 (λ (z : 24 ≡ 0). omega arith) b.0;
@@ -174,7 +176,7 @@ module _ (s : Bytes) (i r f : ℕ) (sent : Bytes) (h : (fill_refusal s i r f (un
         blank = not-false (empty_datum (datum_at i r f (model_of s))) (open_if (not (empty_datum (datum_at i r f (model_of s)))) 22 (λ (z : 22 ≡ 0). omega arith) d.0);
         some = some_length t (eqb-false (length t) 0 (open_if (eqb (length t) 0) 11 (λ (z : 11 ≡ 0). omega arith) e.0));
         ok = not-false (all (allowed (latin_of s)) t) (open_if (not (all (allowed (latin_of s)) t)) 4 (λ (z : 4 ≡ 0). omega arith) g.0);
-        small = ltb-false 40 (length t) (open_if (ltb 40 (length t)) 13 (λ (z : 13 ≡ 0). omega arith) k.0);
+        small = ltb-false 40 (length t) (open_if (ltb 40 (length t)) 13 (λ (z : 13 ≡ 0). omega arith) g.1);
       }
 
   places : (0 < i) × (i ≤ length (sections s)) × (0 < r) × (r ≤ (row_at s i).records) × (0 < f) × (f ≤ width the_table)
@@ -190,15 +192,28 @@ module _ (s : Bytes) (i r f : ℕ) (sent : Bytes) (h : (fill_refusal s i r f (un
   abbrev content_here : Content
   content_here = get_or (model_of s).tables (i - 1) no_content
 
+  tables_count : length (model_of s).tables ≡ length (sections s)
+  unfolding model_of
+  tables_count = length-map (sections s) (content_of (latin_of s))
+
   i_within : i - 1 < length (model_of s).tables
-  i_within = omega (arith, tables_count s, places)
+  i_within = omega (arith, tables_count, places)
+
+  content_is : content_here ≡ content_of (latin_of s) (section_at s i)
+  unfolding model_of section_at
+  content_is = map_at (content_of (latin_of s)) (sections s) (i - 1) no_section no_content (omega (arith, places))
 
   table_is : content_here.table ≡ the_table
   unfolding content_of
-  table_is = ap (λ (c : Content). c.table) (content_at s i places.0 places.1)
+  table_is = ap (λ (c : Content). c.table) content_is
+
+  -- as many records as the row says
+  records_are : length content_here.records ≡ (row_at s i).records
+  unfolding content_of row_at row_of row_given
+  records_are = ap (λ (c : Content). length c.records) content_is ∙ sym (count_handed (latin_of s) (section_at s i).lines)
 
   r_within : r ≤ length content_here.records
-  r_within = omega (arith, records_count s i places.0 places.1, places)
+  r_within = omega (arith, records_are, places)
 
   latin_is : (model_of s).head.latin ≡ latin_of s
   unfolding model_of head_values latin_of
@@ -252,8 +267,8 @@ module _ (s : Bytes) (i r f : ℕ) (sent : Bytes) (h : (fill_refusal s i r f (un
   pub fill_field : 0 < f
   fill_field = places.4
 
-  pub fill_put : datum_at i r f (fill_model i r f (unpadded sent) (model_of s)) ≡ words O.Suggestion (unpadded sent)
-  fill_put = fill_here i r f t (model_of s) places.0 (omega (arith, tables_count s, places)) places.2 r_within places.4 f_within
+  pub fill_put : datum_at i r f filled_model ≡ words O.Suggestion t
+  fill_put = fill_here i r f t (model_of s) places.0 (omega (arith, tables_count, places)) places.2 r_within places.4 f_within
 
   -- however the lines end
   module _ (ends : LineEnd) (short : length (form_of ends filled_model) ≤ limit) where
@@ -264,32 +279,32 @@ module _ (s : Bytes) (i r f : ℕ) (sent : Bytes) (h : (fill_refusal s i r f (un
     any_fill_model = form_model ends filled_model filled_sound short
 
   module _ (short : length (fill_form s i r f t) ≤ limit) where
-    pub fill_accepted : file_refusal (fill_form s i r f (unpadded sent)) ≡ sound
+    pub fill_accepted : file_refusal (fill_form s i r f t) ≡ sound
     unfolding fill_form form_by changed kept
     fill_accepted = any_fill_accepted E.Lf short
 
-    pub fill_model_back : model_of (fill_form s i r f (unpadded sent)) ≡ fill_model i r f (unpadded sent) (model_of s)
+    pub fill_model_back : model_of (fill_form s i r f t) ≡ fill_model i r f t (model_of s)
     unfolding fill_form form_by changed kept
     fill_model_back = any_fill_model E.Lf short
 
     -- read again, the field holds the given text, and a mark stands before its record
-    pub fill_read : datum_at i r f (model_of (fill_form s i r f (unpadded sent))) ≡ words O.Suggestion (unpadded sent)
+    pub fill_read : datum_at i r f (model_of (fill_form s i r f t)) ≡ words O.Suggestion t
     fill_read = rw fill_model_back fill_put
 
-    pub fill_written : write_form (fill_form s i r f (unpadded sent)) ≡ fill_form s i r f (unpadded sent)
+    pub fill_written : write_form (fill_form s i r f t) ≡ fill_form s i r f t
     unfolding fill_form write_form form_by changed kept
     fill_written = ap (form_of E.Lf) fill_model_back
 
     -- and every other value is as it was
-    pub fill_else : (j q g : ℕ) → 0 < j → 0 < q → 0 < g → ¬ ((j ≡ i) × (q ≡ r) × (g ≡ f)) → datum_at j q g (model_of (fill_form s i r f (unpadded sent))) ≡ datum_at j q g (model_of s)
+    pub fill_else : (j q g : ℕ) → 0 < j → 0 < q → 0 < g → ¬ ((j ≡ i) × (q ≡ r) × (g ≡ f)) → datum_at j q g (model_of (fill_form s i r f t)) ≡ datum_at j q g (model_of s)
     fill_else j q g a b c n = rw fill_model_back (by (eqb j i) (eqb q r) (eqb g f) refl refl refl)
       where
         by : (x y z : Bool) → eqb j i ≡ x → eqb q r ≡ y → eqb g f ≡ z → datum_at j q g (fill_model i r f t (model_of s)) ≡ datum_at j q g (model_of s)
         by false y z d e k = fill_other_section i r f t (model_of s) j q g places.0 a (eqb-false j i d)
         by true false z d e k =
             rw (eqb-true j i d)
-            (fill_other_record i r f t (model_of s) q g places.0 (omega (arith, tables_count s, places)) places.2 b (eqb-false q r e))
+            (fill_other_record i r f t (model_of s) q g places.0 (omega (arith, tables_count, places)) places.2 b (eqb-false q r e))
         by true true false d e k =
             rw (eqb-true j i d, eqb-true q r e)
-            (fill_other_field i r f t (model_of s) g places.0 (omega (arith, tables_count s, places)) places.2 r_within places.4 c (eqb-false g f k))
+            (fill_other_field i r f t (model_of s) g places.0 (omega (arith, tables_count, places)) places.2 r_within places.4 c (eqb-false g f k))
         by true true true d e k = absurd (n (eqb-true j i d, eqb-true q r e, eqb-true g f k))

@@ -7,6 +7,7 @@ use Prim.Native.Nat.{ℕ, zero, suc, ◌-◌, ◌<◌, ◌≤◌}
 use native.Mathlib.Omega.{arith}
 use lib.ListN.{length, get_or, length-map}
 use Rattle.page.specs.Bytes.{Bytes}
+use Rattle.page.specs.Lines.{lines}
 use Rattle.page.specs.Records.{number, missing, Record}
 use Rattle.page.specs.Model.{Content, Model, model_of, changed, kept, datum_at}
 use Rattle.page.specs.File.{limit, file_refusal}
@@ -22,9 +23,8 @@ use Rattle.round.proofs.RoundHeader.{head_lines}
 use Rattle.round.proofs.RoundCut.{tables_lines, form_lines, lines_form}
 use Rattle.round.proofs.RoundForm.{form_model}
 use Rattle.round.proofs.Round.{accepted_model}
-use Rattle.grammar.specs.Own.{no_content}
-use Rattle.demands.specs.MissingNumbers.{MissingWritten}
 use Rattle.demands.specs.WrittenMarks.{rec_line, record_at}
+use Rattle.demands.proofs.Fill.{no_content}
 use Rattle.demands.proofs.FillBack.{every_at}
 
 -- what is no default stands in the list
@@ -66,6 +66,15 @@ module _ (ends : LineEnd) where
 line_fields : (ends : LineEnd) (latin : Bool) (t : ℕ) (vs : Record) → SoundRecord latin t vs → 0 < length vs → fields_of (rec_line ends vs) ≡ map datum_text vs
 line_fields ends latin t [] r h = absurd (omega arith)
 line_fields ends latin t (v ∷ vs) r h = (rec_seen ends latin t v vs r).split
+
+-- field f of record r of table i of what is written, all from 1: the record's line stands in the form, its field f is there and empty, and
+-- read back it is missing, and no number
+pub record MissingWritten (form : Bytes) (ends : LineEnd) (m : Model) (i r f : ℕ) : Type 0 where
+  pub stands : Memᴰ (rec_line ends (record_at i r m)) (lines form)
+  pub within : f - 1 < length (fields_of (rec_line ends (record_at i r m)))
+  pub empty : get_or (fields_of (rec_line ends (record_at i r m))) (f - 1) [] ≡ []
+  pub again : datum_at i r f (model_of form) ≡ missing
+  pub no_number : (n : ℕ) → ¬ (datum_at i r f (model_of form) ≡ number n)
 
 -- however the lines end
 module _ (ends : LineEnd) (m : Model) (s : SoundModel m) (short : length (form_of ends m) ≤ limit) (i r f : ℕ) (e : datum_at i r f m ≡ missing) where

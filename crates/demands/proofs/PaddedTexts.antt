@@ -1,19 +1,94 @@
--- No text of an accepted file, so none that is written of it, ends in a space. Assumes nothing.
-use mathlib.Core.Path.{◌≡◌}
-use mathlib.Core.Bool.{Bool}
-use mathlib.Core.List.{List, []}
+-- A record's text is exactly what stands before the spaces at its end, and none of an accepted file, so none that is written of it, ends in
+-- one. Assumes nothing.
+use mathlib.Core.Path.{◌≡◌, refl, ap, sym, ◌∙◌}
+use mathlib.Core.Bool.{Bool, true, false}
+use mathlib.Core.List.{List, [], ◌∷◌, ◌++◌, append_assoc, append-nil}
+use mathlib.Core.Option.{some}
+use mathlib.Core.Logic.{◌↔◌}
 use Prim.Native.Nat.{ℕ, zero, suc, ◌-◌}
-use lib.ListN.{get_or}
-use Rattle.page.specs.Bytes.{Bytes, unpadded}
+use native.Mathlib.Omega.{arith}
+use borrow.Author.Tests.{eq-eqb, ne_eqb, eqb-true}
+use lib.Dec.{eqb}
+use lib.ListN.{length, get_or, take}
+use lib.Seq.{take_all, take-append_seam, length-take-le}
+use Rattle.page.specs.Bytes.{Bytes, keep, kept_after, space, unpadded}
 use Rattle.page.specs.Tables.{Named}
+use Rattle.page.specs.Section.{record_text}
 use Rattle.page.specs.Records.{Datum, number, missing, words, Record}
 use Rattle.page.specs.File.{file_refusal}
 use Rattle.page.specs.Model.{Content, model_of, datum_at}
+use Rattle.page.specs.Form.{quoted}
 use Rattle.page.specs.Rules.{Every, none_left, one_more}
 use Rattle.page.specs.declared.Column.{Column}
 use Rattle.page.specs.declared.Owner.{Owner}
+use Rattle.page.proofs.ScanLaws.{keep_le, keep_on, keep_snoc, keep_stop, unpadded_length}
+use Rattle.page.proofs.TextLaws.{text_quoted, quoted_text, record_text_is, padded_of, record_trimmed}
 use Rattle.round.specs.Round.{Fits, a_number, no_number, a_text, a_suggestion, FitAll, no_value, a_value, SoundRecord, SoundContent}
 use Rattle.round.proofs.Round.{accepted_model}
+use Rattle.demands.specs.Lexical.{blanks, PaddedText}
+
+-- what is left of a text, and its spaces
+unpadded_blanks : (w : Bytes) → w ≡ unpadded w ++ blanks (length w - keep space w)
+unfolding unpadded keep blanks
+unpadded_blanks [] = refl
+unpadded_blanks (b ∷ w) = by (eqb b 32) refl (keep space w) (unpadded_blanks w)
+  where
+    by : (d : Bool) → eqb b 32 ≡ d → (n : ℕ) → w ≡ take n w ++ blanks (length w - n) → b ∷ w ≡ take (kept_after d n) (b ∷ w) ++ blanks (suc (length w) - kept_after d n)
+    by true e zero h =
+        let z : suc (length w) - 0 ≡ suc (length w) = omega arith in
+        let y : length w - 0 ≡ length w = omega arith in
+        let x : w ≡ blanks (length w) = rw y at h in
+        rw (z, eqb-true b 32 e) (ap (λ (l : Bytes). 32 ∷ l) x)
+    by true e (suc n) h =
+        let z : suc (length w) - suc (suc n) ≡ length w - suc n = omega arith in
+        rw z (ap (λ (l : Bytes). b ∷ l) h)
+    by false e n h =
+        let z : suc (length w) - suc n ≡ length w - n = omega arith in
+        rw z (ap (λ (l : Bytes). b ∷ l) h)
+
+-- spaces behind a text are not kept
+keep_blanks : (t : Bytes) (n : ℕ) → keep space (t ++ blanks n) ≡ keep space t
+unfolding blanks
+keep_blanks t zero = ap (keep space) (append-nil t)
+keep_blanks t (suc n) = ap (keep space) (sym (append_assoc t (32 ∷ []) (blanks n))) ∙ (keep_blanks (t ++ 32 ∷ []) n ∙ keep_snoc space t 32)
+
+abbrev Bare : Bytes → Type 0
+Bare t = ¬ (get_or t (length t - 1) 0 ≡ 32)
+
+bare_kept : (t : Bytes) → Bare t → keep space t ≡ length t
+unfolding keep
+bare_kept [] n = refl
+bare_kept (b ∷ t) n =
+    let l : Bytes = b ∷ t in
+    ap (keep space) (sym (take_all (length l) l (omega arith)))
+    ∙ keep_stop space l (length l) (omega arith) (omega arith) (ne_eqb (get_or l (length l - 1) 0) 32 n)
+
+kept_bare : (t : Bytes) → unpadded t ≡ t → Bare t
+kept_bare [] e q = omega arith
+kept_bare (b ∷ t) e q =
+    let l : Bytes = b ∷ t in
+    let k : keep space (take (length l) l) ≡ keep space (take (length l - 1) l) =
+    keep_on space l (length l) (omega arith) (omega arith) (eq-eqb (get_or l (length l - 1) 0) 32 q) in
+    let w : take (length l) l ≡ l = take_all (length l) l (omega arith) in
+    omega (arith, ap (keep space) w, unpadded_length l, ap length e, keep_le space (take (length l - 1) l), length-take-le (length l - 1) l (omega arith))
+
+pub padded_exactly : (f t : Bytes) → record_text f ≡ some t ↔ PaddedText f t
+unfolding unpadded
+padded_exactly f t = (there, back)
+  where
+    there : record_text f ≡ some t → PaddedText f t
+    there e =
+        let x = padded_of f t e in
+        record {
+          spaces = length x.whole - keep space x.whole;
+          whole = text_quoted f x.whole x.is ∙ ap quoted (unpadded_blanks x.whole ∙ ap (λ (u : Bytes). u ++ blanks (length x.whole - keep space x.whole)) (sym x.own));
+          bare = kept_bare t (record_trimmed f t e);
+        }
+
+    back : PaddedText f t → record_text f ≡ some t
+    back p =
+        let k : keep space (t ++ blanks p.spaces) ≡ length t = keep_blanks t p.spaces ∙ bare_kept t p.bare in
+        rw (p.whole, record_text_is (quoted (t ++ blanks p.spaces)), quoted_text (t ++ blanks p.spaces), k, take-append_seam t (blanks p.spaces))
 
 -- a value that may be said
 abbrev Trimmed : Datum → Type 0

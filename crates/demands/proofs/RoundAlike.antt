@@ -14,8 +14,7 @@ use Rattle.page.specs.Grammar.{OwnFeeder, ForeignFeeder, Breaks, same_points, ne
 use Rattle.page.specs.declared.Column.{Column}
 use Rattle.round.specs.Round.{FitAll, no_value, a_value, SoundRecord}
 use Rattle.round.specs.RoundKeys.{breaks, placeless, filed_content, KeysHold}
-use Rattle.page.specs.Lexical.{Pairs, no_pair, a_pair}
-use Rattle.demands.specs.RoundAlike.{Alike, alike_none, alike_same, alike_text, AlikeContent}
+use Rattle.demands.specs.RoundAlike.{Pairs, no_pair, a_pair, Alike, alike_none, alike_same, alike_text, AlikeContent}
 use Rattle.page.proofs.TestLaws.{and_left, and_right}
 use Rattle.page.proofs.TableLaws.{each, table_test, column_test, Four, points_there, Fed, feeder_there}
 

@@ -14,7 +14,7 @@ use Rattle.page.specs.Bytes.{Bytes, bytes, pick, all}
 use Rattle.page.specs.Lines.{allowed, Frm, Rec}
 use Rattle.page.specs.Tables.{Rule, points_differ, feeder_combined, TABLES, columns, column_at, rules, width}
 use Rattle.page.specs.Order.{Order, upto, arranged, standing, place, by_column, column_in}
-use Rattle.page.specs.Section.{format_ok, formats_ok, frm_step, no_bytes, record_text, first_wrong, first_broken, empty_marked, rec_verdict, rec_step, line_step, content_step, step}
+use Rattle.page.specs.Section.{choose, format_ok, formats_ok, frm_step, no_bytes, record_text, first_wrong, first_broken, empty_marked, rec_verdict, rec_step, line_step, content_step, step}
 use Rattle.page.specs.File.{any}
 use Rattle.page.specs.Form.{separated, line, decimal, quoted, format_text}
 use Rattle.page.specs.Open.{open_all}
@@ -103,7 +103,7 @@ formats_right t h [] b = refl
 formats_right t h (c ∷ o) b = rw (formed t c h (b 0 (omega arith))).right (formats_right t h o (λ p k. b (suc p) (omega arith)))
 
 pub formats_step : (latin : Bool) (t : ℕ) (o : Order) → t < TABLES → arranged (width t) o ≡ true → step latin (P.Frm t) o (formats_line t o) ≡ S.Go (P.Rows t 0 0)
-unfolding step content_step line_step frm_step formats_line
+unfolding step content_step choose line_step frm_step formats_line
 formats_step latin t [] h a = absurd (none_arranged t h a)
 formats_step latin t (c ∷ o) h a =
     let b = arranged_below (width t) (c ∷ o) a in
@@ -203,7 +203,7 @@ sample_verdict t o h a m =
 
 -- it is taken whatever mark waits
 pub sample_step : (latin : Bool) (t : ℕ) (o : Order) (m n : ℕ) → t < TABLES → arranged (width t) o ≡ true → step latin (P.Rows t m n) o (sample_line t o) ≡ S.Go (P.Rows t 0 (suc n))
-unfolding step content_step line_step rec_step sample_line
+unfolding step content_step choose line_step rec_step sample_line
 sample_step latin t [] m n h a = absurd (none_arranged t h a)
 sample_step latin t (c ∷ o) m n h a =
     let b = arranged_below (width t) (c ∷ o) a in

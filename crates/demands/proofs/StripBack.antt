@@ -18,8 +18,7 @@ use Rattle.page.specs.declared.LineEnd.{LineEnd}
 use Rattle.page.specs.declared.LineEnd.TheVariants as E
 use Rattle.round.specs.Round.{a_number, no_number, a_text, a_suggestion, FitAll, no_value, a_value, SoundRecord, SoundContent, SoundModel}
 use Rattle.round.specs.RoundKeys.{KeysHold}
-use Rattle.page.specs.Lexical.{Pairs, no_pair, a_pair}
-use Rattle.demands.specs.RoundAlike.{Alike, alike_none, alike_same, alike_text, AlikeContent}
+use Rattle.demands.specs.RoundAlike.{Pairs, no_pair, a_pair, Alike, alike_none, alike_same, alike_text, AlikeContent}
 use Rattle.round.proofs.RoundForm.{form_model, form_sound}
 use Rattle.demands.proofs.RoundAlike.{keys_alike, sound_alike}
 use Rattle.round.proofs.Round.{accepted_model, accepted_keys}

@@ -24,7 +24,7 @@ use Rattle.page.specs.declared.Step.TheVariants as S
 use Rattle.page.specs.declared.Outcome.{Outcome}
 use Rattle.page.proofs.OrderLaws.{listed_arranged}
 use Rattle.demands.specs.Viable.{Viable, SectionPlace, breaks, lacks}
-use Rattle.grammar.specs.Ordered.{Ordered}
+use Rattle.grammar.proofs.Arranged.{Ordered}
 use Rattle.grammar.proofs.Ranged.{laws_some}
 use Rattle.grammar.proofs.Steps.{go_exactly, stop_exactly, leads_go, leads_order, ordered_on}
 use Rattle.grammar.proofs.Accepts.{denotes_accepted, accepted_denotes}

@@ -269,17 +269,17 @@ module _ (s : Bytes) (i r f : ℕ) (sent : Bytes) (ok : (fill_refusal s i r f (u
   abbrev t : Bytes
   t = unpadded sent
 
-  pub fill_mark : Directly (lines (fill_form s i r f (unpadded sent))) (mark_line E.Lf f) (rec_line E.Lf (record_at i r (fill_model i r f (unpadded sent) (model_of s))))
+  pub fill_mark : Directly (lines (fill_form s i r f t)) (mark_line E.Lf f) (rec_line E.Lf (record_at i r (fill_model i r f t (model_of s))))
   unfolding fill_form form_by changed kept
   fill_mark = mark_stands E.Lf (fill_model i r f t (model_of s)) (filled_sound s i r f sent ok) i r f t (fill_field s i r f sent ok) (fill_put s i r f sent ok)
 
-  pub fill_marks : (j q g : ℕ) (u : Bytes) → 0 < g → datum_at j q g (fill_model i r f (unpadded sent) (model_of s)) ≡ words O.Suggestion u →
-      Directly (lines (fill_form s i r f (unpadded sent))) (mark_line E.Lf g) (rec_line E.Lf (record_at j q (fill_model i r f (unpadded sent) (model_of s))))
+  pub fill_marks : (j q g : ℕ) (u : Bytes) → 0 < g → datum_at j q g (fill_model i r f t (model_of s)) ≡ words O.Suggestion u →
+      Directly (lines (fill_form s i r f t)) (mark_line E.Lf g) (rec_line E.Lf (record_at j q (fill_model i r f t (model_of s))))
   unfolding fill_form form_by changed kept
   fill_marks j q g u p e = mark_stands E.Lf (fill_model i r f t (model_of s)) (filled_sound s i r f sent ok) j q g u p e
 
-  pub fill_only_marks : (before after : List Bytes) (x : Bytes) → lines (fill_form s i r f (unpadded sent)) ≡ before ++ (x ∷ after) → command (content x) ≡ Com →
-      Behind (MarkAndRecord E.Lf (fill_model i r f (unpadded sent) (model_of s))) x after
+  pub fill_only_marks : (before after : List Bytes) (x : Bytes) → lines (fill_form s i r f t) ≡ before ++ (x ∷ after) → command (content x) ≡ Com →
+      Behind (MarkAndRecord E.Lf (fill_model i r f t (model_of s))) x after
   unfolding fill_form form_by changed kept
   fill_only_marks before after x e k = only_marks E.Lf (fill_model i r f t (model_of s)) (filled_sound s i r f sent ok) before after x e k
 

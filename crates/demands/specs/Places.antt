@@ -18,7 +18,7 @@ pub record EntryStands (latin : Bool) (t : ℕ) (o : Order) (n : ℕ) (ls : List
   pub marks : List ℕ
   pub reads : RecLine latin t o marks e.values line
 
--- a record of a file, by its section, from 1, and its line there
+-- a record of a file: "A place is section (from 1) and line"
 pub record FiledStands (s : Bytes) (e : Filed) : Type 0 where
   pub before : List Section
   pub after : List Section

@@ -3,7 +3,11 @@ use Rattle.std.specs.Prelude.{◌≡◌, true, List, [], ◌∷◌}
 use Rattle.page.specs.Tables.{Named, columns}
 use Rattle.page.specs.Records.{Datum, Record}
 use Rattle.page.specs.Model.{Content}
-use Rattle.page.specs.Lexical.{Pairs}
+
+-- one by one
+pub data Pairs {A : Type 0} (R : A → A → Type 0) : List A → List A → Type 0 where
+  no_pair : Pairs R [] []
+  a_pair : {x y : A} {xs ys : List A} → R x y → Pairs R xs ys → Pairs R (x ∷ xs) (y ∷ ys)
 
 -- two records that agree but in columns that may be marked
 pub data Alike : List Named → Record → Record → Type 0 where

@@ -1,4 +1,4 @@
--- Where the marks of a written file stand.
+-- "marks stand directly before their record": where the marks of a written file stand.
 use Rattle.std.specs.Prelude.{◌≡◌, ℕ, ◌-◌, ◌<◌, get_or}
 use mathlib.Core.List.{List, [], ◌∷◌, ◌++◌, map, Memᴰ}
 use Rattle.page.specs.Bytes.{Bytes}

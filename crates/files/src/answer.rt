@@ -1,8 +1,7 @@
 // "The file gives the first of 1, 2, 3, the first unsound section in file order, 17, 18, 19, 20."
 ghost use Rattle.std.specs.Prelude.{◌≡◌, true};
 ghost use Rattle.page.specs.Answers.{sound};
-ghost use Rattle.page.specs.File.{filed_of, rows_of, first_unsound, record_refusal, section_refusal};
-ghost use Rattle.page.specs.Promises.{Checks, ChecksFile};
+ghost use Rattle.page.specs.File.{filed_of, rows_of, first_unsound, record_refusal, section_refusal, file_refusal, check_of};
 ghost use Rattle.seats.specs.Seating.{Ready};
 
 use crate::unsound::first_unsound;
@@ -66,7 +65,7 @@ fn check_sections(s: &[u8], known: bool) -> Refusal
 // The file's answer for whoever has read its sections.
 pub fn check_known(s: &[u8], known: bool) -> Refusal
     requires { known ≡ true → first_unsound 1 (rows_of s.now) ≡ sound }
-    ensures { ChecksFile s.now result }
+    ensures { result ≡ file_refusal s.now }
 {
     let header = headers::refuse_header(s);
     if header.number != 0 {
@@ -86,13 +85,13 @@ pub fn check_known(s: &[u8], known: bool) -> Refusal
 }
 
 pub fn check_file(s: &[u8]) -> Refusal
-    ensures { ChecksFile s.now result }
+    ensures { result ≡ file_refusal s.now }
 {
     check_known(s, false)
 }
 
 pub fn check(s: &[u8]) -> Checked
-    ensures { Checks s.now result }
+    ensures { result ≡ check_of s.now }
 {
     let r = check_file(s);
     if r.number == 0 {

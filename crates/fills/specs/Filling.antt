@@ -11,7 +11,7 @@ empty_value (Va.Number n) = false
 empty_value Va.Missing = false
 empty_value (Va.Words x) = eqb x.from x.to
 
--- the part of a fill's order that asks of the text alone: 11, 4, 13
+-- "text empty 11, text byte not allowed in a `rec` 4, over 40 bytes 13"
 unfoldable pub text_number : Bool → Bytes → ℕ
 text_number latin t = pick (eqb (length t) 0) 11 (pick (all (allowed latin) t) (pick (ltb 40 (length t)) 13 0) 4)
 

@@ -15,11 +15,11 @@ use Rattle.page.specs.Cut.{sections}
 use Rattle.page.specs.Head.{latin_of}
 use Rattle.page.specs.Records.{Datum, table_index}
 use Rattle.page.specs.Model.{model_of, datum_at}
-use Rattle.page.specs.Answers.{refusal, sound, earlier, refuse-if, first-refusal}
+use Rattle.page.specs.Answers.{refusal, earlier, refuse-if}
 use Rattle.page.specs.File.{header_refusal, row_given, row_of, file_refusal}
 use Rattle.page.specs.Form.{doubled}
 use Rattle.page.specs.Reading.{no_section, outside, section_at, row_at, find_refusal, verdict_of, value_refusal, value_at}
-use Rattle.page.specs.Writing.{empty_datum, fill_place, fill_questions, fill_refusal}
+use Rattle.page.specs.Writing.{empty_datum, fill_place, fill_refusal}
 use Rattle.page.specs.declared.Refusal.{Refusal}
 use Rattle.page.specs.declared.Value.{Value}
 use Rattle.page.proofs.ScanLaws.{part_length}
@@ -77,7 +77,7 @@ past a b e = rw e
 
 -- the questions after the place's, one after another
 asked : (c e n a l : Bool) → refusal (pick c (pick e (pick n 11 (pick a (pick l 13 0) 4)) 22) 23) 0 0
-    ≡ earlier (refuse-if (not c) 23) (earlier (refuse-if (not e) 22) (earlier (refuse-if n 11) (earlier (refuse-if (not a) 4) (earlier (refuse-if l 13) sound))))
+    ≡ earlier (refuse-if (not c) 23) (earlier (refuse-if (not e) 22) (earlier (refuse-if n 11) (earlier (refuse-if (not a) 4) (refuse-if l 13))))
 unfolding earlier refuse-if
 asked false e n a l = refl
 asked true false n a l = refl
@@ -117,7 +117,7 @@ module _ (s : Bytes) (i r f : ℕ) (t : Bytes) where
         by false e = rw (find_is, e, row_sound e)
 
     pub fill_nowhere : (x : Refusal) → x ≡ value_refusal s i r f → (x.number ≡ 0 → ⊥) → x ≡ fill_refusal s i r f t
-    unfolding fill_refusal fill_questions first-refusal earlier refuse-if
+    unfolding fill_refusal earlier refuse-if
     fill_nowhere x e n = by (fill_place s i r f) refl
       where
         by : (b : Bool) → fill_place s i r f ≡ b → x ≡ fill_refusal s i r f t
@@ -126,7 +126,7 @@ module _ (s : Bytes) (i r f : ℕ) (t : Bytes) where
 
     pub fill_there : (value_refusal s i r f).number ≡ 0 → (v : Value) → v ≡ value_at (section_at s i) r f → (k : ℕ)
         → k ≡ fill_number (column_at (table_index (section_at s i).lines) (f - 1)).fillable (empty_value v) (latin_of s) t → refusal k 0 0 ≡ fill_refusal s i r f t
-    unfolding fill_refusal fill_questions first-refusal fill_number text_number
+    unfolding fill_refusal fill_number text_number
     fill_there found v e k q =
         let c = (column_at (table_index (section_at s i).lines) (f - 1)).fillable in
         let d = empty_datum (datum_at i r f (model_of s)) in

@@ -1,21 +1,22 @@
 // Writing, stripping and filling into lent output, whole or not at all.
-ghost use Rattle.std.specs.Prelude.{◌≡◌};
-ghost use Rattle.page.specs.Writing.{fill_refusal};
-ghost use Rattle.page.specs.Promises.{Writes, Strips, Fills};
+ghost use Rattle.std.specs.Prelude.{◌≡◌, length};
+ghost use Rattle.page.specs.Writing.{write_of, write_after, strip_of, strip_after, fill_refusal, fill_of, fill_after};
 
 use fills::judge_fill;
 use page::{Got, Refusal, Written};
 use writing::{fill_checked, strip_checked, write_checked};
 
 pub fn write(s: &[u8], out: &mut [u8]) -> Written
-    ensures { Writes s.now out.old result out.new }
+    ensures { (result ≡ write_of s.now (length out.old))
+        × (out.new ≡ write_after s.now out.old) }
 {
     let refusal = files::check_file(s);
     write_checked(s, refusal, out)
 }
 
 pub fn strip(s: &[u8], out: &mut [u8]) -> Written
-    ensures { Strips s.now out.old result out.new }
+    ensures { (result ≡ strip_of s.now (length out.old))
+        × (out.new ≡ strip_after s.now out.old) }
 {
     let refusal = files::check_file(s);
     strip_checked(s, refusal, out)
@@ -49,7 +50,8 @@ pub fn fill(
     text: &[u8],
     out: &mut [u8],
 ) -> Written
-    ensures { Fills s.now section «record» field text.now out.old result out.new }
+    ensures { (result ≡ fill_of s.now section «record» field text.now (length out.old))
+        × (out.new ≡ fill_after s.now section «record» field text.now out.old) }
 {
     let own = lines::unpadded(text);
     let refusal = refuse_fill(s, section, record, field, own);

@@ -1,13 +1,15 @@
 -- Laws of the written lines: what they are made of, and how long they are at most. Assumes nothing.
-use mathlib.Core.Path.{◌≡◌, refl}
+use mathlib.Core.Path.{◌≡◌, refl, ap, ◌∙◌}
 use mathlib.Core.Bool.{Bool, true, false}
 use mathlib.Core.List.{List, [], ◌∷◌, ◌++◌, append-nil, append_assoc}
+use mathlib.Core.Option.{Option, none, some}
 use Prim.Native.Nat.{ℕ, ◌+◌, ◌*◌, ◌≤◌}
 use Prim.Native.String.{String}
 use native.Mathlib.Omega.{arith}
 use lib.ListN.{length, length-append}
 use Rattle.page.specs.Bytes.{Bytes, bytes, part}
-use Rattle.page.specs.Form.{line_end, separated, line, decimal, doubled, quoted, date_text, time_text, charset_name, mark_line}
+use Rattle.page.specs.Head.{Head}
+use Rattle.page.specs.Form.{line_end, separated, line, decimal, doubled, quoted, date_text, time_text, charset_name, line_if, head_form, mark_line}
 use Rattle.page.specs.declared.LineEnd.{LineEnd}
 use Rattle.page.specs.declared.Span.{Span}
 use Rattle.page.specs.declared.Date.{Date}
@@ -137,6 +139,46 @@ head_raw_length ends s h =
     (omega
     (arith, mod_length ends, src_length ends s h.source h.date h.time, chs_length ends h.latin, text_line_length ends (bytes "ver") s h.ver, text_line_length ends (bytes "ifv") s h.ifv, stated_length ends (bytes "dve") s h.dve, stated_length ends (bytes "fft") s h.fft))
 
+-- copying a text as it stands is writing it
+
+pub raw_quoted : (t : Bytes) → raw_text (doubled t) ≡ quoted t
+unfolding raw_text quoted
+raw_quoted t = refl
+
+-- A header by places says what a header by values says, where each text's bytes in the file are the text with its quotes doubled.
+pub data Same_stated (s : Bytes) : Stated → Option Bytes → Type 0 where
+  absent : Same_stated s St.Absent none
+  at : (place : Span) (t : Bytes) → part place s ≡ doubled t → Same_stated s (St.At place) (some t)
+
+pub record Same_head (s : Bytes) (x : Header) (h : Head) : Type 0 where
+  pub source : part x.source s ≡ doubled h.source
+  pub date : x.date ≡ h.date
+  pub time : x.time ≡ h.time
+  pub latin : x.latin ≡ h.latin
+  pub ver : part x.ver s ≡ doubled h.ver
+  pub ifv : part x.ifv s ≡ doubled h.ifv
+  pub dve : Same_stated s x.dve h.dve
+  pub fft : Same_stated s x.fft h.fft
+
 pub line_with_is : (ends : LineEnd) (word : String) (fs : List Bytes) → line_with ends (bytes word) fs ≡ line ends word fs
 unfolding line_with line
 line_with_is ends word fs = refl
+
+raw_part : (s : Bytes) (place : Span) (t : Bytes) → part place s ≡ doubled t → raw_text (part place s) ≡ quoted t
+raw_part s place t e = ap raw_text e ∙ raw_quoted t
+
+text_line_same : (ends : LineEnd) (word : String) (s : Bytes) (place : Span) (t : Bytes) → part place s ≡ doubled t
+    → text_line ends (bytes word) s place ≡ line ends word (quoted t ∷ [])
+unfolding text_line
+text_line_same ends word s place t e = rw (raw_part s place t e) (line_with_is ends word (quoted t ∷ []))
+
+stated_same : (ends : LineEnd) (word : String) (s : Bytes) (x : Stated) (o : Option Bytes) → Same_stated s x o → stated_line ends (bytes word) s x ≡ line_if ends word o
+unfolding stated_line line_if
+stated_same ends word s x o absent = refl
+stated_same ends word s x o (at place t e) = text_line_same ends word s place t e
+
+pub head_same : (ends : LineEnd) (s : Bytes) (x : Header) (h : Head) → Same_head s x h → head_raw ends s x ≡ head_form ends h
+unfolding head_raw head_form mod_line src_line chs_line
+head_same ends s x h e =
+    rw
+    (raw_part s x.source h.source e.source, e.date, e.time, e.latin, text_line_same ends "ver" s x.ver h.ver e.ver, text_line_same ends "ifv" s x.ifv h.ifv e.ifv, stated_same ends "dve" s x.dve h.dve e.dve, stated_same ends "fft" s x.fft h.fft e.fft, line_with_is ends "mod", line_with_is ends "src", line_with_is ends "chs")

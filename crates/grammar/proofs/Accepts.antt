@@ -23,7 +23,7 @@ use Rattle.page.specs.declared.Step.TheVariants as S
 use Rattle.page.specs.declared.Outcome.{Outcome}
 use Rattle.page.proofs.TableLaws.{one_markable, may_mark_within}
 use Rattle.page.proofs.ArrangeLaws.{arrangement_arranged}
-use Rattle.grammar.specs.Ordered.{Ordered}
+use Rattle.grammar.proofs.Arranged.{Ordered}
 use Rattle.grammar.proofs.Steps.{go_exactly, stop_exactly, leads_go, leads_order, ordered_on}
 use Rattle.grammar.proofs.Ranged.{laws_some}
 

@@ -21,7 +21,7 @@ use Rattle.page.specs.Marks.{remark_of}
 use Rattle.page.specs.Section
 use Rattle.page.specs.Records.{words, Record}
 use Rattle.page.specs.Grammar.{fields_of, Says, AtrLine, Quiet, empty, remark, Day, a_number, no_number, a_text, Breaks, Reads, RecLine}
-use Rattle.page.specs.Refusals.{Law, law, FirstBroken, marks_of, InOrder, Outside, negative, out_of_range, over_size, NoSuchDay, kind_law, fields_laws, rules_laws, rec_laws, end_laws, command_laws, GoodMark, laws, Leads, quiet, tbl, atr, frm, mark, record_line, end}
+use Rattle.page.specs.Refusals.{Law, law, FirstBroken, either_laws, marks_of, InOrder, Outside, negative, out_of_range, over_size, NoSuchDay, kind_law, fields_laws, rules_laws, rec_laws, end_laws, command_laws, GoodMark, laws, Leads, quiet, tbl, atr, frm, mark, record_line, end}
 use Rattle.page.specs.declared.Number.{Number}
 use Rattle.page.specs.declared.Number.TheVariants as N
 use Rattle.page.specs.declared.Column.{Column}
@@ -42,8 +42,7 @@ use Rattle.laws.proofs.Decides.{Decides, holds, fails, fact, when, both, equal, 
 use Rattle.laws.proofs.Tests.{is_d, names_d, formats_d, rises_d, unknown_d, blank_missing, one_d, named_d}
 use Rattle.grammar.proofs.Days.{day_d}
 use Rattle.grammar.proofs.Values.{LeftOut, left_out_d, empty_no_number, number_some, field_right}
-use Rattle.grammar.specs.Ordered.{Ordered}
-use Rattle.grammar.proofs.Arranged.{reads_once, reads_rule, right_reads, reads_empty}
+use Rattle.grammar.proofs.Arranged.{Ordered, reads_once, reads_rule, right_reads, reads_empty}
 
 -- the step stops with v exactly if v is the first broken law's number, and goes on only to what G says
 pub record Agrees (G : Phase → Type 0) (s : Step) (ls : List Law) : Type 0 where
@@ -61,38 +60,42 @@ hit a = record { iff = λ w. (λ e. inl (a, (cc)), λ s. elim s [ inl p ↦ ap S
 miss : {G : Phase → Type 0} {v : ℕ} {L : Type 0} {s : Step} {ls : List Law} → ¬ L → Agrees G s ls → Agrees G s (law v L ∷ ls)
 miss n k = record { iff = λ w. (λ e. inr (n, (k.iff w).0 e), λ s. elim s [ inl p ↦ absurd (n p.0) | inr p ↦ (k.iff w).1 p.1 ]); led = k.led }
 
-must_not : {G : Phase → Type 0} {v : ℕ} {b : Bool} {L : Type 0} {x : Step} {ls : List Law} → Decides L b → (¬ L → Agrees G x ls) → Agrees G (pick b (S.Stop v) x) (law v L ∷ ls)
+must_not : {G : Phase → Type 0} {v : ℕ} {b : Bool} {L : Type 0} {x : Step} {ls : List Law} → Decides L b → (¬ L → Agrees G x ls) → Agrees G (Section.choose b (S.Stop v) x) (law v L ∷ ls)
+unfolding Section.choose
 must_not (holds a) k = hit a
 must_not (fails n) k = miss n (k n)
 
-must : {G : Phase → Type 0} {v : ℕ} {b : Bool} {A : Type 0} {x : Step} {ls : List Law} → Decides A b → (A → Agrees G x ls) → Agrees G (pick b x (S.Stop v)) (law v (¬ A) ∷ ls)
+must : {G : Phase → Type 0} {v : ℕ} {b : Bool} {A : Type 0} {x : Step} {ls : List Law} → Decides A b → (A → Agrees G x ls) → Agrees G (Section.choose b x (S.Stop v)) (law v (¬ A) ∷ ls)
+unfolding Section.choose
 must (holds a) k = miss (λ n. n a) (k a)
 must (fails n) k = hit n
 
-branch : {G : Phase → Type 0} (b : Bool) {x y : Step} {u w : List Law} → (b ≡ true → Agrees G x u) → (b ≡ false → Agrees G y w) → Agrees G (pick b x y) (pick b u w)
+branch : {G : Phase → Type 0} (b : Bool) {x y : Step} {u w : List Law} → (b ≡ true → Agrees G x u) → (b ≡ false → Agrees G y w) → Agrees G (Section.choose b x y) (either_laws b u w)
+unfolding Section.choose
 branch true s t = s refl
 branch false s t = t refl
 
 -- one of two commands, else 6
 two : {G : Phase → Type 0} {A B : Type 0} (a b : Bool) {x y : Step} {u w : List Law} → Decides A a → Decides B b → (A → Agrees G x u) → (B → Agrees G y w) →
-    Agrees G (pick a x (pick b y (S.Stop 6))) (law 6 (¬ (A ⊎ B)) ∷ pick a u w)
+    Agrees G (Section.choose a x (Section.choose b y (S.Stop 6))) (law 6 (¬ (A ⊎ B)) ∷ either_laws a u w)
+unfolding Section.choose
 two true b (holds h) d s t = miss (λ n. n (inl h)) (s h)
 two false true (fails m) (holds h) s t = miss (λ n. n (inr h)) (t h)
 two false false (fails m) (fails n) s t = hit (λ x. elim x [ inl a ↦ m a | inr b ↦ n b ])
 
 -- a record's verdict is a number, 0 for none: the step that follows it
 unfoldable pub judged : Phase → ℕ → Step
-judged q v = pick (eqb v 0) (S.Go q) (S.Stop v)
+judged q v = Section.choose (eqb v 0) (S.Go q) (S.Stop v)
 
 judged_must : {G : Phase → Type 0} (q : Phase) {v : ℕ} {b : Bool} {A : Type 0} (x : ℕ) {ls : List Law} → eqb v 0 ≡ false → Decides A b → (A → Agrees G (judged q x) ls) →
     Agrees G (judged q (pick b x v)) (law v (¬ A) ∷ ls)
-unfolding judged
+unfolding judged Section.choose
 judged_must q x e (holds a) k = miss (λ n. n a) (k a)
 judged_must q x e (fails n) k = rw e (hit n)
 
 judged_must_not : {G : Phase → Type 0} (q : Phase) {v : ℕ} {b : Bool} {L : Type 0} (x : ℕ) {ls : List Law} → eqb v 0 ≡ false → Decides L b → (¬ L → Agrees G (judged q x) ls) →
     Agrees G (judged q (pick b v x)) (law v L ∷ ls)
-unfolding judged
+unfolding judged Section.choose
 judged_must_not q x e (holds a) k = rw e (hit a)
 judged_must_not q x e (fails n) k = miss n (k n)
 
@@ -122,7 +125,7 @@ module _ {G : Phase → Type 0} (q : Phase) (c : Column) (f : Bytes) (y : ℕ) (
 
   number_agrees : (n : Number) → c.text ≡ false → ¬ LeftOut c.optional f → number_of f ≡ n →
       Agrees G (field_step (Section.number_field c.day c.lo c.hi n)) (kind_law false c.optional f ∷ rest_laws)
-  unfolding Section.number_field Section.day_field Section.field_number judged
+  unfolding Section.number_field Section.day_field Section.field_number judged Section.choose
   number_agrees N.Nothing t k e = hit (e, k)
   number_agrees (N.Minus n) t k e = miss (λ h. let z = h.0 in absurd (false≢true (cc))) (hit (negative t e))
   number_agrees (N.Plus n) t k e = miss (λ h. let z = h.0 in absurd (false≢true (cc))) (by (leb c.lo n && leb n c.hi) (both (at_most c.lo n) (at_most n c.hi)))
@@ -142,7 +145,7 @@ module _ {G : Phase → Type 0} (q : Phase) (c : Column) (f : Bytes) (y : ℕ) (
       by false (fails x) = hit (out_of_range t e x)
 
   text_agrees : (x : Option Bytes) → c.text ≡ true → Section.record_text f ≡ x → Agrees G (field_step (Section.text_field c.hi (Section.words_of f))) (kind_law true c.optional f ∷ rest_laws)
-  unfolding Section.text_field Section.field_number judged
+  unfolding Section.text_field Section.field_number judged Section.choose
   text_agrees none t e = rw (worded_none f e) (hit e)
   text_agrees (some w) t e = rw (worded_some f w e) (miss (λ h. absurd (false≢true (cc))) (by (leb (length w) c.hi) (at_most (length w) c.hi)))
     where
@@ -185,7 +188,7 @@ of_record {vs} h (holds p) = holds (vs, h, p)
 of_record {vs} h (fails n) = fails (λ x. let z : x.0 ≡ vs = reads_once x.1 h in n (rw z at x.2))
 
 pub judged_goes : {G : Phase → Type 0} (q : Phase) → G q → Agrees G (judged q 0) []
-unfolding judged
+unfolding judged Section.choose
 judged_goes q g = goes g
 
 record_judged : (t : ℕ) (o : Order) (m n : ℕ) (fs : List Bytes) → Section.rec_step t o m n fs ≡ judged (P.Rows t 0 (suc n)) (Section.rec_verdict t o m fs)

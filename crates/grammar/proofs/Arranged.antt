@@ -17,10 +17,20 @@ use Rattle.page.specs.Records.{words, Record, values_of}
 use Rattle.page.specs.Grammar.{Values, Breaks, Reads}
 use Rattle.page.specs.Refusals.{marks_of}
 use Rattle.page.specs.declared.Owner.TheVariants as O
+use Rattle.page.specs.declared.Phase.{Phase}
+use Rattle.page.specs.declared.Phase.TheVariants as P
 use Rattle.page.proofs.OrderLaws.{arranged_long, arranged_below, place_at, by_column_length, by_column_at, sound_by_column, owner_column}
 use Rattle.laws.proofs.Decides.{Decides, holds, fails, below}
 use Rattle.grammar.proofs.Values.{values_once, values_are, values_right, right_values, held, empty_d}
 use Rattle.grammar.proofs.Rules.{rule_decided}
+
+-- what holds of the order that the machine carries: once `atr` has stated it, it is an arrangement of the table's columns
+abbrev pub Ordered : Phase → Order → Type 0
+Ordered P.Tbl o = Unit
+Ordered (P.Atr t) o = Unit
+Ordered (P.Frm t) o = arranged (width t) o ≡ true
+Ordered (P.Rows t m n) o = arranged (width t) o ≡ true
+Ordered (P.Ended t n) o = arranged (width t) o ≡ true
 
 mark_stands : (o : Order) (m : ℕ) → m < length o → get_or o m m ≡ get_or o m 0
 mark_stands o m h = let x = drop-cons o m m h in let y = drop-cons o m 0 h in cc

@@ -13,10 +13,10 @@ use Rattle.page.specs.Bytes.{Bytes}
 use Rattle.page.specs.Lines.{Rec}
 use Rattle.page.specs.Tables.{Named, Table, Rule, points_differ, feeder_combined, TABLES, all_tables, table_at, number_at, width, rules}
 use Rattle.page.specs.Order.{Order, standing}
-use Rattle.page.specs.Section.{first_broken, rec_verdict, rec_step, line_step, step, table_in}
+use Rattle.page.specs.Section.{choose, first_broken, rec_verdict, rec_step, line_step, step, table_in}
 use Rattle.page.specs.Records.{Record}
-use Rattle.page.specs.Grammar.{fields_of, OwnFeeder, ForeignFeeder, Breaks, neither_way, Reads, Denotes}
-use Rattle.page.specs.Refusals.{Law, FirstBroken, marks_of, kind_law, fields_laws, rules_laws, laws, Refused, at_line, unfinished, record_laws}
+use Rattle.page.specs.Grammar.{fields_of, Says, OwnFeeder, ForeignFeeder, Breaks, neither_way, Reads, Denotes}
+use Rattle.page.specs.Refusals.{Law, FirstBroken, marks_of, kind_law, fields_laws, rules_laws, laws, Reaches, Refused, at_line, unfinished}
 use Rattle.page.specs.File.{any}
 use Rattle.page.specs.Rules.{Every}
 use Rattle.page.specs.declared.Phase.{Phase}
@@ -24,17 +24,15 @@ use Rattle.page.specs.declared.Phase.TheVariants as P
 use Rattle.page.specs.declared.Step.TheVariants as S
 use Rattle.page.proofs.TableLaws.{past_tables, each, each_in, table_test, number_injective, feeder_there}
 use Rattle.page.proofs.OrderLaws.{arranged_long}
-use Rattle.grammar.specs.Combined.{OneWay, NeitherWay, in_neither, Miscombined, at_record}
 use Rattle.laws.proofs.Decides.{Decides, holds, fails, fact, tested, both, equal, below}
 use Rattle.laws.proofs.Lists.{every_map}
 use Rattle.grammar.proofs.Values.{held}
 use Rattle.grammar.proofs.Rules.{told_d}
-use Rattle.grammar.specs.Ordered.{Ordered}
-use Rattle.grammar.proofs.Arranged.{reads_rule, reads_right}
+use Rattle.grammar.proofs.Arranged.{Ordered, reads_rule, reads_right}
 use Rattle.grammar.proofs.Steps.{known_step, stop_exactly}
 use Rattle.grammar.proofs.Readings.{denoted_lines}
 use Rattle.grammar.proofs.Refuses.{reach_ordered}
-use Rattle.grammar.proofs.Tells.{Tells, none, other, this, OfRecord, of_record, told_record}
+use Rattle.grammar.proofs.Tells.{Tells, none, other, this, record_laws, OfRecord, of_record, told_record}
 
 -- the rule of 432: LEITSTELLENKENNUNG is its column 4 from 0, and LinienID its column 11
 abbrev combination : Rule
@@ -68,6 +66,10 @@ never_both o f =
     let z : 0 ≡ suc f.centre.0 = cc in
     omega arith
 
+-- in one way, and not in the other
+abbrev pub OneWay : Record → Type 0
+OneWay vs = (OwnFeeder vs 4 11 × ¬ ForeignFeeder vs 4 11) ⊎ (ForeignFeeder vs 4 11 × ¬ OwnFeeder vs 4 11)
+
 one_way : (t : ℕ) → Memᴰ combination (rules t) → {o : Order} {ms : List ℕ} {fs : List Bytes} {vs : Record} → Reads t o ms fs vs → ¬ Breaks vs combination → OneWay vs
 one_way t m {vs = vs} h n = by (told_d (held h.values) 4 11 (feeder_there t 4 11 m))
   where
@@ -85,9 +87,14 @@ told_one_way latin ls t rs e d =
     let m : Memᴰ combination (rules t) = rw (combination_of t e) (mathlib.Core.List.Memᴰ.head refl) in
     every_map (λ vs x. one_way t m x.2.fields (x.2.rules combination m)) (denoted_lines t rs d)
 
--- the line of a record that tells it in neither way is refused with 25
+-- a record of 432, all of whose fields are read, that tells its feeder in neither way
+pub data NeitherWay (latin : Bool) (l : Bytes) : Phase → Order → Type 0 where
+  in_neither : {t m n : ℕ} {o : Order} {vs : Record} → number_at t ≡ 432 → Says latin Rec l → Reads t o (marks_of m) (fields_of l) vs →
+      ¬ OwnFeeder vs 4 11 → ¬ ForeignFeeder vs 4 11 → NeitherWay latin l (P.Rows t m n) o
+
+-- its line is refused with 25
 neither_stops : {latin : Bool} {l : Bytes} {p : Phase} {o : Order} → Ordered p o → NeitherWay latin l p o → step latin p o l ≡ S.Stop 25
-unfolding line_step rec_step rec_verdict first_broken
+unfolding choose line_step rec_step rec_verdict first_broken
 neither_stops {l = l} a (in_neither {t} {m} {n} {o} {vs} e s h p q) =
     let i : Memᴰ combination (rules t) = rw (combination_of t e) (mathlib.Core.List.Memᴰ.head refl) in
     rw (
@@ -131,6 +138,11 @@ neither_told latin p o l b = told_neither (told_record 25 refl latin l p o b)
 -- a line is refused with 25 exactly if it is such a record
 pub combined_exactly : (latin : Bool) (l : Bytes) (p : Phase) (o : Order) → Ordered p o → step latin p o l ≡ S.Stop 25 ↔ NeitherWay latin l p o
 combined_exactly latin l p o a = (λ e. neither_told latin p o l ((stop_exactly latin l p o a 25).0 e), neither_stops a)
+
+-- the first failing line of a section, its line n, is one
+pub data Miscombined (latin : Bool) (ls : List Bytes) (n : ℕ) : Type 0 where
+  at_record : (before after : List Bytes) (l : Bytes) (q : Phase) (o : Order) → ls ≡ before ++ (l ∷ after) → Reaches latin P.Tbl [] before q o →
+      NeitherWay latin l q o → n ≡ suc (length before) → Miscombined latin ls n
 
 neither_table : {latin : Bool} {l : Bytes} {q : Phase} {o : Order} → NeitherWay latin l q o → table_in q ≡ 432
 unfolding table_in

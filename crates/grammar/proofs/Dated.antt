@@ -13,7 +13,7 @@ use Rattle.page.specs.Bytes.{Bytes}
 use Rattle.page.specs.Lines.{Rec}
 use Rattle.page.specs.Tables.{Named, Rule, points_differ, feeder_combined, all_tables, column_at, width, rules}
 use Rattle.page.specs.Order.{Order, standing}
-use Rattle.page.specs.Section.{day_field, number_field, field_of, field_number, first_of, first_wrong, rec_verdict, rec_step, line_step, step}
+use Rattle.page.specs.Section.{choose, day_field, number_field, field_of, field_number, first_of, first_wrong, rec_verdict, rec_step, line_step, step}
 use Rattle.page.specs.Records.{Datum, number, Record}
 use Rattle.page.specs.Grammar.{fields_of, Holds, a_number, no_number, a_text, RecLine}
 use Rattle.page.specs.Refusals.{Law, law, FirstBroken, kind_law, fields_laws, rules_laws, laws, Outside, out_of_range, NoSuchDay, Refused, at_line, unfinished}
@@ -31,7 +31,7 @@ use Rattle.laws.proofs.Decides.{Decides, holds, fails, fact, tested, untested, b
 use Rattle.grammar.specs.Days.{FirstUnreal, here, later, UnrealDay, unreal, Undated, at_record, RealDay}
 use Rattle.grammar.proofs.Days.{day_d, day_within}
 use Rattle.grammar.proofs.Values.{number_there, field_right, right_field, held}
-use Rattle.grammar.specs.Ordered.{Ordered}
+use Rattle.grammar.proofs.Arranged.{Ordered}
 use Rattle.grammar.proofs.Agrees.{Agrees, judged, judged_goes, field_agrees}
 use Rattle.grammar.proofs.Steps.{known_step, stop_exactly}
 use Rattle.grammar.proofs.Refuses.{reach_ordered}
@@ -43,7 +43,7 @@ module _ (c : Column) (f : Bytes) where
 
   -- a field that breaks no law holds a value
   unbroken_holds : ¬ (kind_law c.text c.optional f).Broken → ¬ Outside c f → ¬ NoSuchDay c f → (v : Datum) × Holds O.Operator c f v
-  unfolding judged
+  unfolding judged choose
   unbroken_holds k i r = by (eqb (field_number (field_of c f)) 0) (equal (field_number (field_of c f)) 0) refl
     where
       unbroken : (v : ℕ) → ¬ FirstBroken own_laws v
@@ -120,7 +120,7 @@ unfolding any
 unreal_told latin p o l b = told_unreal (told_record 26 refl latin l p o b)
 
 unreal_stops : {latin : Bool} {l : Bytes} {p : Phase} {o : Order} → Ordered p o → UnrealDay latin l p o → step latin p o l ≡ S.Stop 26
-unfolding line_step rec_step rec_verdict
+unfolding choose line_step rec_step rec_verdict
 unreal_stops {l = l} a (unreal {t} {m} {n} {k} {o} s e u) =
     rw (known_step Rec s (omega arith) (P.Rows t m n) o, eq-eqb (length (fields_of l)) (width t) (e ∙ arranged_long (width t) o a), first_unreal u)
 

@@ -1,18 +1,43 @@
 -- A number is a real day exactly if its value read as YYYYMMDD is a real date. Assumes nothing.
 use mathlib.Core.Path.{◌≡◌, refl, ap, sym, ◌∙◌}
-use mathlib.Core.Bool.{Bool, true, false, not, false≢true}
-use mathlib.Core.Logic.{◌↔◌}
-use Prim.Native.Nat.{ℕ, zero, suc, ◌+◌, ◌*◌, ◌/◌, ◌%◌, ◌≤◌}
+use mathlib.Core.Bool.{Bool, true, false, not, ◌&&◌, false≢true}
+use mathlib.Core.List.{List, [], ◌∷◌}
+use Prim.Native.Nat.{ℕ, zero, suc, ◌+◌, ◌*◌, ◌/◌, ◌%◌, ◌≤◌, ◌<◌}
 use native.Mathlib.Omega.{arith}
-use lib.Dec.{leb}
-use Rattle.page.specs.Bytes.{pick}
-use Rattle.page.specs.Dates.{days_in, real_date, day_of, real_day}
+use lib.Dec.{eqb, leb}
+use lib.ListN.{get_or, get_or-eq_default}
+use borrow.Author.Tests.{ne_eqb, leb-true}
+use Rattle.page.specs.Bytes.{Bytes, pick, all}
+use Rattle.page.specs.Dates.{leap, days_in, real_date, day_of, real_day}
 use Rattle.page.specs.Section.{day_field, field_number}
 use Rattle.page.specs.Grammar.{Day}
 use Rattle.page.specs.declared.Date.{Date}
 use Rattle.page.specs.declared.Field.TheVariants as F
-use Rattle.page.proofs.DateLaws.{longest, no_month}
-use Rattle.laws.proofs.Decides.{Decides, holds, fails, fact, by_test, both, at_most, tested}
+use Rattle.page.proofs.TestLaws.{and_left, and_right}
+use Rattle.laws.proofs.Decides.{Decides, holds, fails, fact, by_test, both, at_most}
+
+months : Bytes
+months = 0 ∷ 31 ∷ 28 ∷ 31 ∷ 30 ∷ 31 ∷ 30 ∷ 31 ∷ 31 ∷ 30 ∷ 31 ∷ 30 ∷ 31 ∷ []
+
+none_over : (h : ℕ) (xs : List ℕ) → all (λ (x : ℕ). leb x h) xs ≡ true → (m : ℕ) → get_or xs m 0 ≤ h
+unfolding all
+none_over h [] e m = omega arith
+none_over h (x ∷ xs) e zero = leb-true x h (and_left (leb x h) (all (λ (x : ℕ). leb x h) xs) e)
+none_over h (x ∷ xs) e (suc m) = none_over h xs (and_right (leb x h) (all (λ (x : ℕ). leb x h) xs) e) m
+
+-- no month has more than 31 days
+longest : (y m : ℕ) → days_in y m ≤ 31
+unfolding days_in months all
+longest y m = by (eqb m 2 && leap y)
+  where
+    by : (b : Bool) → pick b 29 (get_or months m 0) ≤ 31
+    by true = omega arith
+    by false = none_over 31 months refl m
+
+-- and only the months 1 to 12 have days
+no_month : (y m : ℕ) → 12 < m → days_in y m ≡ 0
+unfolding days_in months
+no_month y m h = rw (ne_eqb m 2 (λ e. omega arith)) (get_or-eq_default months 0 {n = m} (omega arith))
 
 month_zero : (y : ℕ) → days_in y 0 ≡ 0
 unfolding days_in
@@ -69,10 +94,6 @@ day_d n = by_test (real_day n) (λ e. record { date = day_of n; real = e; read =
     back d =
         let r = real_parts d.date d.real in
         ap real_day d.read ∙ ap real_date (read_back d.date.year d.date.month d.date.day r.to_month r.to_day) ∙ d.real
-
--- a number is a real day exactly if it is YYYYMMDD of a real date
-pub day_exactly : (n : ℕ) → real_day n ≡ true ↔ Day n
-day_exactly n = (fact (day_d n), tested (day_d n))
 
 -- "Gregorian dates from 00010101 to 99991231": the range of 13 ends in the year 9999
 pub day_within : {n : ℕ} → Day n → n ≤ 99999999 → (10101 ≤ n) × (n ≤ 99991231)

@@ -1,7 +1,7 @@
 -- Each table of an accepted file is its own section's: as many tables as sections, each with the records that its own lines denote.
 use mathlib.Core.Path.{◌≡◌, refl, ap, ◌∙◌}
 use mathlib.Core.Bool.{Bool}
-use mathlib.Core.List.{List}
+use mathlib.Core.List.{List, []}
 use Prim.Native.Nat.{ℕ, zero, suc, ◌<◌}
 use native.Mathlib.Omega.{arith}
 use lib.ListN.{length, get_or}
@@ -14,11 +14,16 @@ use Rattle.page.specs.Section.{outcome}
 use Rattle.page.specs.Records.{entries_of, records_of}
 use Rattle.page.specs.File.{row_given, row_of}
 use Rattle.page.specs.Model.{Content}
-use Rattle.page.specs.Reading.{no_section}
 use Rattle.page.specs.Grammar.{Denotes}
 use Rattle.page.specs.Rules.{Tables, no_table, a_table, times, SoundFile}
-use Rattle.grammar.specs.Own.{no_content}
 use Rattle.grammar.proofs.Counts.{records_counted, sound_count, count_handed}
+
+-- the section and the content past the end of a list
+abbrev no_section : Section
+no_section = record { place = 0; lines = [] }
+
+abbrev no_content : Content
+no_content = record { table = 0; records = [] }
 
 as_many : {latin : Bool} {xs : List Section} {cs : List Content} → Tables latin xs cs → length cs ≡ length xs
 as_many no_table = refl

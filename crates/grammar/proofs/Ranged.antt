@@ -5,12 +5,12 @@ use mathlib.Core.List.{List, [], ◌∷◌, ◌++◌}
 use mathlib.Core.Logic.{inl, inr}
 use Prim.Native.Nat.{ℕ}
 use lib.Dec.{eqb}
-use Rattle.page.specs.Bytes.{Bytes, pick}
+use Rattle.page.specs.Bytes.{Bytes}
 use Rattle.page.specs.Lines.{content, blank, command, Rec, Com}
 use Rattle.page.specs.Tables.{Named, Rule, points_differ, feeder_combined, rules}
 use Rattle.page.specs.Order.{Order, standing}
 use Rattle.page.specs.Grammar.{fields_of}
-use Rattle.page.specs.Refusals.{Law, law, FirstBroken, kind_law, fields_laws, rules_laws, command_laws, laws, section_numbers, OneOf}
+use Rattle.page.specs.Refusals.{Law, law, FirstBroken, either_laws, kind_law, fields_laws, rules_laws, command_laws, laws, section_numbers, OneOf}
 use Rattle.page.specs.File.{any}
 use Rattle.page.specs.declared.Phase.{Phase}
 use Rattle.page.specs.declared.Phase.TheVariants as P
@@ -26,7 +26,7 @@ none = record { sure = λ v b. absurd b }
 more : {w : ℕ} {L : Type 0} {ls : List Law} → OneOf section_numbers w → Listed ls → Listed (law w L ∷ ls)
 more g k = record { sure = λ v s. elim s [ inl p ↦ rw p.1 at g | inr p ↦ k.sure v p.1 ] }
 
-either_listed : (b : Bool) {x y : List Law} → Listed x → Listed y → Listed (pick b x y)
+either_listed : (b : Bool) {x y : List Law} → Listed x → Listed y → Listed (either_laws b x y)
 either_listed true r s = r
 either_listed false r s = s
 

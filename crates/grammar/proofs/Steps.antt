@@ -8,7 +8,7 @@ use native.Mathlib.Numerals.{add-one}
 use lib.Dec.{eqb}
 use lib.ListN.{length}
 use borrow.Author.Tests.{eq-eqb, lt-ltb, lt-leb}
-use Rattle.page.specs.Bytes.{Bytes, pick}
+use Rattle.page.specs.Bytes.{Bytes}
 use Rattle.page.specs.Lines.{content, blank, command, rest, Tbl, Atr, Frm, Rec, End, Com, Unknown, Missing}
 use Rattle.page.specs.Tables.{TABLES, rules, width}
 use Rattle.page.specs.Order.{Order, arranged, standing, by_column}
@@ -26,8 +26,7 @@ use Rattle.page.proofs.ArrangeLaws.{arrangement_arranged}
 use Rattle.laws.proofs.Decides.{tested, untested, equal}
 use Rattle.laws.proofs.Tests.{names_d, formats_d, rises_d, blank_missing}
 use Rattle.grammar.proofs.Rules.{rules_kept}
-use Rattle.grammar.specs.Ordered.{Ordered}
-use Rattle.grammar.proofs.Arranged.{reads_rule, reads_right, reads_empty}
+use Rattle.grammar.proofs.Arranged.{Ordered, reads_rule, reads_right, reads_empty}
 use Rattle.grammar.proofs.Agrees.{quiet_order, atr_order, step_agrees}
 
 -- a line with a command is not blank
@@ -40,8 +39,8 @@ not_blank c k e h = by (blank c) refl
 
 -- what a clean line of a known command does
 pub known_step : {latin : Bool} {l : Bytes} (k : ℕ) → Says latin k l → k < Unknown → (p : Phase) (o : Order) →
-    Section.step latin p o l ≡ pick (eqb k Com) (Section.com_step p o (remark_of (rest (content l)))) (Section.line_step p o k (rest (content l)))
-unfolding Section.step Section.content_step
+    Section.step latin p o l ≡ Section.choose (eqb k Com) (Section.com_step p o (remark_of (rest (content l)))) (Section.line_step p o k (rest (content l)))
+unfolding Section.step Section.content_step Section.choose
 known_step {latin} {l} k s h p o = rw (s.clean, not_blank (content l) k s.named (omega arith), s.named, lt-leb Unknown k h)
 
 -- a record of any order of the columns that the grammar has breaks nothing
@@ -58,7 +57,7 @@ record_right {l = l} t o a m {vs} h =
 
 -- where the grammar leads, the step goes
 pub leads_go : {latin : Bool} {l : Bytes} {p q : Phase} {o x : Order} → Ordered p o → Leads latin l p o q x → Section.step latin p o l ≡ S.Go q
-unfolding Section.step Section.content_step Section.com_step Section.mark_step Section.line_step Section.tbl_step Section.atr_step Section.frm_step Section.rec_step Section.end_step Section.count_step
+unfolding Section.step Section.content_step Section.choose Section.com_step Section.mark_step Section.line_step Section.tbl_step Section.atr_step Section.frm_step Section.rec_step Section.end_step Section.count_step
 leads_go a (quiet (empty ok b)) = rw (ok, b)
 leads_go a (quiet {p} {o} (remark s e)) = rw (known_step Com s (omega arith) p o, e)
 leads_go a (tbl {t} {o} h) = rw (known_step Tbl h.says (omega arith) P.Tbl o, h.name, name_tells t h.known, lt-ltb t TABLES h.known)

@@ -1,18 +1,21 @@
 -- Which law a line breaks first, where its number is one that only a record's fields and rules have. Assumes nothing.
 use mathlib.Core.Path.{◌≡◌, refl}
 use mathlib.Core.Bool.{Bool, true, false, false≢true}
-use mathlib.Core.List.{List, [], ◌∷◌}
+use mathlib.Core.List.{List, [], ◌∷◌, ◌++◌, Memᴰ}
 use mathlib.Core.Logic.{inl, inr}
 use Prim.Native.Nat.{ℕ}
 use lib.Dec.{eqb}
 use lib.ListN.{length}
 use borrow.Author.Tests.{eqb-true}
-use Rattle.page.specs.Bytes.{Bytes, pick}
+use Rattle.page.specs.Bytes.{Bytes}
 use Rattle.page.specs.Lines.{content, blank, command, clean, Rec, Com}
-use Rattle.page.specs.Order.{Order}
-use Rattle.page.specs.Grammar.{fields_of, Says}
-use Rattle.page.specs.Refusals.{Law, law, FirstBroken, marks_of, record_laws, command_laws, laws, gives, OneOf}
+use Rattle.page.specs.Tables.{Rule, rules}
+use Rattle.page.specs.Order.{Order, standing}
+use Rattle.page.specs.Records.{Record, words}
+use Rattle.page.specs.Grammar.{fields_of, Says, Reads, Breaks}
+use Rattle.page.specs.Refusals.{Law, law, FirstBroken, either_laws, marks_of, fields_laws, rules_laws, command_laws, laws, gives, OneOf}
 use Rattle.page.specs.File.{any}
+use Rattle.page.specs.declared.Owner.TheVariants as O
 use Rattle.page.specs.declared.Phase.{Phase}
 use Rattle.page.specs.declared.Phase.TheVariants as P
 use Rattle.laws.proofs.Decides.{Decides, holds, fails, equal}
@@ -33,9 +36,16 @@ module _ {w : ℕ} {A : Type 0} where
   pub this : {L : Type 0} {ls : List Law} → (L → A) → (¬ L → Tells w A ls) → Tells w A (law w L ∷ ls)
   this f k = record { so = λ s. elim s [ inl p ↦ f p.0 | inr p ↦ (k p.0).so p.1 ] }
 
-  either : (b : Bool) {x y : List Law} → (b ≡ true → Tells w A x) → (b ≡ false → Tells w A y) → Tells w A (pick b x y)
+  either : (b : Bool) {x y : List Law} → (b ≡ true → Tells w A x) → (b ≡ false → Tells w A y) → Tells w A (either_laws b x y)
   either true f g = f refl
   either false f g = g refl
+
+-- what a record's fields and rules are judged by, after 10
+abbrev pub record_laws : ℕ → Order → List ℕ → List Bytes → List Law
+record_laws t o ms fs =
+    fields_laws (standing t o) fs ++
+    (rules_laws (λ (r : Rule). (vs : Record) × Reads t o ms fs vs × Breaks vs r) (rules t) ++
+    (law 15 ((vs : Record) × Reads t o ms fs vs × Memᴰ (words O.Suggestion []) vs) ∷ []))
 
 -- a record with a field for each column, of which w is told by these
 pub data OfRecord (w : ℕ) (latin : Bool) (l : Bytes) : Phase → Order → Type 0 where

@@ -1,4 +1,4 @@
--- Days of records: real ones, and 26 of a line and of a section.
+-- Days of records: real ones, and 26, "no such day", of a line and of a section.
 use Rattle.std.specs.Prelude.{◌≡◌, Bool, List, [], ◌∷◌, ◌++◌, ℕ, zero, suc, ◌≤◌, length}
 use Rattle.page.specs.Bytes.{Bytes}
 use Rattle.page.specs.Lines.{Rec}
@@ -12,7 +12,7 @@ use Rattle.page.specs.declared.Owner.TheVariants as O
 use Rattle.page.specs.declared.Phase.{Phase}
 use Rattle.page.specs.declared.Phase.TheVariants as P
 
--- a value that is a real day
+-- a value that is a real day: "Gregorian dates from 00010101 to 99991231"
 pub record RealDay (v : Datum) : Type 0 where
   pub value : ℕ
   pub is : v ≡ number value
@@ -20,7 +20,7 @@ pub record RealDay (v : Datum) : Type 0 where
   pub first : 10101 ≤ value
   pub last : value ≤ 99991231
 
--- from the left: the field at place k, from 0, is within its range and no such day, and each before it holds a value of its column
+-- "each field from the left": the field at place k, from 0, is within its range and no such day, and each before it holds a value of its column
 pub data FirstUnreal : List Named → List Bytes → ℕ → Type 0 where
   here : {c : Named} {cs : List Named} {f : Bytes} {fs : List Bytes} → ¬ Outside c.column f → NoSuchDay c.column f → FirstUnreal (c ∷ cs) (f ∷ fs) zero
   later : {c : Named} {cs : List Named} {f : Bytes} {fs : List Bytes} {v : Datum} {k : ℕ} → Holds O.Operator c.column f v → FirstUnreal cs fs k →

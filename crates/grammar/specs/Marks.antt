@@ -19,7 +19,7 @@ abbrev pub here_or : ℕ → List ℕ → (ℕ → List ℕ) → List ℕ
 here_or zero ms further = ms
 here_or (suc r) ms further = further r
 
--- the marks between the record after r others and the record before it; ms stand before these lines
+-- "It speaks of the next `rec`": the marks between the record after r others and the record before it; ms stand before these lines
 unfoldable pub marks_at : ℕ → List ℕ → List Bytes → List ℕ
 marks_at r ms [] = []
 marks_at r ms (l ∷ ls) = pick (eqb (command (content l)) Rec) (here_or r ms (λ q. marks_at q [] ls)) (marks_at r (note ms (content l)) ls)

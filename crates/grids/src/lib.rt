@@ -1,9 +1,8 @@
 // All values of one table as numbers.
-ghost use Rattle.std.specs.Prelude.{◌≤◌, length, drop};
+ghost use Rattle.std.specs.Prelude.{◌≡◌, ◌≤◌, length, drop};
 ghost use Rattle.page.specs.Lines.{lines};
 ghost use Rattle.page.specs.File.{limit};
-ghost use Rattle.page.specs.Handing.{cells_in};
-ghost use Rattle.page.specs.Promises.{HandsTable};
+ghost use Rattle.page.specs.Handing.{cells_in, table_of, cells_after};
 ghost use Rattle.arrangement.specs.Orders.{held, Stands};
 ghost use Rattle.sections.specs.Located.{Begins};
 ghost use Rattle.output.specs.Put.{Put};
@@ -62,7 +61,8 @@ fn put_records(cells: &mut [u64], s: &[u8], from: usize, t: usize, o: &[u8; WIDE
 // The section at a place: "the section's verdict", then 21 for too little room; three numbers for each column of each record.
 fn hand_table(file: &[u8], section: usize, at: usize, cells: &mut [u64]) -> Written
     requires { Begins file.now section at }
-    ensures { HandsTable file.now section cells.old result cells.new }
+    ensures { (result ≡ table_of file.now section (length cells.old))
+        × (cells.new ≡ cells_after file.now section cells.old) }
 {
     let latin = headers::read_charset(file);
     let row = sections::read_section(file, at, latin);
@@ -85,7 +85,8 @@ fn hand_table(file: &[u8], section: usize, at: usize, cells: &mut [u64]) -> Writ
 
 // All values of section i, from 1, record by record and column by column.
 pub fn table(file: &[u8], section: usize, cells: &mut [u64]) -> Written
-    ensures { HandsTable file.now section cells.old result cells.new }
+    ensures { (result ≡ table_of file.now section (length cells.old))
+        × (cells.new ≡ cells_after file.now section cells.old) }
 {
     match sections::locate(file, section) {
         Located::At(at) => hand_table(file, section, at, cells),

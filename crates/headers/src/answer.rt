@@ -1,7 +1,7 @@
 // What a call that reads the header answers.
 ghost use Rattle.std.specs.Prelude.{◌≡◌};
 ghost use Rattle.page.specs.File.{header_refusal};
-ghost use Rattle.page.specs.Promises.{ReadsHeader};
+ghost use Rattle.page.specs.Reading.{header_of};
 
 use page::{Headed, Refusal};
 
@@ -26,7 +26,7 @@ pub fn refuse_header(file: &[u8]) -> Refusal
 
 // The header's values, or 1 or 2.
 pub fn header(file: &[u8]) -> Headed
-    ensures { ReadsHeader file.now result }
+    ensures { result ≡ header_of file.now }
 {
     let r = refuse_header(file);
     if r.number != 0 {

@@ -8,7 +8,7 @@ use Rattle.lines.specs.declared.cursor.Line.{Line}
 abbrev pub within : Bytes → ℕ → ℕ
 within s at = pick (ltb at (length s)) at (length s)
 
--- a whole line: from a place to after the next LF, and to the end if there is none
+-- "A whole line includes its end": from a place to after the next LF, and to the end if there is none
 abbrev pub line_to : ℕ → ℕ → Line
 line_to at e = record { span = record { from = at; to = e }; next = record { at = e } }
 

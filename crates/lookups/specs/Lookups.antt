@@ -12,7 +12,7 @@ use Rattle.page.specs.declared.Refusal.{Refusal}
 use Rattle.page.specs.declared.Got.{Got}
 use Rattle.cut.specs.Walk.{section_from}
 
--- what is asked after the section is found: its verdict, and 24 for the record or field; of the section at a place
+-- "the section's verdict, 24 for the record or field", of the section at a place
 unfoldable pub row_from : Bytes → ℕ → Row
 row_from s at = row_of (latin_of s) (section_from s at)
 

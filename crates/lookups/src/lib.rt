@@ -4,8 +4,7 @@ ghost use Rattle.page.specs.Lines.{lines};
 ghost use Rattle.page.specs.Tables.{WIDEST};
 ghost use Rattle.page.specs.Places.{record_at};
 ghost use Rattle.page.specs.File.{limit};
-ghost use Rattle.page.specs.Reading.{outside, value_in};
-ghost use Rattle.page.specs.Promises.{ReadsValue};
+ghost use Rattle.page.specs.Reading.{outside, value_in, value_of};
 ghost use Rattle.arrangement.specs.Orders.{held, Orderly};
 ghost use Rattle.cut.specs.Walk.{Settled};
 ghost use Rattle.lookups.specs.Lookups.{value_from};
@@ -66,7 +65,7 @@ fn value_at(file: &[u8], i: usize, at: usize, r: usize, f: usize) -> Got
 
 // Column f of record r of section i, all from 1.
 pub fn value(file: &[u8], i: usize, r: usize, f: usize) -> Got
-    ensures { ReadsValue file.now i r f result }
+    ensures { result ≡ value_of file.now i r f }
 {
     match locate(file, i) {
         Located::At(at) => value_at(file, i, at, r, f),

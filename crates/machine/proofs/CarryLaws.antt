@@ -1,22 +1,21 @@
 -- The order that a section's reading carries: what a line leaves of it, and what the `atr` line states. Assumes nothing.
 use mathlib.Core.Path.{◌≡◌, refl, sym}
-use mathlib.Core.Bool.{Bool, true, false, ◌&&◌}
+use mathlib.Core.Bool.{Bool, true, false}
 use mathlib.Core.Logic.{inl, inr}
 use mathlib.Core.List.{List, [], ◌∷◌}
 use Prim.Native.Nat.{ℕ}
 use native.Mathlib.Omega.{arith}
 use denote.Enum.Declared.{tag_of}
 use types.Run.{OneOf}
-use lib.Dec.{eqb, leb, ltb}
-use lib.ListN.{length, get_or}
+use lib.Dec.{eqb}
 use borrow.Author.Tests.{eqb-true}
-use Rattle.page.specs.Bytes.{Bytes, pick}
-use Rattle.page.specs.Lines.{content, blank, command, rest, clean, Tbl, Atr, Frm, Rec, End, Com, Unknown}
-use Rattle.page.specs.Fields.{fields, number_of}
-use Rattle.page.specs.Tables.{TABLES, width, table_named}
-use Rattle.page.specs.Order.{Order, order_of, arranged, standing}
-use Rattle.page.specs.Marks.{remark_of, may_mark}
-use Rattle.page.specs.Section.{tbl_step, atr_step, formats_ok, frm_step, rec_verdict, rec_step, count_step, end_step, mark_step, com_step, line_step, content_step, step, order_after}
+use Rattle.page.specs.Bytes.{Bytes}
+use Rattle.page.specs.Lines.{content, command, rest, Atr, Com}
+use Rattle.page.specs.Fields.{fields}
+use Rattle.page.specs.Tables.{width}
+use Rattle.page.specs.Order.{Order, order_of, arranged}
+use Rattle.page.specs.Marks.{remark_of}
+use Rattle.page.specs.Section.{choose, tbl_step, atr_step, frm_step, rec_step, count_step, end_step, mark_step, com_step, line_step, content_step, step, order_after}
 use Rattle.page.specs.declared.Number.{Number}
 use Rattle.page.specs.declared.Number.TheVariants as N
 use Rattle.page.specs.declared.Remark.{Remark}
@@ -53,7 +52,8 @@ data Keeps (p : Phase) (o : Order) (c : Bytes) (a : List ℕ) : Step → Type 0 
   goes : {q : Phase} → Carried p q o c a → Keeps p o c a (S.Go q)
   stops : {v : ℕ} → Keeps p o c a (S.Stop v)
 
-if : {p : Phase} {o : Order} {c : Bytes} {a : List ℕ} (b : Bool) {x y : Step} → Keeps p o c a x → Keeps p o c a y → Keeps p o c a (pick b x y)
+if : {p : Phase} {o : Order} {c : Bytes} {a : List ℕ} (b : Bool) {x y : Step} → Keeps p o c a x → Keeps p o c a y → Keeps p o c a (choose b x y)
+unfolding choose
 if true f g = f
 if false f g = g
 
@@ -77,35 +77,30 @@ module _ (c : Bytes) (a : List ℕ) where
   keeps_com P.Tbl n k (R.Mark i) = stops
   keeps_com (P.Atr t) n k (R.Mark i) = stops
   keeps_com (P.Frm t) n k (R.Mark i) = stops
-  keeps_com (P.Rows t m j) n k (R.Mark i) = if (may_mark t (order_at (P.Rows t m j) a) i && ltb m i) (goes (record { is = refl; carries = k })) stops
+  keeps_com (P.Rows t m j) n k (R.Mark i) = if _ (goes (record { is = refl; carries = k })) stops
   keeps_com (P.Ended t j) n k (R.Mark i) = stops
 
   keeps_count : (t m n : ℕ) → Carries (P.Rows t m n) a → (x : Number) → Keeps (P.Rows t m n) (order_at (P.Rows t m n) a) c a (count_step t n x)
   unfolding count_step order_after order_at Carries
-  keeps_count t m n k (N.Plus i) = if (eqb i n) (goes (record { is = refl; carries = k })) stops
+  keeps_count t m n k (N.Plus i) = if _ (goes (record { is = refl; carries = k })) stops
   keeps_count t m n k (N.Minus i) = stops
   keeps_count t m n k N.Nothing = stops
 
   keeps_line : (p : Phase) → Other p → Carries p a → (i : ℕ) (w : Bytes) → Keeps p (order_at p a) c a (line_step p (order_at p a) i w)
   unfolding line_step tbl_step frm_step rec_step end_step order_after order_at Carries
-  keeps_line P.Tbl n k i w =
-      if (eqb i Tbl)
-      (if (eqb (length (fields w)) 1) (if (ltb (table_named (get_or (fields w) 0 [])) TABLES) (goes (record { is = refl; carries = tt })) stops) stops) stops
+  keeps_line P.Tbl n k i w = if _ (if _ (if _ (goes (record { is = refl; carries = tt })) stops) stops) stops
   keeps_line (P.Atr t) n k i w = due t n
-  keeps_line (P.Frm t) n k i w = if (eqb i Frm) (if (formats_ok (standing t (order_at (P.Frm t) a)) (fields w)) (goes (record { is = refl; carries = k })) stops) stops
+  keeps_line (P.Frm t) n k i w = if _ (if _ (goes (record { is = refl; carries = k })) stops) stops
   keeps_line (P.Rows t m j) n k i w =
-      if (eqb i Rec) (if (eqb (rec_verdict t (order_at (P.Rows t m j) a) m (fields w)) 0) (goes (record { is = refl; carries = k })) stops)
-      (if (eqb i End)
-      (if (eqb m 0) (if (eqb (length (fields w)) 1) (keeps_count t m j k (number_of (get_or (fields w) 0 []))) stops) stops) stops)
+      if _ (if _ (goes (record { is = refl; carries = k })) stops) (if _ (if _ (if _ (keeps_count t m j k _) stops) stops) stops)
   keeps_line (P.Ended t j) n k i w = stops
 
 pub carry_on : (latin : Bool) (p q : Phase) (a : List ℕ) (l : Bytes) → Other p → Carries p a → step latin p (order_at p a) l ≡ S.Go q
     → Carried p q (order_at p a) (content l) a
 unfolding step content_step
 carry_on latin p q a l n k e =
-    kept (if (clean latin (content l)) (if (blank (content l)) (keeps_blank (content l) a p n k)
-    (if (leb Unknown (command (content l))) stops
-    (if (eqb (command (content l)) Com) (keeps_com (content l) a p n k (remark_of (rest (content l)))) (keeps_line (content l) a p n k (command (content l)) (rest (content l)))))) stops) q e
+    kept (if _ (if _ (keeps_blank (content l) a p n k)
+    (if _ stops (if _ (keeps_com (content l) a p n k (remark_of (rest (content l)))) (keeps_line (content l) a p n k (command (content l)) (rest (content l)))))) stops) q e
 
 -- where the `atr` line is due: the line that is it states an arrangement, and any other leaves it due
 data Turns (t : ℕ) (c : Bytes) : Step → Type 0 where
@@ -113,7 +108,8 @@ data Turns (t : ℕ) (c : Bytes) : Step → Type 0 where
   states : eqb (command c) Atr ≡ true → arranged (width t) (order_of t (fields (rest c))) ≡ true → Turns t c (S.Go (P.Frm t))
   halts : {v : ℕ} → Turns t c (S.Stop v)
 
-when : {t : ℕ} {c : Bytes} (b : Bool) {x y : Step} → (b ≡ true → Turns t c x) → (b ≡ false → Turns t c y) → Turns t c (pick b x y)
+when : {t : ℕ} {c : Bytes} (b : Bool) {x y : Step} → (b ≡ true → Turns t c x) → (b ≡ false → Turns t c y) → Turns t c (choose b x y)
+unfolding choose
 when true f g = f refl
 when false f g = g refl
 
@@ -126,11 +122,9 @@ turns_com t c o e (R.Mark i) = halts
 turns : (latin : Bool) (t : ℕ) (o : Order) (l : Bytes) → Turns t (content l) (step latin (P.Atr t) o l)
 unfolding step content_step line_step atr_step
 turns latin t o l =
-    when (clean latin (content l)) (λ a. when (blank (content l)) (λ b. waits (let e = blank_missing (content l) b in rw e)) (λ b.
-    when (leb Unknown (command (content l))) (λ x. halts) (λ x.
-    when (eqb (command (content l)) Com) (λ y. turns_com t (content l) o (eqb-true (command (content l)) Com y) (remark_of (rest (content l)))) (λ y.
-    when (eqb (command (content l)) Atr) (λ z.
-    when (arranged (width t) (order_of t (fields (rest (content l))))) (λ u. states z u) (λ u. halts)) (λ z. halts))))) (λ a. halts)
+    when _ (λ a. when _ (λ b. waits (let e = blank_missing (content l) b in rw e)) (λ b. when _ (λ x. halts) (λ x.
+    when _ (λ y. turns_com t (content l) o (eqb-true (command (content l)) Com y) (remark_of (rest (content l)))) (λ y.
+    when _ (λ z. when _ (λ u. states z u) (λ u. halts)) (λ z. halts))))) (λ a. halts)
 
 turned : (t : ℕ) (c : Bytes) (b : List ℕ) → Told t (fields (rest c)) b → {x : Step} → Turns t c x → (q : Phase) → x ≡ S.Go q → Carried (P.Atr t) q [] c b
 unfolding order_after order_at Carries

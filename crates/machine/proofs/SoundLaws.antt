@@ -1,20 +1,20 @@
 -- The records of a sound section: each that is handed out passed its rules. Assumes nothing.
 use mathlib.Core.Path.{◌≡◌, refl}
-use mathlib.Core.Bool.{Bool, true, false, ◌&&◌}
+use mathlib.Core.Bool.{Bool, true, false}
 use mathlib.Core.List.{List, [], ◌∷◌}
 use Prim.Native.Nat.{ℕ, zero, suc, ◌+◌, ◌<◌}
 use native.Mathlib.Omega.{arith}
-use lib.Dec.{eqb, leb, ltb}
+use lib.Dec.{eqb}
 use lib.ListN.{length, get_or}
 use borrow.Author.Tests.{eqb-true, eqb-false, eq-eqb}
-use Rattle.page.specs.Bytes.{Bytes, pick}
-use Rattle.page.specs.Lines.{content, blank, command, rest, clean, Tbl, Atr, Frm, Rec, End, Com, Unknown, Missing}
+use Rattle.page.specs.Bytes.{Bytes}
+use Rattle.page.specs.Lines.{content, blank, command, rest, Tbl, Atr, Frm, Rec, End, Com, Missing}
 use Rattle.page.specs.Fields.{fields, number_of}
-use Rattle.page.specs.Tables.{TABLES, width, table_named}
-use Rattle.page.specs.Order.{Order, order_of, arranged, standing}
-use Rattle.page.specs.Marks.{remark_of, may_mark}
+use Rattle.page.specs.Tables.{table_named}
+use Rattle.page.specs.Order.{Order, order_of}
+use Rattle.page.specs.Marks.{remark_of}
 use Rattle.page.specs.Cut.{begins_table}
-use Rattle.page.specs.Section.{tbl_step, atr_step, formats_ok, frm_step, rec_verdict, rec_step, count_step, end_step, mark_step, com_step, line_step, content_step, step, order_after, table_in, finish, continue, run, outcome}
+use Rattle.page.specs.Section.{choose, tbl_step, atr_step, frm_step, rec_verdict, rec_step, count_step, end_step, mark_step, com_step, line_step, content_step, step, order_after, table_in, finish, continue, run, outcome}
 use Rattle.page.specs.Records.{waits, table_index, atr_in, order_in}
 use Rattle.page.specs.Places.{stands, record_at}
 use Rattle.page.specs.declared.Number.{Number}
@@ -52,7 +52,8 @@ data Leads (t : ℕ) (x : Order) (p : Phase) (o : Order) (l : Bytes) (ls : List 
       → eqb (command (content l)) Rec ≡ true → rec_verdict t x (mark_in p) (fields (rest (content l))) ≡ 0 → Leads t x p o l ls (S.Go q)
 
 if : {t : ℕ} {x : Order} {p : Phase} {o : Order} {l : Bytes} {ls : List Bytes} (b : Bool) {y z : Step}
-    → (b ≡ true → Leads t x p o l ls y) → (b ≡ false → Leads t x p o l ls z) → Leads t x p o l ls (pick b y z)
+    → (b ≡ true → Leads t x p o l ls y) → (b ≡ false → Leads t x p o l ls z) → Leads t x p o l ls (choose b y z)
+unfolding choose
 if true f g = f refl
 if false f g = g refl
 
@@ -103,24 +104,24 @@ module _ (t : ℕ) (x : Order) (l : Bytes) (ls : List Bytes) where
   lead_com p o h e R.Unreadable y = six
   lead_com (P.Atr t) o (atr h) e (R.Mark i) y = six
   lead_com (P.Frm t) o (frm h) e (R.Mark i) y = six
-  lead_com (P.Rows t m n) o (rows h) e (R.Mark i) y = if (may_mark t o i && ltb m i) (λ z. still (rows h) refl (remarked m i e y) (is_not c Com Rec e refl)) (λ z. six)
+  lead_com (P.Rows t m n) o (rows h) e (R.Mark i) y = if _ (λ z. still (rows h) refl (remarked m i e y) (is_not c Com Rec e refl)) (λ z. six)
   lead_com (P.Ended t n) o (ended h) e (R.Mark i) y = six
 
   lead_count : (o : Order) → o ≡ x → (n : ℕ) → command c ≡ End → (y : Number) → Leads t x (P.Rows t 0 n) o l ls (count_step t n y)
   unfolding count_step records_in order_after
-  lead_count o h n e (N.Plus i) = if (eqb i n) (λ y. still (ended h) refl (other 0 c End e refl) (is_not c End Rec e refl)) (λ y. six)
+  lead_count o h n e (N.Plus i) = if _ (λ y. still (ended h) refl (other 0 c End e refl) (is_not c End Rec e refl)) (λ y. six)
   lead_count o h n e (N.Minus i) = six
   lead_count o h n e N.Nothing = six
 
   lead_end : (o : Order) → o ≡ x → (m n : ℕ) → command c ≡ End → Leads t x (P.Rows t m n) o l ls (end_step t m n (fields (rest c)))
   unfolding end_step
-  lead_end o h zero n e = if (eqb (length (fields (rest c))) 1) (λ y. lead_count o h n e (number_of (get_or (fields (rest c)) 0 []))) (λ y. six)
-  lead_end o h (suc m) n e = if (eqb (suc m) 0) (λ z. absurd (let w : suc m ≡ 0 = eqb-true (suc m) 0 z in omega arith)) (λ z. six)
+  lead_end o h zero n e = if _ (λ z. if _ (λ y. lead_count o h n e (number_of (get_or (fields (rest c)) 0 []))) (λ y. six)) (λ z. six)
+  lead_end o h (suc m) n e = if _ (λ z. absurd (let w : suc m ≡ 0 = eqb-true (suc m) 0 z in omega arith)) (λ z. six)
 
   lead_rec : (o : Order) → o ≡ x → (m n : ℕ) → command c ≡ Rec → Leads t x (P.Rows t m n) o l ls (rec_step t o m n (fields (rest c)))
   unfolding rec_step records_in order_after
   lead_rec o h m n e =
-      if (eqb (rec_verdict t o m (fields (rest c))) 0) (λ y.
+      if _ (λ y.
       let v = eqb-true (rec_verdict t o m (fields (rest c))) 0 y in
       counts (rows h) refl refl (eq-eqb (command c) Rec e) (rw h at v))
       (λ y. stops (eqb-false (rec_verdict t o m (fields (rest c))) 0 y))
@@ -128,21 +129,18 @@ module _ (t : ℕ) (x : Order) (l : Bytes) (ls : List Bytes) where
   lead_line : (p : Phase) (o : Order) → Of t x (l ∷ ls) p o → Leads t x p o l ls (line_step p o (command c) (rest c))
   unfolding line_step atr_step frm_step records_in order_after
   lead_line (P.Atr t) o (atr h) =
-      if (eqb (command c) Atr) (λ z. let e = eqb-true (command c) Atr z in
-      if (arranged (width t) (order_of t (fields (rest c)))) (λ y. still (frm (stated o h z)) refl (other 0 c Atr e refl) (is_not c Atr Rec e refl)) (λ y. six)) (λ z. six)
+      if _ (λ z. let e = eqb-true (command c) Atr z in if _ (λ y. still (frm (stated o h z)) refl (other 0 c Atr e refl) (is_not c Atr Rec e refl)) (λ y. six)) (λ z. six)
   lead_line (P.Frm t) o (frm h) =
-      if (eqb (command c) Frm) (λ z. let e = eqb-true (command c) Frm z in
-      if (formats_ok (standing t o) (fields (rest c))) (λ y. still (rows h) refl (other 0 c Frm e refl) (is_not c Frm Rec e refl)) (λ y. six)) (λ z. six)
+      if _ (λ z. let e = eqb-true (command c) Frm z in if _ (λ y. still (rows h) refl (other 0 c Frm e refl) (is_not c Frm Rec e refl)) (λ y. six)) (λ z. six)
   lead_line (P.Rows t m n) o (rows h) =
-      if (eqb (command c) Rec) (λ z. lead_rec o h m n (eqb-true (command c) Rec z)) (λ z.
-      if (eqb (command c) End) (λ y. lead_end o h m n (eqb-true (command c) End y)) (λ y. six))
+      if _ (λ z. lead_rec o h m n (eqb-true (command c) Rec z)) (λ z. if _ (λ y. lead_end o h m n (eqb-true (command c) End y)) (λ y. six))
   lead_line (P.Ended t n) o (ended h) = six
 
   leads : (latin : Bool) (p : Phase) (o : Order) → Of t x (l ∷ ls) p o → Leads t x p o l ls (step latin p o l)
   unfolding step content_step
   leads latin p o h =
-      if (clean latin c) (λ a. if (blank c) (λ b. lead_blank p o h b) (λ b. if (leb Unknown (command c)) (λ z. six) (λ z.
-      if (eqb (command c) Com) (λ y. lead_com p o h (eqb-true (command c) Com y) (remark_of (rest c)) refl) (λ y. lead_line p o h)))) (λ a. six)
+      if _ (λ a. if _ (λ b. lead_blank p o h b) (λ b. if _ (λ z. six) (λ z.
+      if _ (λ y. lead_com p o h (eqb-true (command c) Com y) (remark_of (rest c)) refl) (λ y. lead_line p o h)))) (λ a. six)
 
 -- a record that a sound section hands out passed its rules, with the mark that stands before it
 module _ (latin : Bool) (t : ℕ) (x : Order) where
@@ -181,7 +179,8 @@ data First (t : ℕ) : Step → Type 0 where
   refuses : {v : ℕ} → (v ≡ 0 → ⊥) → First t (S.Stop v)
   begins : First t (S.Go (P.Atr t))
 
-either : {t : ℕ} (b : Bool) {x y : Step} → (b ≡ true → First t x) → (b ≡ false → First t y) → First t (pick b x y)
+either : {t : ℕ} (b : Bool) {x y : Step} → (b ≡ true → First t x) → (b ≡ false → First t y) → First t (choose b x y)
+unfolding choose
 either true f g = f refl
 either false f g = g refl
 
@@ -191,11 +190,9 @@ no {v = v} = refuses (λ (e : suc v ≡ 0). omega arith)
 first_step : (latin : Bool) (l : Bytes) → command (content l) ≡ Tbl → First (table_named (get_or (fields (rest (content l))) 0 [])) (step latin P.Tbl [] l)
 unfolding step content_step line_step tbl_step
 first_step latin l e =
-    either (clean latin (content l)) (λ a. either (blank (content l)) (λ b. absurd (let z = blank_missing (content l) b in omega arith)) (λ b.
-    either (leb Unknown (command (content l))) (λ x. no) (λ x.
-    either (eqb (command (content l)) Com) (λ y. absurd (let z = eqb-true (command (content l)) Com y in omega arith)) (λ y.
-    either (eqb (command (content l)) Tbl) (λ z. either (eqb (length (fields (rest (content l)))) 1) (λ u.
-    either (ltb (table_named (get_or (fields (rest (content l))) 0 [])) TABLES) (λ w. begins) (λ w. no)) (λ u. no)) (λ z. no))))) (λ a. no)
+    either _ (λ a. either _ (λ b. absurd (let z = blank_missing (content l) b in omega arith)) (λ b. either _ (λ x. no) (λ x.
+    either _ (λ y. absurd (let z = eqb-true (command (content l)) Com y in omega arith)) (λ y.
+    either _ (λ z. either _ (λ u. either _ (λ w. begins) (λ w. no)) (λ u. no)) (λ z. no))))) (λ a. no)
 
 module _ (latin : Bool) (l : Bytes) (ls : List Bytes) (r at : ℕ) where
   abbrev t : ℕ

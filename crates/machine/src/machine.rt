@@ -1,10 +1,9 @@
 // The machine of a section: what each line leads to.
 ghost use Rattle.std.specs.Prelude.{◌≡◌, ◌&&◌, ◌+◌, ◌<◌, eqb};
-ghost use Rattle.page.specs.Bytes.{pick};
 ghost use Rattle.page.specs.Lines.{content, rest, Rec};
 ghost use Rattle.page.specs.Fields.{fields};
 ghost use Rattle.page.specs.Marks.{remark_of};
-ghost use Rattle.page.specs.Section.{tbl_step, frm_step, rec_step, mark_step, com_step, line_step, content_step, step};
+ghost use Rattle.page.specs.Section.{choose, tbl_step, frm_step, rec_step, mark_step, com_step, line_step, content_step, step};
 ghost use Rattle.page.specs.declared.Phase.{Phase};
 ghost use Rattle.page.specs.declared.Phase.TheVariants as P;
 ghost use Rattle.page.specs.declared.Step.TheVariants as S;
@@ -32,7 +31,7 @@ pub fn step_tbl(w: &[u8]) -> Step
 
 // "`atr` 8"
 pub fn step_atr(t: usize, found: bool) -> Step
-    ensures { result ≡ pick found (S.Go (P.Frm t)) (S.Stop 8) }
+    ensures { result ≡ choose found (S.Go (P.Frm t)) (S.Stop 8) }
 {
     if found {
         return Step::Go(Phase::Frm(t));

@@ -12,7 +12,8 @@ pub record Put (before : Bytes) (at : ℕ) (form after : Bytes) (r : ℕ) : Type
   pub is : after ≡ sets before at form
   pub next : r ≡ at + length form
 
--- A call that is refused by r, or else puts a form at the front of lent output.
+-- A call that is refused by r, or else puts a form at the front of lent output: "On success the form's length is given, and the bytes
+-- after the form keep their values."
 pub record Wrote (r : Refusal) (form before after : Bytes) (w : Written) : Type 0 where
   pub answer : w ≡ put_of r form (length before)
   pub left : after ≡ put_after r form before

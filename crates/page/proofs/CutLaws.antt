@@ -10,8 +10,19 @@ use lib.ListN.{length, take, drop, get_or, length-append, length-drop}
 use lib.Seq.{length-take-le, drop-drop}
 use Rattle.page.specs.Bytes.{Bytes}
 use Rattle.page.specs.Lines.{lines, joined}
-use Rattle.page.specs.Cut.{begins_table, begins_end, Piece, a_table, a_trailer, Cut, put, cut, Section, placed, placed_piece, piece_lines, flat, extend, header_lines, sections, from_end}
+use Rattle.page.specs.Cut.{begins_table, begins_end, Piece, a_table, a_trailer, Cut, put, cut, Section, placed, placed_piece, piece_lines, header_lines, sections, from_end}
 use Rattle.page.proofs.LineLaws.{line_size, line_in, cut_at, lines_end, joined_length, run_within, run_bytes, run_rest, run_lines}
+
+-- a piece with more lines
+abbrev pub longer : Piece → List Bytes → Piece
+longer (a_table ls) ms = a_table (ls ++ ms)
+longer (a_trailer ls) ms = a_trailer (ls ++ ms)
+
+-- the last piece with more lines
+unfoldable pub extend : List Piece → List Bytes → List Piece
+extend [] ms = []
+extend (p ∷ []) ms = longer p ms ∷ []
+extend (p ∷ q ∷ ps) ms = p ∷ extend (q ∷ ps) ms
 
 abbrev pub front_by : List Piece → List Bytes → List Bytes → List Bytes
 front_by [] f g = f ++ g
@@ -36,6 +47,10 @@ cut_join [] b = refl
 cut_join (l ∷ a) b = rw (cut_join a b) (put_join (begins_table l) (begins_end l) l (cut a).front (cut a).pieces (cut b))
 
 -- the cut loses no line
+
+unfoldable pub flat : List Piece → List Bytes
+flat [] = []
+flat (p ∷ ps) = piece_lines p ++ flat ps
 
 put_whole : (t e : Bool) (l : Bytes) (c : Cut) → (put t e l c).front ++ flat (put t e l c).pieces ≡ l ∷ (c.front ++ flat c.pieces)
 unfolding put flat

@@ -11,7 +11,7 @@ use lib.Dec.{eqb}
 use lib.ListN.{length, take, drop, get_or, drop_of_length-le, length-append, length-drop}
 use lib.Seq.{drop-cons, drop-drop, take-append_seam, drop-append_seam}
 use Rattle.page.specs.Bytes.{Bytes}
-use Rattle.page.specs.Lines.{lines, in_front, joined, Whole, empty, ends}
+use Rattle.page.specs.Lines.{lines, in_front, joined}
 
 -- lines put together again are the bytes
 
@@ -178,6 +178,10 @@ unfolding lines
 lines_end s at h = rw (drop_of_length-le s h)
 
 -- cutting is a homomorphism on whole lines
+
+pub data Whole : Bytes → Type 0 where
+  empty : Whole []
+  ends : (a : Bytes) → Whole (a ++ 10 ∷ [])
 
 data Some : List Bytes → Type 0 where
   some_line : (l : Bytes) (ls : List Bytes) → Some (l ∷ ls)

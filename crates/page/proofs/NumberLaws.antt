@@ -1,8 +1,7 @@
 -- Digits and numbers: the laws of `digit`, `value` and `digits` at a place, and how large a value can be.
 -- Assumes nothing.
-use mathlib.Core.Path.{◌≡◌, refl, ◌∙◌}
+use mathlib.Core.Path.{◌≡◌}
 use mathlib.Core.Bool.{true, false, ◌&&◌}
-use mathlib.Core.List.{[], ◌∷◌, ◌++◌}
 use Prim.Native.Nat.{ℕ, suc, ◌+◌, ◌-◌, ◌*◌, ◌^◌, ◌<◌, ◌≤◌}
 use native.Mathlib.Numerals.{add-one}
 use native.Mathlib.Nat.{pow-suc, pow-le-pow_right}
@@ -27,20 +26,6 @@ module _ (s : Bytes) (i v : ℕ) where
 pub digit_range : (b : ℕ) → digit b ≡ true → (48 ≤ b) × (b ≤ 57)
 unfolding digit
 digit_range b e = (leb-true 48 b (and_left (leb 48 b) (leb b 57) e), leb-true b 57 (and_right (leb 48 b) (leb b 57) e))
-
-pub digit_of : (n : ℕ) → n < 10 → digit (48 + n) ≡ true
-unfolding digit
-digit_of n h = rw (le-leb 48 (48 + n) (omega arith), le-leb (48 + n) 57 (omega arith))
-
-value_append : (n : ℕ) (v w : Bytes) → value n (v ++ w) ≡ value (value n v) w
-unfolding value
-value_append n [] w = refl
-value_append n (b ∷ v) w = value_append (n * 10 + (b - 48)) v w
-
--- one more digit at the end
-pub value_last : (n d : ℕ) (v : Bytes) → value n (v ++ ((48 + d) ∷ [])) ≡ value n v * 10 + d
-unfolding value
-value_last n d v = value_append n v ((48 + d) ∷ []) ∙ omega arith
 
 -- `digits` by its three parts
 module _ (ds : Bytes) where

@@ -26,17 +26,17 @@ turned_file =
 
 unfoldable pub order_points : List Pair
 order_points =
-    -- an arrangement is read, and a mark's number counts in it
+    -- "any arrangement of a table's columns, each once, shall be read"; "A mark's number counts in the file's own order"
     (section_case true (turned_types "com; \"SUGGESTED 1\"\nrec; \"a\"; 1; 7\nend; 1\n") gives says 290 1 0 0) ∷
     (section_case true (turned_types "com; \"SUGGESTED 3\"\n") gives says 290 0 15 4) ∷
-    -- no arrangement: one is missing, stands twice, is unknown, is one too many
+    -- "8 is now given exactly if the names are no such arrangement": one is missing, stands twice, is unknown, is one too many
     (section_case true (bytes "tbl; MENGE_TAGESART\natr; TAGESART_TEXT; BASIS_VERSION\n") gives says 290 0 8 2) ∷
     (section_case true (bytes "tbl; MENGE_TAGESART\natr; TAGESART_TEXT; BASIS_VERSION; BASIS_VERSION\n") gives says 290 0 8 2) ∷
     (section_case true (bytes "tbl; MENGE_TAGESART\natr; BASIS_VERSION; TAGESART_NR; STR_ONR_TYP\n") gives says 290 0 8 2) ∷
     (section_case true (bytes "tbl; MENGE_TAGESART\natr; BASIS_VERSION; TAGESART_NR; TAGESART_TEXT; TAGESART_TEXT\n") gives says 290 0 8 2) ∷
     -- `frm` follows the file's `atr`
     (section_case true (bytes "tbl; MENGE_TAGESART\natr; TAGESART_TEXT; TAGESART_NR; BASIS_VERSION\nfrm; num[9.0]; num[3.0]; char[40]\n") gives says 290 0 9 3) ∷
-    -- fields from the left as written: 11 before the 13 of document 01's first column
+    -- "Fields are still checked from the left as written": 11 before the 13 of document 01's first column
     (section_case true (turned_types "rec; a; 1; 0\n") gives says 290 0 11 4) ∷
     -- 14 by column, after all fields
     (section_case true (turned_links "rec; 5; 5; 1; 1; 10; 0; 7\n") gives says 225 0 14 4) ∷
@@ -47,7 +47,7 @@ order_points =
     -- a column goes by its number in document 01's table, and its text stands where the file has it
     (value_case turned_file 1 1 1 gives a_value (G.Is (Va.Number 7))) ∷
     (value_case turned_file 1 1 3 gives a_value (G.Is (Va.Words (record { from = 233; to = 234; owner = O.Suggestion })))) ∷
-    -- the written file has 452's order, and its marks are renumbered
+    -- "The written file uses 452's order and renumbers the marks."
     (form_case turned_file gives
     a_form (head ++ (day_types "com; \"SUGGESTED 3\"\nrec; 7; 1; \"a\"\nrec; 7; 2; \"\"\nend; 2\n" ++ (versions "rec; 7; \"\"\nend; 1\n" ++ bytes "eof; 2\n")))) ∷
     []

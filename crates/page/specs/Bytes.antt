@@ -55,13 +55,13 @@ space b = eqb b 32
 abbrev pub no_space : ℕ → Bool
 no_space b = not (space b)
 
--- what is trimmed of spaces: what stands between the first and the last byte that is no space
+-- "spaces trimmed": what stands between the first and the last byte that is no space
 abbrev pub trim_of : Bytes → Span
 trim_of w = record { from = until no_space (take (keep space w) w); to = keep space w }
 
 unfoldable pub trim : Bytes → Bytes
 trim w = part (trim_of w) w
 
--- "Spaces at the end of a text in a record no longer belong to it. A text of spaces only is empty": nothing is left of it
+-- "Spaces at the end of a text in a record no longer belong to it."
 unfoldable pub unpadded : Bytes → Bytes
 unpadded t = take (keep space t) t

@@ -33,7 +33,8 @@ connected_file =
     connected (connections "rec; 7; 1; \"\"; \"\"; 0; 3; 0; 12; ; ; 4; \"\"; \"\"; \"\"; 5; 1; 9; 99; ; \nend; 1\n")
     (transfers "rec; 7; 1; 2; 0; 129599; 0; 65532; 0; 0\nend; 1\n")
 
--- LEITSTELLENKENNUNG 0 and above with what it asks of the three numbers and the three texts, and with each of these otherwise
+-- "With LEITSTELLENKENNUNG 0, LinienID, RichtungsID and ASBID are empty, and ZUB_LI_NR and ZUB_ORT_REF_ORT lie above 0; with 1 to 255 the three texts
+-- are filled, and ZUB_LI_NR, ZUB_LI_RI_NR and ZUB_ORT_REF_ORT are 0"
 unfoldable pub combination_points : List Pair
 combination_points =
     (feeder "0; 1; 0; 1" "\"\"; \"\"; \"  \"" gives says 432 1 0 0) ∷
@@ -57,7 +58,7 @@ combination_points =
     (connections "com; \"SUGGESTED 3\"\nrec; 7; 1; \"\"; \"\"; 0; 0; 0; 12; ; ; ; \"\"; \"\"; \"\"; 5; 1; 9; ; ; \nend; 1\n") gives says 432 0 25 5) ∷
     []
 
--- the ranges, at their ends
+-- "columns and ranges as source document 001 sections 9.9.1 and 9.9.2 print them, bracketed 0 included, >0 up to the decimal size"
 unfoldable pub range_points : List Pair
 range_points =
     (points_of "99; 999999; 999999" "999; 2; 999999; 99; 999999; 999999" gives says 432 1 0 0) ∷
@@ -65,7 +66,7 @@ range_points =
     (points_of "100; 1; 1" "1; 0; 1; 1; 1; 1" gives says 432 0 13 4) ∷
     (points_of "1; 1; 1" "0; 0; 1; 1; 1; 1" gives says 432 0 13 4) ∷
     (points_of "1; 1; 1" "1; 0; 0; 1; 1; 1" gives says 432 0 13 4) ∷
-    -- an empty field is a missing number where that is allowed: 0 is none; elsewhere an empty field is 12, or 11
+    -- "Where a column there allows NULL, an empty field is a missing number": 0 is none; elsewhere an empty field is 12, or 11
     (points_of ";; " "1; 0; 1;  ;;" gives says 432 1 0 0) ∷
     (points_of "0; 1; 1" "1; 0; 1; 1; 1; 1" gives says 432 0 13 4) ∷
     (points_of "1; 1; 1" "1; 0; 1; 1; 1; 0" gives says 432 0 13 4) ∷
@@ -82,7 +83,7 @@ range_points =
 
 unfoldable pub connected_points : List Pair
 connected_points =
-    -- 232 refers to 432, 290 and 485, and 432 to 485
+    -- "REC_UMS refers to 432, 290 and 485."
     (file_case connected_file gives files 0 0 0) ∷
     (file_case (connected (connections "end; 0\n") (transfers "rec; 7; 1; 2; 0; 0; 0; 0; 0; 0\nend; 1\n")) gives files 20 4 4) ∷
     (file_case
@@ -100,7 +101,7 @@ connected_points =
     (value_case connected_file 3 1 20 gives a_value (G.Is Va.Missing)) ∷
     -- it is written as an empty field
     (form_case connected_file gives a_form connected_file) ∷
-    -- ANSCHLUSS_NAME may be marked, and nothing else
+    -- "ANSCHLUSS_NAME may be marked"
     (fill_case connected_file 3 1 3 (bytes "Bahnhof") gives a_fill (W.Length 1219)) ∷
     (fill_case connected_file 3 1 4 (bytes "Bahnhof") gives a_fill (W.Refused (refusal 23 0 0))) ∷
     (fill_case connected_file 3 1 20 (bytes "Bahnhof") gives a_fill (W.Refused (refusal 23 0 0))) ∷

@@ -1,9 +1,9 @@
 -- The cut of a file into header, sections and trailer.
-use Rattle.std.specs.Prelude.{Bool, true, false, List, [], ◌∷◌, ◌++◌, ℕ, ◌+◌, eqb, length}
+use Rattle.std.specs.Prelude.{Bool, true, false, List, [], ◌∷◌, ℕ, ◌+◌, eqb, length}
 use Rattle.page.specs.Bytes.{Bytes, pick}
 use Rattle.page.specs.Lines.{lines, joined, content, command, Tbl, Eof}
 
--- what a line begins: "A section begins at each `tbl` line and runs up to the next `tbl` or `eof` line or the end of the bytes."
+-- what a line begins: "A section begins at each `tbl` line and runs up to the next `tbl` or `eof` line"
 unfoldable pub begins_table : Bytes → Bool
 begins_table l = eqb (command (content l)) Tbl
 
@@ -33,7 +33,7 @@ pub record Section : Type 0 where
   pub place : ℕ
   pub lines : List Bytes
 
--- the sections among pieces that begin at a place; "Lines after an `eof` and before a further `tbl` belong to no section."
+-- the sections among pieces that begin at a place; "lines after an `eof` and before a further `tbl` belong to no section"
 abbrev pub placed_piece : ℕ → Piece → List Section → List Section
 placed_piece at (a_table ls) ss = record { place = at; lines = ls } ∷ ss
 placed_piece at (a_trailer ls) ss = ss
@@ -41,21 +41,6 @@ placed_piece at (a_trailer ls) ss = ss
 abbrev pub piece_lines : Piece → List Bytes
 piece_lines (a_table ls) = ls
 piece_lines (a_trailer ls) = ls
-
--- the lines of pieces, one after the other
-unfoldable pub flat : List Piece → List Bytes
-flat [] = []
-flat (p ∷ ps) = piece_lines p ++ flat ps
-
--- where more lines follow that begin nothing: they belong to the last piece
-abbrev pub longer : Piece → List Bytes → Piece
-longer (a_table ls) ms = a_table (ls ++ ms)
-longer (a_trailer ls) ms = a_trailer (ls ++ ms)
-
-unfoldable pub extend : List Piece → List Bytes → List Piece
-extend [] ms = []
-extend (p ∷ []) ms = longer p ms ∷ []
-extend (p ∷ q ∷ ps) ms = p ∷ extend (q ∷ ps) ms
 
 unfoldable pub placed : ℕ → List Piece → List Section
 placed at [] = []

@@ -1,4 +1,4 @@
--- Only real days (document 02, E5), computed as one list: "Demand 2's acceptance is narrowed by this, and the list of cases gains both."
+-- Only real days (document 02, E5), computed as one list.
 use Rattle.std.specs.Prelude.{◌≡◌, refl, true, List, [], ◌∷◌, ◌++◌, map, ℕ}
 use Prim.Native.String.{String}
 use Rattle.page.specs.Bytes.{Bytes, bytes, pick}
@@ -31,7 +31,7 @@ unfoldable pub dated : String → String → Bytes
 dated from days =
     head ++ (versions "rec; 7; \"\"\nend; 1\n" ++ (valid_days from ++ (day_types "rec; 7; 2; \"\"\nend; 1\n" ++ (calendar days ++ bytes "eof; 4\n"))))
 
--- the two columns that are days, and no other
+-- "VER_GUELTIGKEIT and BETRIEBSTAG", and no other column
 unfoldable pub days_of : List Named → List String
 days_of [] = []
 days_of (c ∷ cs) = pick c.column.day (c.name ∷ days_of cs) (days_of cs)
@@ -48,9 +48,9 @@ unfoldable pub day_points : List Pair
 day_points =
     -- "20240229 passes, 20230229 does not"
     passes "20240229" ∷ unreal "20230229" ∷
-    -- the first day and the last
+    -- "from 00010101 to 99991231"
     passes "00010101" ∷ passes "99991231" ∷ unreal "100" ∷ unreal "99991232" ∷ unreal "1231" ∷ unreal "00001231" ∷ unreal "99999999" ∷ unreal "1" ∷
-    -- leading zeros may stand or not
+    -- "leading zeros optional"
     passes "10101" ∷ passes "000000000010101" ∷ unreal "10100" ∷ unreal "10001" ∷
     -- every fourth year, but no hundredth that is no four hundredth
     passes "20000229" ∷ unreal "19000229" ∷ passes "19960229" ∷ unreal "21000229" ∷ passes "40229" ∷ unreal "1000229" ∷ passes "4000229" ∷
@@ -74,7 +74,7 @@ day_points =
 
 unfoldable pub turn_points : List Pair
 turn_points =
-    -- directly after 13: before the next field, after the field before it
+    -- "at its field directly after 13": before the next field, after the field before it
     (section_case true (valid_days "rec; 20230229; 0\n") gives says 993 0 26 4) ∷
     on_day "7; 20230229; x; 1" 26 ∷
     on_day "7; 20230229; \"\"; 0" 26 ∷

@@ -15,7 +15,7 @@ days_in y m = pick (eqb m 2 && leap y) 29 (get_or (0 ∷ 31 ∷ 28 ∷ 31 ∷ 30
 unfoldable pub real_date : Date → Bool
 real_date d = leb 1 d.year && leb 1 d.day && leb d.day (days_in d.year d.month)
 
--- "from 00010101 to 99991231, the number's value read as YYYYMMDD with leading zeros optional": what has passed 13 is at most
+-- "Gregorian dates from 00010101 to 99991231, the number's value read as YYYYMMDD with leading zeros optional": what has passed 13 is at most
 -- 99999999, so that the year has four digits at the most
 unfoldable pub day_of : ℕ → Date
 day_of n = record { year = n / 10000; month = n / 100 % 100; day = n % 100 }

@@ -30,8 +30,7 @@ unfoldable pub split : Bool → Bytes → List Bytes
 split inside [] = [] ∷ []
 split inside (b ∷ bs) = into (parts_here inside b) b (split (inside_after inside b) bs)
 
--- "Spaces around a field are trimmed." w is what stands after the first `;` of one line
--- "Texts never cross a line end", against "A missing quote carries a text into the next line": each line begins outside, whatever stood before it
+-- "Spaces around a field are trimmed." w is what stands after the first `;`
 unfoldable pub fields : Bytes → List Bytes
 fields w = map trim (split false w)
 
@@ -65,7 +64,6 @@ digits ds = leb 1 (length ds) && leb (length ds) 18 && all digit ds
 abbrev pub minus : ℕ → Number
 minus v = pick (eqb v 0) (N.Plus 0) (N.Minus v)
 
--- "An empty field is neither": its first byte is no quote, and it has no digit
 unfoldable pub number_of : Bytes → Number
 number_of f =
     pick (eqb (get_or f 0 0) 45) (pick (digits (drop 1 f)) (minus (value 0 (drop 1 f))) N.Nothing)

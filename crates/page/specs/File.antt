@@ -1,4 +1,4 @@
--- "The file gives the first of 1, 2, 3, the first unsound section in file order, 17, 18, 19, 20".
+-- The file's answer: "the first of 1, 2, 3, the first unsound section in file order, 17, 18, 19, 20".
 use Rattle.std.specs.Prelude.{Bool, true, false, not, ◌&&◌, ◌||◌, List, [], ◌∷◌, ◌++◌, map, ℕ, suc, eqb, ltb, length, get_or}
 use Rattle.page.specs.Bytes.{Bytes, bytes, pick, same}
 use Rattle.page.specs.Lines.{joined}
@@ -24,16 +24,15 @@ limit = 16777216
 unfoldable pub too_long : Bytes → Bool
 too_long s = ltb limit (length s)
 
--- 2, 3: a line of no section
+-- 2, 3: "0 for header and trailer"
 abbrev pub found : Finding → Refusal
 found f = refusal f.verdict 0 f.line
 
--- 1, then 2; "After 1 or 2 no section is read": what reads one asks this first
+-- 1, then 2
 unfoldable pub header_refusal : Bytes → Refusal
 header_refusal s = earlier (refuse-if (too_long s) 1) (found (head_of (header_lines s)))
 
--- "Whoever lists a file may lend rows: one row a section with table number, place, length, record count and verdict"; "length is in bytes; the
--- verdict stands with its line."
+-- "one row a section with table number, place, length, record count and verdict"
 unfoldable pub row_given : Section → Outcome → Row
 row_given x o =
     record {
@@ -51,12 +50,12 @@ row_of latin x = row_given x (outcome latin x.lines)
 unfoldable pub rows_of : Bytes → List Row
 rows_of s = map (row_of (latin_of s)) (sections s)
 
--- the first unsound section; i counts sections from 1
+-- "the first unsound section in file order"; i counts sections from 1
 unfoldable pub first_unsound : ℕ → List Row → Refusal
 first_unsound i [] = sound
 first_unsound i (r ∷ rs) = pick (eqb r.verdict 0) (first_unsound (suc i) rs) (refusal r.verdict i r.line)
 
--- 17: "table a second time"; "for 17 the second table's line 1"
+-- 17: "table a second time", at "the second table's line 1"
 unfoldable pub any : {A : Type 0} → (A → Bool) → List A → Bool
 any p [] = false
 any p (x ∷ xs) = p x || any p xs
@@ -81,8 +80,7 @@ unfoldable pub filed : Bool → ℕ → List Section → List Filed
 filed latin i [] = []
 filed latin i (x ∷ xs) = filed_in latin i x ++ filed latin (suc i) xs
 
--- keys compare by value, texts by their own bytes, whoever's they are; "Empty texts are allowed and equal each other as keys", for no bytes are
--- the same as no bytes
+-- keys "compare by value", texts by their own bytes, whoever's they are
 abbrev pub same_datum : Datum → Datum → Bool
 same_datum (number a) (number b) = eqb a b
 same_datum (number a) missing = false

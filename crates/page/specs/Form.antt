@@ -19,7 +19,7 @@ use Rattle.page.specs.declared.Time.{Time}
 unfoldable pub line_end : LineEnd → Bytes
 line_end E.Lf = 10 ∷ []
 
--- "One space after each separating `;`, none elsewhere outside texts, so `;` is never last."
+-- "One space after each separating `;`, none elsewhere outside texts"
 unfoldable pub separated : List Bytes → Bytes
 separated [] = []
 separated (f ∷ fs) = bytes "; " ++ (f ++ separated fs)
@@ -48,7 +48,7 @@ doubled (b ∷ bs) = pick (quote b) (b ∷ b ∷ doubled bs) (b ∷ doubled bs)
 unfoldable pub quoted : Bytes → Bytes
 quoted t = 34 ∷ (doubled t ++ (34 ∷ []))
 
--- "the source date rewritten so": as DD.MM.YYYY, and HH:MM:SS
+-- "the source date rewritten so": DD.MM.YYYY; HH:MM:SS
 unfoldable pub date_text : Date → Bytes
 date_text d = padded 2 d.day ++ (bytes "." ++ (padded 2 d.month ++ (bytes "." ++ padded 4 d.year)))
 
@@ -65,7 +65,7 @@ unfoldable pub line_if : LineEnd → String → Option Bytes → Bytes
 line_if e command none = []
 line_if e command (some t) = line e command (quoted t ∷ [])
 
--- "Order mod, src, chs, ver, ifv, dve, fft"; "`DD.MM.YYYY; HH:MM:SS; free`"
+-- "Order mod, src, chs, ver, ifv, dve, fft"
 unfoldable pub head_form : LineEnd → Head → Bytes
 head_form e h =
     line e "mod" (bytes "DD.MM.YYYY" ∷ bytes "HH:MM:SS" ∷ bytes "free" ∷ []) ++
@@ -74,7 +74,7 @@ head_form e h =
     (line e "ver" (quoted h.ver ∷ []) ++
     (line e "ifv" (quoted h.ifv ∷ []) ++ (line_if e "dve" h.dve ++ line_if e "fft" h.fft)))))
 
--- "formats with the sizes above (V num[9.0], TAGESART_NR num[3.0], others by their 452 decimal size)."
+-- "formats with the sizes above"
 unfoldable pub format_text : Column → Bytes
 format_text c =
     pick c.text (bytes "char[" ++ (decimal c.size ++ bytes "]")) (bytes "num[" ++ (decimal c.size ++ bytes ".0]"))
@@ -100,7 +100,6 @@ unfoldable pub marks : LineEnd → ℕ → Record → Bytes
 marks e i [] = []
 marks e i (v ∷ vs) = mark_of e i v ++ marks e (suc i) vs
 
--- "The written file uses 452's order and renumbers the marks": values stand by column, and are counted so
 unfoldable pub record_form : LineEnd → Record → Bytes
 record_form e vs = marks e 1 vs ++ line e "rec" (map datum_text vs)
 

@@ -31,25 +31,25 @@ pub data Quiet (latin : Bool) (l : Bytes) : Type 0 where
   empty : clean latin (content l) ≡ true → blank (content l) ≡ true → Quiet latin l
   remark : Says latin Com l → remark_of (rest (content l)) ≡ R.Comment → Quiet latin l
 
--- a `tbl` line of table t of the list
+-- "`tbl; name`": table t of the list
 pub record TblLine (latin : Bool) (t : ℕ) (l : Bytes) : Type 0 where
   pub says : Says latin Tbl l
   pub known : t < TABLES
   pub name : fields_of l ≡ bytes (table_at t).name ∷ []
 
--- an arrangement of a table's columns: each column stands at one place, and nothing else stands there
+-- "any arrangement of a table's columns, each once": each column stands at one place, and nothing else stands there
 pub record Arrangement (t : ℕ) (o : Order) : Type 0 where
   pub only : (p : ℕ) → p < length o → get_or o p 0 < width t
   pub there : (c : ℕ) → c < width t → (p : ℕ) × (p < length o) × (get_or o p 0 ≡ c)
   pub once : (p q : ℕ) → p < length o → q < length o → get_or o p 0 ≡ get_or o q 0 → p ≡ q
 
--- an `atr` line that says the order o
+-- "The reading of `atr` must now say which column stands where"
 pub record AtrLine (latin : Bool) (t : ℕ) (o : Order) (l : Bytes) : Type 0 where
   pub says : Says latin Atr l
   pub arrangement : Arrangement t o
   pub names : fields_of l ≡ map (λ (c : ℕ). bytes (name_at t c)) o
 
--- one format for each column as it stands
+-- "`frm` with one format a column"
 pub data Formats : List Named → List Bytes → Type 0 where
   no_format : Formats [] []
   a_format : {c : Named} {cs : List Named} {f : Bytes} {fs : List Bytes} → format_ok c.column.text f ≡ true → Formats cs fs → Formats (c ∷ cs) (f ∷ fs)
@@ -58,7 +58,7 @@ pub record FrmLine (latin : Bool) (t : ℕ) (o : Order) (l : Bytes) : Type 0 whe
   pub says : Says latin Frm l
   pub formats : Formats (standing t o) (fields_of l)
 
--- n is a real day, YYYYMMDD of its date
+-- n is a real day: "the number's value read as YYYYMMDD with leading zeros optional"
 pub record Day (n : ℕ) : Type 0 where
   pub date : Date
   pub real : real_date date ≡ true
@@ -98,7 +98,7 @@ Empty vs k = (o : Owner) × (get_or vs k (number 0) ≡ words o [])
 abbrev pub Filled : Record → ℕ → Type 0
 Filled vs k = (o : Owner) × (b : ℕ) × (t : Bytes) × (get_or vs k (number 0) ≡ words o (b ∷ t))
 
--- a feeder told by our own numbers, as Section.own-feeder asks
+-- "With LEITSTELLENKENNUNG 0, LinienID, RichtungsID and ASBID are empty, and ZUB_LI_NR and ZUB_ORT_REF_ORT lie above 0"
 pub record OwnFeeder (vs : Record) (c x : ℕ) : Type 0 where
   pub centre : Is vs c 0
   pub line : Above vs (c + 1)
@@ -107,7 +107,7 @@ pub record OwnFeeder (vs : Record) (c x : ℕ) : Type 0 where
   pub direction_id : Empty vs (x + 1)
   pub area_id : Empty vs (x + 2)
 
--- a feeder of another control room told by its texts, as Section.foreign-feeder asks
+-- "with 1 to 255 the three texts are filled, and ZUB_LI_NR, ZUB_LI_RI_NR and ZUB_ORT_REF_ORT are 0"
 pub record ForeignFeeder (vs : Record) (c x : ℕ) : Type 0 where
   pub centre : Above vs c
   pub line : Is vs (c + 1) 0
@@ -117,7 +117,7 @@ pub record ForeignFeeder (vs : Record) (c x : ℕ) : Type 0 where
   pub direction_id : Filled vs (x + 1)
   pub area_id : Filled vs (x + 2)
 
--- a record's values break a rule: the two points, type and number together, are the same; the feeder is told in neither of the two ways
+-- a record's values break a rule: "the two points, type and number together", are the same; the feeder is told in neither of the two ways
 pub data Breaks (vs : Record) : Rule → Type 0 where
   same_points : {p : ℕ} → get_or vs p (number 0) ≡ get_or vs (p + 2) (number 0) → get_or vs (p + 1) (number 0) ≡ get_or vs (p + 3) (number 0) → Breaks vs (points_differ p)
   neither_way : {c x : ℕ} → ¬ OwnFeeder vs c x → ¬ ForeignFeeder vs c x → Breaks vs (feeder_combined c x)
@@ -134,7 +134,7 @@ pub record RecLine (latin : Bool) (t : ℕ) (o : Order) (ms : List ℕ) (vs : Re
   pub rules : (r : Rule) → Memᴰ r (rules t) → ¬ Breaks vs r
   pub filled : ¬ Memᴰ (words O.Suggestion []) vs
 
--- i stands above the mark before it
+-- "Several marks of one record rise strictly": i stands above the mark before it
 pub data Rises (i : ℕ) : List ℕ → Type 0 where
   lone : Rises i []
   above : {m : ℕ} {ms : List ℕ} → m < i → Rises i (m ∷ ms)
@@ -146,7 +146,7 @@ pub record MarkLine (latin : Bool) (t : ℕ) (o : Order) (ms : List ℕ) (i : �
   pub may : may_mark t o i ≡ true
   pub rises : Rises i ms
 
--- an `end` line that counts n
+-- "`end; count`"
 pub record EndLine (latin : Bool) (n : ℕ) (l : Bytes) : Type 0 where
   pub says : Says latin End l
   pub count : Bytes
@@ -171,8 +171,7 @@ pub data Records (latin : Bool) (t : ℕ) (o : Order) (n : ℕ) : List ℕ → L
       RecLine latin t o ms vs l → Records latin t o n [] ls rs → Records latin t o n ms (l ∷ ls) (vs ∷ rs)
   the_end : {l : Bytes} {ls : List Bytes} → EndLine latin n l → Silence latin ls → Records latin t o n [] (l ∷ ls) []
 
--- these lines denote table t with the records rs, which `end` counts. A section's first line is its `tbl` line, so that none is passed over
--- before it
+-- these lines denote table t with the records rs: "The count equals the number of `rec` lines."
 abbrev pub Denotes : Bool → List Bytes → ℕ → List Record → Type 0
 Denotes latin ls t rs =
     (o : Order) × Then latin (TblLine latin t) (Then latin (AtrLine latin t o)

@@ -34,7 +34,7 @@ place_of s i f = place (f - 1) (order_in (section_at s i).lines)
 unfoldable pub own_text : Bytes → ℕ → ℕ → ℕ → Bytes
 own_text s i r f = own_bytes (record_text (get_or (fields (record_of (section_at s i) r).rest) (place_of s i f) []))
 
--- whose it is: the owner that its value has
+-- "Each text handed out says whose it is": its owner is the one that its value has
 unfoldable pub text_owner : Bytes → ℕ → ℕ → ℕ → Owner
 text_owner s i r f = owner_of (record_of (section_at s i) r).mark (suc (place_of s i f))
 
@@ -73,7 +73,7 @@ cells_in t o m at (l ∷ ls) =
 unfoldable pub cells_of : Section → List ℕ
 cells_of x = cells_in (table_index x.lines) (order_in x.lines) 0 x.place x.lines
 
--- as reading one record is refused, but for the record; then 21 for too little room
+-- "the first of 1, 2, 24 for the section, the section's verdict", then 21 for too little room
 unfoldable pub table_refusal : Bytes → ℕ → Refusal
 table_refusal s i = earlier (find_refusal s i) (verdict_of i (row_at s i))
 

@@ -1,4 +1,4 @@
--- "Header values are the texts, date, time and character set, not the mode or the date's form."
+-- A sound header's values: "the texts, date, time and character set, not the mode or the date's form".
 use Rattle.std.specs.Prelude.{Bool, false, ◌||◌, List, [], ◌∷◌, ℕ, eqb, get_or}
 use Rattle.std.proofs.Math.Option.{Option, none, some}
 use Rattle.page.specs.Bytes.{Bytes, pick, moved}
@@ -30,7 +30,6 @@ pub record Head : Type 0 where
 unfoldable pub field_in : ℕ → ℕ → List Bytes → Bytes
 field_in k i ls = get_or (fields (line_of k 0 ls).rest) i []
 
--- "Header texts stay as written": with the spaces at their end
 unfoldable pub text_in : ℕ → List Bytes → Bytes
 text_in k ls = own_bytes (text_of (field_in k 0 ls))
 
@@ -44,7 +43,7 @@ form_in ls = mod_form (fields (line_of Mod 0 ls).rest)
 unfoldable pub latin_in : List Bytes → Bool
 latin_in ls = names_latin (field_in Chs 0 ls)
 
--- whether `dve` and `fft` stand is kept
+-- "Whether `dve` and `fft` stand is kept."
 unfoldable pub text_if : ℕ → List Bytes → Option Bytes
 text_if k ls = pick (stands_in k ls) (some (text_in k ls)) none
 

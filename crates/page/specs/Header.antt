@@ -14,7 +14,7 @@ abbrev pub is_text : Option Bytes → Bool
 is_text none = false
 is_text (some t) = true
 
--- "with `DD.MM.YYYY` or `YYYY/MM/DD`, `HH:MM:SS`, and `free` or `aligned`": the date's form, or 0
+-- "`mod`, with `DD.MM.YYYY` or `YYYY/MM/DD`, `HH:MM:SS`, and `free` or `aligned`": the date's form, or 0
 unfoldable pub form_named : Bytes → ℕ
 form_named f = pick (same f (bytes "DD.MM.YYYY")) 1 (pick (same f (bytes "YYYY/MM/DD")) 2 0)
 
@@ -25,7 +25,7 @@ mod_form fs =
     && (same (get_or fs 2 []) (bytes "free") || same (get_or fs 2 []) (bytes "aligned")))
     (form_named (get_or fs 0 [])) 0
 
--- "`src` holds a text", a date and a time: Dates says which
+-- "`src` holds a text, a quoted date and a quoted time"
 unfoldable pub src_ok : ℕ → List Bytes → Bool
 src_ok form fs = eqb (length fs) 3 && is_text (text_of (get_or fs 0 [])) && date_ok form (get_or fs 1 []) && time_ok (get_or fs 2 [])
 
@@ -69,28 +69,31 @@ meet k m =
 abbrev pub met_none : ℕ → Met
 met_none form = record { form = form; src = false; chs = false; ver = false; ifv = false; dve = false; fft = false }
 
+unfoldable pub head_choose : Bool → Heading → Heading → Heading
+head_choose true x y = x
+head_choose false x y = y
+
 -- "The first other line is `mod`"
 unfoldable pub mod_step : ℕ → List Bytes → Heading
-mod_step k fs = pick (eqb k Mod && not (eqb (mod_form fs) 0)) (H.Go (met_none (mod_form fs))) H.Stop
+mod_step k fs = head_choose (eqb k Mod && not (eqb (mod_form fs) 0)) (H.Go (met_none (mod_form fs))) H.Stop
 
 -- "Then `src`, `chs`, `ver`, `ifv` once each and `dve`, `fft` at most once, in any order."
 unfoldable pub other_step : Met → ℕ → List Bytes → Heading
-other_step m k fs = pick (not (met_before k m) && holds k m.form fs) (H.Go (meet k m)) H.Stop
+other_step m k fs = head_choose (not (met_before k m) && holds k m.form fs) (H.Go (meet k m)) H.Stop
 
 -- "Blank and `com` lines may stand anywhere in it." c is the line's content
--- "Outside a section a mark is an ordinary comment": nothing is asked of what a `com` line says
 unfoldable pub head_step : Met → Bytes → Heading
 head_step m c =
-    pick (clean false c)
-    (pick (blank c || eqb (command c) Com) (H.Go m)
-    (pick (eqb m.form 0) (mod_step (command c) (fields (rest c))) (other_step m (command c) (fields (rest c)))))
+    head_choose (clean false c)
+    (head_choose (blank c || eqb (command c) Com) (H.Go m)
+    (head_choose (eqb m.form 0) (mod_step (command c) (fields (rest c))) (other_step m (command c) (fields (rest c)))))
     H.Stop
 
 -- is nothing missing?
 unfoldable pub complete : Met → Bool
 complete m = not (eqb m.form 0) && m.src && m.chs && m.ver && m.ifv
 
--- 2: "header breaks a rule; first such line given, else the header's line count if something is missing": n lines have been read
+-- "first such line given, else the header's line count if something is missing": n lines have been read
 unfoldable pub head_end : Met → ℕ → Finding
 head_end m n = pick (complete m) (record { verdict = 0; line = 0 }) (record { verdict = 2; line = n })
 

@@ -3,8 +3,8 @@ use Rattle.std.specs.Prelude.{Bool, true, false, ◌&&◌, ◌||◌, List, [], �
 use Prim.Native.String.{String}
 use Rattle.page.specs.Bytes.{Bytes, bytes, pick, same, all, until, no_space, trim}
 
--- "A line ends at LF"; "Bytes after the last LF, if any, are a last line. A whole line includes its end; only a file's last line may lack LF."
--- b in front of lines: as a line of its own if it is an LF, and else in the first of them, so that no line but the last is left without one
+-- "A line ends at LF. Bytes after the last LF, if any, are a last line. A whole line includes its end."
+-- b in front of lines: as a line of its own if it is an LF, and else in the first of them
 abbrev pub in_front : Bool → ℕ → List Bytes → List Bytes
 in_front true b ls = (b ∷ []) ∷ ls
 in_front false b [] = (b ∷ []) ∷ []
@@ -19,11 +19,6 @@ unfoldable pub joined : List Bytes → Bytes
 joined [] = []
 joined (l ∷ ls) = l ++ joined ls
 
--- bytes that are whole lines, each with its LF
-pub data Whole : Bytes → Type 0 where
-  empty : Whole []
-  ends : (a : Bytes) → Whole (a ++ 10 ∷ [])
-
 -- "one CR directly before that LF belongs to the end": how long a line is without its end
 unfoldable pub content_size : Bytes → ℕ
 content_size l =
@@ -32,11 +27,11 @@ content_size l =
 unfoldable pub content : Bytes → Bytes
 content l = take (content_size l) l
 
--- "A line of spaces only, or of nothing, is blank and ignored, but counted": c is a line's content, here and below
+-- "A line of spaces only, or of nothing, is blank": c is a line's content, here and below
 unfoldable pub blank : Bytes → Bool
 blank c = eqb (until no_space c) (length c)
 
--- "Known commands: mod src chs ver ifv dve fft tbl atr frm rec end com eof": a command is its place in this list, from 1
+-- "Known commands": a command is its place in this list, from 1
 unfoldable pub known : List String
 known =
     "mod" ∷ "src" ∷ "chs" ∷ "ver" ∷ "ifv" ∷ "dve" ∷ "fft" ∷ "tbl" ∷ "atr" ∷ "frm" ∷ "rec" ∷ "end" ∷ "com" ∷ "eof" ∷ []
@@ -97,7 +92,7 @@ find i (k ∷ ks) w = pick (same w (bytes k)) i (find (suc i) ks w)
 abbrev pub semicolon : ℕ → Bool
 semicolon b = eqb b 59
 
--- "The command is what stands before the first `;`, spaces trimmed; a line without `;` has none and begins no section."
+-- "The command is what stands before the first `;`, spaces trimmed; a line without `;` has none"
 unfoldable pub command : Bytes → ℕ
 command c = pick (ltb (until semicolon c) (length c)) (find Mod known (trim (take (until semicolon c) c))) Missing
 
@@ -105,7 +100,7 @@ command c = pick (ltb (until semicolon c) (length c)) (find Mod known (trim (tak
 unfoldable pub rest : Bytes → Bytes
 rest c = drop (until semicolon c + 1) c
 
--- "Characters: 32..126 everywhere, and in `rec` lines under ISO8859-1 also every byte 161..255 (451's table prints fewer; this page decides)."
+-- "Characters: 32..126 everywhere, and in `rec` lines under ISO8859-1 also every byte 161..255"
 unfoldable pub allowed : Bool → ℕ → Bool
 allowed wide b = leb 32 b && leb b 126 || leb 161 b && leb b 255 && wide
 

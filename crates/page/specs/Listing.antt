@@ -15,11 +15,10 @@ unfoldable pub numbers : List ℕ → Bytes
 numbers [] = bytes "\n"
 numbers (n ∷ ns) = bytes ";" ++ (decimal n ++ numbers ns)
 
--- "Fields: header verdict and line; section, table number (0 if the `tbl` line fails), verdict, records, line (0 if sound); trailer verdict; file
--- verdict, section, line."
 unfoldable pub printed : String → List ℕ → Bytes
 printed name ns = bytes name ++ numbers ns
 
+-- "section, table number, verdict, records, line"
 unfoldable pub print_row : ℕ → Row → Bytes
 print_row i r = printed "table" (i ∷ r.table ∷ r.verdict ∷ r.records ∷ r.line ∷ [])
 
@@ -27,7 +26,6 @@ unfoldable pub print_rows : ℕ → List Row → Bytes
 print_rows i [] = []
 print_rows i (r ∷ rs) = print_row i r ++ print_rows (suc i) rs
 
--- "A sound file ends `file;0;0;0`."
 unfoldable pub print_refusal : Refusal → Bytes
 print_refusal r = printed "file" (r.number ∷ r.section ∷ r.line ∷ [])
 
@@ -39,6 +37,6 @@ print_tables h s =
 unfoldable pub print_file : Finding → Bytes → Bytes
 print_file h s = printed "header" (h.verdict ∷ h.line ∷ []) ++ (print_tables h s ++ print_refusal (file_refusal s))
 
--- "The program `lister` reads standard input, up to 64 KiB, and lists every section"; "longer input prints the one line `too long`."
+-- "reads standard input, up to 64 KiB"; "longer input prints the one line `too long`"
 unfoldable pub listing : Bytes → Bytes
 listing s = pick (ltb 65536 (length s)) (bytes "too long\n") (print_file (head_of (header_lines s)) s)

@@ -26,11 +26,10 @@ mark_in (some t) = mark_text t
 unfoldable pub remark_of : Bytes → Remark
 remark_of w = mark_in (text_of (trim w))
 
--- "Only these may be marked: field 2 of 485, field 3 of 348, field 3 of 290, field 4 of 998"; "ANSCHLUSS_NAME may be marked": what Tables has
--- as F; field i, from 1, of a section of table t
+-- "Only these may be marked": field i, from 1, of a section of table t
 unfoldable pub may_mark : ℕ → Order → ℕ → Bool
 may_mark t o i = leb 1 i && (get_or (standing t o) (i - 1) no_column).column.fillable
 
--- "Each text handed out says whose it is: the operator's, or a suggestion": whose that of field i is, where a mark of field m waits (0: none)
+-- whose the text of field i is, where a mark of field m waits (0: none)
 unfoldable pub owner_of : ℕ → ℕ → Owner
 owner_of m i = pick (eqb m i) O.Suggestion O.Operator

@@ -14,7 +14,6 @@ pub record Content : Type 0 where
   pub table : ℕ
   pub records : List Record
 
--- "Ordinary comments and blank lines go": they are no part of it
 pub record Model : Type 0 where
   pub head : Head
   pub tables : List Content
@@ -33,7 +32,6 @@ change f zero (x ∷ xs) = f x ∷ xs
 change f (suc k) (x ∷ xs) = x ∷ change f k xs
 
 -- "Filling names section, record and field (from 1) and a text; the result is the written form with that text and its mark."
--- "a fill goes on naming the column by its number in document 01's table": values stand by column
 unfoldable pub fill_record : ℕ → Bytes → Record → Record
 fill_record f t vs = change (λ v. words O.Suggestion t) (f - 1) vs
 
@@ -69,7 +67,7 @@ changed nothing m = m
 changed strip m = strip_model m
 changed (fill i r f t) m = fill_model i r f t m
 
--- which records stay: all of them, as they are
+-- "sections and records keep their order"
 unfoldable pub kept : Stays → Model → Model
 kept St.All m = m
 

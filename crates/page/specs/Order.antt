@@ -12,12 +12,11 @@ unfoldable pub upto : ℕ → ℕ → Order
 upto i zero = []
 upto i (suc n) = i ∷ upto (suc i) n
 
--- document 01's own, which is 452's and the written file's
+-- document 01's own: "The written file uses 452's order"
 unfoldable pub listed_order : ℕ → Order
 listed_order t = upto 0 (width t)
 
--- "The reading of `atr` must now say which column stands where, and each reader of `frm`, records and marks uses it": the columns that its fields
--- name, one past the last for a field that names none
+-- "The reading of `atr` must now say which column stands where": the columns that its fields name, one past the last for a field that names none
 unfoldable pub order_of : ℕ → List Bytes → Order
 order_of t fs = map (find 0 (map (λ (c : Named). c.name) (columns t))) fs
 
@@ -26,7 +25,7 @@ unfoldable pub often : ℕ → Order → ℕ
 often c [] = 0
 often c (x ∷ o) = pick (eqb x c) 1 0 + often c o
 
--- "VDV 451 says that records follow `atr`, so any arrangement of a table's columns, each once, shall be read": n columns
+-- "any arrangement of a table's columns, each once": n columns
 unfoldable pub arranged : ℕ → Order → Bool
 arranged n o = eqb (length o) n && all (λ c. eqb (often c o) 1) (upto 0 n)
 
@@ -43,7 +42,7 @@ place c (x ∷ o) = pick (eqb x c) 0 (suc (place c o))
 unfoldable pub by_column : Order → List Bytes → List Bytes
 by_column o fs = map (λ (c : ℕ). get_or fs (place c o) []) (upto 0 (length o))
 
--- "A mark's number counts in the file's own order": the column, from 1, of field m, from 1; 0: none
+-- the column, from 1, of field m, from 1; 0: none
 unfoldable pub column_in : Order → ℕ → ℕ
 column_in o zero = 0
 column_in o (suc m) = suc (get_or o m m)

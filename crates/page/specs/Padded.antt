@@ -18,21 +18,21 @@ padded_file =
 
 unfoldable pub padded_points : List Pair
 padded_points =
-    -- spaces at the end of a text do not belong to it: those at its front do
+    -- "Spaces at the end of a text in a record no longer belong to it": those at its front do
     (file_case padded_file gives files 0 0 0) ∷
     (value_case padded_file 1 1 2 gives a_value (G.Is (Va.Words (record { from = 206; to = 212; owner = O.Operator })))) ∷
     (value_case padded_file 2 1 3 gives a_value (G.Is (Va.Words (record { from = 369; to = 371; owner = O.Operator })))) ∷
     (value_case padded_file 2 1 4 gives a_value (G.Is (Va.Words (record { from = 379; to = 382; owner = O.Operator })))) ∷
-    -- a text of spaces only is empty: it stands directly behind its opening quote
+    -- "A text of spaces only is empty": it stands directly behind its opening quote
     (value_case padded_file 1 2 2 gives a_value (G.Is (Va.Words (record { from = 225; to = 225; owner = O.Operator })))) ∷
-    -- 13, 15, 22 and a fill's 11 by what is left of it
+    -- "13 measures the trimmed text, and 15, 22 and a fill's 11 go by it"
     (section_case true (point_types "rec; 7; 1; \"123456 \"; \"\"\nend; 1\n") gives says 998 1 0 0) ∷
     (section_case true (point_types "rec; 7; 1; \" 123456\"; \"\"\nend; 1\n") gives says 998 0 13 4) ∷
     (section_case true (versions "com; \"SUGGESTED 2\"\nrec; 7; \"  \"\nend; 1\n") gives says 485 0 15 5) ∷
     (fill_case padded_file 1 1 2 (bytes "Summer") gives a_fill (W.Refused (refusal 22 0 0))) ∷
     (fill_case padded_file 1 2 2 (bytes "  ") gives a_fill (W.Refused (refusal 11 0 0))) ∷
     (fill_case padded_file 1 2 2 (bytes "1234567890123456789012345678901234567890  ") gives a_fill (W.Length 448)) ∷
-    -- a fill's text is trimmed too
+    -- "a fill's text is trimmed likewise"
     (fill_case padded_file 1 2 2 (bytes "Summer ") gives a_fill (W.Length 414)) ∷
     -- the empty text and one of spaces are one second key
     (file_case
@@ -43,7 +43,7 @@ padded_points =
     a_form
     (head ++
     (versions "rec; 7; \"Winter\"\nrec; 8; \"\"\nend; 2\n" ++ (point_types "rec; 7; 1; \"HP\"; \"a\"\"\"\nend; 1\n" ++ bytes "eof; 2\n")))) ∷
-    -- header texts keep their spaces
+    -- "Header texts stay as written."
     (form_case (head ++ bytes "fft; \"x \"\neof; 0\n") gives a_form (head ++ bytes "fft; \"x \"\neof; 0\n")) ∷
     []
 

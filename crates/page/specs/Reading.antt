@@ -10,7 +10,7 @@ use Rattle.page.specs.Marks.{owner_of}
 use Rattle.page.specs.Section.{field_of}
 use Rattle.page.specs.Records.{table_index, order_in}
 use Rattle.page.specs.Places.{Standing, field_span, record_at}
-use Rattle.page.specs.Answers.{refusal, sound, earlier, refuse-if, headed, listed, got}
+use Rattle.page.specs.Answers.{refusal, sound, earlier, refuse-if, checked, headed, listed, got}
 use Rattle.page.specs.File.{header_refusal, row_of, rows_of, file_refusal}
 use Rattle.page.specs.declared.Column.{Column}
 use Rattle.page.specs.declared.Field.{Field}
@@ -20,6 +20,7 @@ use Rattle.page.specs.declared.Value.{Value}
 use Rattle.page.specs.declared.Value.TheVariants as Va
 use Rattle.page.specs.declared.Row.{Row}
 use Rattle.page.specs.declared.Refusal.{Refusal}
+use Rattle.page.specs.declared.Checked.{Checked}
 use Rattle.page.specs.declared.Headed.{Headed}
 use Rattle.page.specs.declared.Listed.{Listed}
 use Rattle.page.specs.declared.Got.{Got}
@@ -28,7 +29,7 @@ use Rattle.page.specs.declared.Got.{Got}
 unfoldable pub header_of : Bytes → Headed
 header_of s = headed (header_refusal s) (header_values (header_lines s))
 
--- 24: "no such section, record or field"; i is none of n, counted from 1
+-- i is none of n, counted from 1
 unfoldable pub outside : ℕ → ℕ → Bool
 outside i n = eqb i 0 || ltb n i
 
@@ -41,7 +42,7 @@ section_at s i = get_or (sections s) (i - 1) no_section
 unfoldable pub row_at : Bytes → ℕ → Row
 row_at s i = row_of (latin_of s) (section_at s i)
 
--- what comes before a section is read
+-- "the first of 1, 2, 24 for the section"
 unfoldable pub find_refusal : Bytes → ℕ → Refusal
 find_refusal s i = earlier (header_refusal s) (refuse-if (outside i (length (sections s))) 24)
 
@@ -54,8 +55,8 @@ unfoldable pub list_refusal : Bytes → ℕ → Refusal
 list_refusal s room = earlier (header_refusal s) (refuse-if (ltb room (length (sections s))) 21)
 
 -- "Listing is refused by 1, 2 and 21 only and then writes no row; other verdicts go into the rows and the file's answer."
-unfoldable pub list_of : Bytes → ℕ → Refusal
-list_of s room = earlier (list_refusal s room) (file_refusal s)
+unfoldable pub list_of : Bytes → ℕ → Checked
+list_of s room = checked (earlier (list_refusal s room) (file_refusal s))
 
 -- "Spare rows keep their values."
 unfoldable pub rows_after : Bytes → List Row → List Row

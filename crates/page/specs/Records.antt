@@ -13,7 +13,7 @@ use Rattle.page.specs.declared.Remark.{Remark}
 use Rattle.page.specs.declared.Remark.TheVariants as R
 use Rattle.page.specs.declared.Column.{Column}
 
--- "a record's value is from now on a number, a missing number or a text with its owner. That touches every table's record."
+-- "a record's value is from now on a number, a missing number or a text with its owner"
 pub data Datum : Type 0 where
   number : ℕ → Datum
   missing : Datum
@@ -50,7 +50,6 @@ waiting m (R.Mark i) = i
 unfoldable pub waits : ℕ → Bytes → ℕ
 waits m c = pick (eqb (command c) Com) (waiting m (remark_of (rest c))) m
 
--- "Records and marks are compared by column in demands 2 and 3."
 unfoldable pub record_in : ℕ → Order → ℕ → Bytes → Record
 record_in t o m c = values_of (column_in o m) 1 (columns t) (by_column o (fields (rest c)))
 
@@ -74,7 +73,7 @@ atr_in (l ∷ ls) = pick (eqb (command (content l)) Atr) (rest (content l)) (atr
 unfoldable pub order_in : List Bytes → Order
 order_in ls = order_of (table_index ls) (fields (atr_in ls))
 
--- none of a refused section
+-- "A refused section hands out no records."
 unfoldable pub entries_of : Bool → List Bytes → List Entry
 entries_of latin ls = pick (eqb (outcome latin ls).verdict 0) (entries (table_index ls) (order_in ls) 0 0 ls) []
 

@@ -2,7 +2,7 @@
 use Rattle.std.specs.Prelude.{◌≡◌, Bool, true, false, ◌⊎◌, ℕ, zero, suc, ◌≤◌, ◌<◌, eqb, length}
 use mathlib.Core.List.{List, [], ◌∷◌, ◌++◌, map, Memᴰ}
 use Rattle.std.proofs.Math.Option.{none, some}
-use Rattle.page.specs.Bytes.{Bytes, bytes, pick}
+use Rattle.page.specs.Bytes.{Bytes, bytes}
 use Rattle.page.specs.Lines.{content, blank, command, rest, clean, Tbl, Atr, Frm, Rec, End, Com, Unknown, Missing}
 use Rattle.page.specs.Fields.{number_of}
 use Rattle.page.specs.Tables.{Named, Rule, rule_number, TABLES, table_at, name_at, rules}
@@ -32,12 +32,16 @@ abbrev pub FirstBroken : List Law → ℕ → Type 0
 FirstBroken [] v = ⊥
 FirstBroken (x ∷ xs) v = (x.Broken × (x.number ≡ v)) ⊎ (¬ x.Broken × FirstBroken xs v)
 
+abbrev pub either_laws : Bool → List Law → List Law → List Law
+either_laws true x y = x
+either_laws false x y = y
+
 -- the marks that wait, where the last one is of field m (0: none)
 abbrev pub marks_of : ℕ → List ℕ
 marks_of zero = []
 marks_of (suc m) = suc m ∷ []
 
--- command k is in its turn
+-- "known command out of its order"
 abbrev pub InOrder : Phase → ℕ → Type 0
 InOrder P.Tbl k = k ≡ Tbl
 InOrder (P.Atr t) k = k ≡ Atr
@@ -48,13 +52,13 @@ InOrder (P.Ended t n) k = ⊥
 abbrev pub One : List Bytes → Type 0
 One fs = (f : Bytes) × (fs ≡ f ∷ [])
 
--- 13: a number out of range, or a text over its size
+-- 13: "number out of range, or text over its size, a doubled quote counting once"
 pub data Outside (c : Column) (f : Bytes) : Type 0 where
   negative : {n : ℕ} → c.text ≡ false → number_of f ≡ N.Minus n → Outside c f
   out_of_range : {n : ℕ} → c.text ≡ false → number_of f ≡ N.Plus n → ¬ ((c.lo ≤ n) × (n ≤ c.hi)) → Outside c f
   over_size : {t : Bytes} → c.text ≡ true → record_text f ≡ some t → c.hi < length t → Outside c f
 
--- 26: a number that is no day, where one is asked
+-- "26, no such day"
 pub record NoSuchDay (c : Column) (f : Bytes) : Type 0 where
   pub number : c.text ≡ false
   pub day : c.day ≡ true
@@ -62,7 +66,7 @@ pub record NoSuchDay (c : Column) (f : Bytes) : Type 0 where
   pub reads : number_of f ≡ N.Plus value
   pub unreal : ¬ Day value
 
--- a field's, from the left: 11 or 12, then 13, then 26
+-- "each field from the left (11 or 12, then 13)"; "26, no such day, at its field directly after 13"
 abbrev pub kind_law : Bool → Bool → Bytes → Law
 kind_law true optional f = law 11 (record_text f ≡ none)
 kind_law false optional f = law 12 ((number_of f ≡ N.Nothing) × ¬ ((optional ≡ true) × (f ≡ [])))
@@ -78,31 +82,29 @@ abbrev pub rules_laws : (Rule → Type 0) → List Rule → List Law
 rules_laws B [] = []
 rules_laws B (r ∷ rs) = law (rule_number r) (B r) ∷ rules_laws B rs
 
--- a `rec` line's, in the order of Section.rec-verdict
-abbrev pub record_laws : ℕ → Order → List ℕ → List Bytes → List Law
-record_laws t o ms fs =
-    fields_laws (standing t o) fs ++
-    (rules_laws (λ (r : Rule). (vs : Record) × Reads t o ms fs vs × Breaks vs r) (rules t) ++
-    (law 15 ((vs : Record) × Reads t o ms fs vs × Memᴰ (words O.Suggestion []) vs) ∷ []))
-
+-- "`rec` 10, each field from the left, 14, 15 for a marked empty text"; "25, wrong combination, after 14 and before 15"
 abbrev pub rec_laws : ℕ → Order → List ℕ → List Bytes → List Law
-rec_laws t o ms fs = law 10 (¬ (length fs ≡ length o)) ∷ record_laws t o ms fs
+rec_laws t o ms fs =
+    law 10 (¬ (length fs ≡ length o)) ∷
+    (fields_laws (standing t o) fs ++
+    (rules_laws (λ (r : Rule). (vs : Record) × Reads t o ms fs vs × Breaks vs r) (rules t) ++
+    (law 15 ((vs : Record) × Reads t o ms fs vs × Memᴰ (words O.Suggestion []) vs) ∷ [])))
 
--- an `end` line's, in the order of Section.end-step
+-- "`end` 15 for a mark without record, 10, 12, 16"
 abbrev pub end_laws : List ℕ → ℕ → List Bytes → List Law
 end_laws ms n fs =
     law 15 (¬ (ms ≡ [])) ∷ law 10 (¬ One fs) ∷ law 12 ((f : Bytes) × (fs ≡ f ∷ []) × (number_of f ≡ N.Nothing)) ∷
     law 16 (¬ ((f : Bytes) × (fs ≡ f ∷ []) × (number_of f ≡ N.Plus n))) ∷ []
 
--- those of a command that is in its turn
+-- "`tbl` 10, 7; `atr` 8; `frm` 9"
 abbrev pub command_laws : Phase → Order → ℕ → List Bytes → List Law
 command_laws P.Tbl o k fs = law 10 (¬ One fs) ∷ law 7 (¬ ((t : ℕ) × (t < TABLES) × (fs ≡ bytes (table_at t).name ∷ []))) ∷ []
 command_laws (P.Atr t) o k fs = law 8 (¬ ((q : Order) × Arrangement t q × (fs ≡ map (λ (c : ℕ). bytes (name_at t c)) q))) ∷ []
 command_laws (P.Frm t) o k fs = law 9 (¬ Formats (standing t o) fs) ∷ []
-command_laws (P.Rows t m n) o k fs = pick (eqb k Rec) (rec_laws t o (marks_of m) fs) (end_laws (marks_of m) n fs)
+command_laws (P.Rows t m n) o k fs = either_laws (eqb k Rec) (rec_laws t o (marks_of m) fs) (end_laws (marks_of m) n fs)
 command_laws (P.Ended t n) o k fs = []
 
--- what a `com` line says is no mark, or one that is read, allowed and rising, between `frm` and `end`
+-- "A mark that is unreadable, not allowed, not rising, before `frm` or after `end` is 15 at its own line."
 abbrev pub GoodMark : Phase → Order → Remark → Type 0
 GoodMark p o R.Comment = Unit
 GoodMark p o R.Unreadable = ⊥
@@ -112,13 +114,13 @@ GoodMark (P.Frm t) o (R.Mark i) = ⊥
 GoodMark (P.Rows t m n) o (R.Mark i) = (may_mark t o i ≡ true) × Rises i (marks_of m)
 GoodMark (P.Ended t n) o (R.Mark i) = ⊥
 
--- a line's: 4, 5, 6, then its command's own; a blank line has only 4
+-- "in that line the first of 4, 5, 6, then" its command's own; a blank line has only 4
 unfoldable pub laws : Bool → Phase → Order → Bytes → List Law
 laws latin p o l =
     law 4 (¬ (clean latin (content l) ≡ true)) ∷
-    pick (blank (content l)) []
+    either_laws (blank (content l)) []
     (law 5 ((command (content l) ≡ Missing) ⊎ (command (content l) ≡ Unknown)) ∷
-    pick (eqb (command (content l)) Com) (law 15 (¬ GoodMark p o (remark_of (rest (content l)))) ∷ [])
+    either_laws (eqb (command (content l)) Com) (law 15 (¬ GoodMark p o (remark_of (rest (content l)))) ∷ [])
     (law 6 (¬ InOrder p (command (content l))) ∷ command_laws p o (command (content l)) (fields_of l)))
 
 -- what a line leads to, where what stood before it left p and the order o
@@ -153,19 +155,19 @@ pub data Refused (latin : Bool) (ls : List Bytes) (k v n : ℕ) : Type 0 where
 -- Which of the numbers given back are a section's, and which the file's: listed here, once. What theorems say of a number they say by these
 -- lists, and what sets two numbers apart is computed from them.
 
--- a section's: the numbers of the laws above; "17 to 20 are the file's, never a section's."
+-- a section's: the numbers of the laws above
 abbrev pub section_numbers : List ℕ
 section_numbers = 4 ∷ 5 ∷ 6 ∷ 7 ∷ 8 ∷ 9 ∷ 10 ∷ 11 ∷ 12 ∷ 13 ∷ 26 ∷ 14 ∷ 25 ∷ 15 ∷ 16 ∷ []
 
--- what the file gives before a section is read
+-- "After 1 or 2 no section is read."
 abbrev pub header_numbers : List ℕ
 header_numbers = 1 ∷ 2 ∷ []
 
--- what it gives after that
+-- what else the file gives: "3, the first unsound section in file order, 17, 18, 19, 20"; "17 to 20 are the file's, never a section's"
 abbrev pub later_numbers : List ℕ
 later_numbers = 3 ∷ (section_numbers ++ (17 ∷ 18 ∷ 19 ∷ 20 ∷ []))
 
--- the file's
+-- "The file gives the first of 1, 2, 3, the first unsound section in file order, 17, 18, 19, 20"
 abbrev pub file_numbers : List ℕ
 file_numbers = header_numbers ++ later_numbers
 
@@ -176,6 +178,6 @@ gives ns v = any (eqb v) ns
 abbrev pub OneOf : List ℕ → ℕ → Type 0
 OneOf ns v = gives ns v ≡ true
 
--- 0 or one of these
+-- 0, "sound", or one of these
 abbrev pub SoundOr : List ℕ → ℕ → Type 0
 SoundOr ns v = (v ≡ 0) ⊎ OneOf ns v

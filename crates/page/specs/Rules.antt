@@ -2,7 +2,7 @@
 use Rattle.std.specs.Prelude.{◌≡◌, Bool, true, false, ◌||◌, ℕ, ◌+◌, ◌≤◌, ◌<◌, eqb, length, get_or}
 use mathlib.Core.List.{List, [], ◌∷◌, map, Memᴰ}
 use Rattle.page.specs.Bytes.{Bytes, pick}
-use Rattle.page.specs.Lines.{content, blank, command, clean, Mod, Src, Chs, Ver, Ifv, Dve, Fft, Com, Eof}
+use Rattle.page.specs.Lines.{content, blank, command, clean, Mod, Src, Chs, Ver, Ifv, Dve, Fft, Com}
 use Rattle.page.specs.Fields.{number_of}
 use Rattle.page.specs.Tables.{Reference, columns, table_at}
 use Rattle.page.specs.Cut.{Section, sections, header_lines, trailer_lines}
@@ -11,7 +11,7 @@ use Rattle.page.specs.Head.{latin_of}
 use Rattle.page.specs.Records.{Datum, number, missing, words, Record}
 use Rattle.page.specs.File.{limit, by_primary, by_second, key_in, has_key, referred}
 use Rattle.page.specs.Model.{Content}
-use Rattle.page.specs.Grammar.{fields_of, Says, Denotes}
+use Rattle.page.specs.Grammar.{fields_of, Denotes}
 use Rattle.page.specs.declared.Number.TheVariants as N
 use Rattle.page.specs.declared.Owner.TheVariants as O
 use Rattle.page.specs.declared.Column.{Column}
@@ -30,16 +30,12 @@ unfoldable pub times : ℕ → List Bytes → ℕ
 times k [] = 0
 times k (l ∷ ls) = pick (eqb (command (content l)) k) 1 0 + times k ls
 
--- the commands that follow `mod`
-abbrev pub followers : List ℕ
-followers = Src ∷ Chs ∷ Ver ∷ Ifv ∷ Dve ∷ Fft ∷ []
-
 -- a line after `mod`, under the date's form: one of the six commands, with what it must hold
 pub record HeadLine (form : ℕ) (l : Bytes) : Type 0 where
-  pub named : Memᴰ (command (content l)) followers
+  pub named : Memᴰ (command (content l)) (Src ∷ Chs ∷ Ver ∷ Ifv ∷ Dve ∷ Fft ∷ [])
   pub holds : holds (command (content l)) form (fields_of l) ≡ true
 
--- a sound header: `mod` first among the lines that say something, then four commands once each and two at most once, in any order
+-- "The first other line is `mod`. Then `src`, `chs`, `ver`, `ifv` once each and `dve`, `fft` at most once, in any order."
 pub record SoundHeader (ls : List Bytes) : Type 0 where
   pub clean : Every (λ l. clean false (content l) ≡ true) ls
   pub first : Bytes
@@ -51,19 +47,15 @@ pub record SoundHeader (ls : List Bytes) : Type 0 where
   pub once : Every (λ k. times k others ≡ 1) (Src ∷ Chs ∷ Ver ∷ Ifv ∷ [])
   pub at_most_once : Every (λ k. times k others ≤ 1) (Dve ∷ Fft ∷ [])
 
--- `eof; n`, n the number of `tbl` lines
-pub record EofLine (n : ℕ) (l : Bytes) : Type 0 where
-  pub says : Says false Eof l
-  pub count : Bytes
-  pub alone : fields_of l ≡ count ∷ []
-  pub reads : number_of count ≡ N.Plus n
-
--- only blank lines after it
+-- "`eof; n`, n the number of `tbl` lines, only blank lines after it"
 pub record SoundTrailer (n : ℕ) (ls : List Bytes) : Type 0 where
   pub first : Bytes
   pub others : List Bytes
   pub split : ls ≡ first ∷ others
-  pub eof : EofLine n first
+  pub clean : clean false (content first) ≡ true
+  pub count : Bytes
+  pub alone : fields_of first ≡ count ∷ []
+  pub reads : number_of count ≡ N.Plus n
   pub silent : Every (λ l. blank (content l) ≡ true) others
 
 -- each section denotes its table
@@ -88,7 +80,7 @@ Apart d f xs = (i j : ℕ) → i < j → j < length xs → ¬ (f (get_or xs i d)
 abbrev pub OneKey : (Column → Bool) → Content → Type 0
 OneKey p c = has_key p c.table ≡ true → Apart [] (key p c.table) c.records
 
--- a reference of a record finds its parent in the tables cs
+-- "References go to the named table's primary key."
 pub record Meets (cs : List Content) (vs : Record) (r : Reference) : Type 0 where
   pub table : Content
   pub here : Memᴰ table cs

@@ -1,4 +1,4 @@
--- The listing example of document 01: "it prints exactly" this.
+-- The listing example of document 01, printed exactly.
 use Rattle.std.specs.Prelude.{◌≡◌, refl, List, [], ◌∷◌, ◌++◌}
 use Prim.Native.String.{String}
 use Rattle.page.specs.Bytes.{Bytes, bytes}

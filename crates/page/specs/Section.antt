@@ -22,21 +22,26 @@ use Rattle.page.specs.declared.Step.{Step}
 use Rattle.page.specs.declared.Step.TheVariants as S
 use Rattle.page.specs.declared.Outcome.{Outcome}
 
+-- which of two steps
+unfoldable pub choose : Bool → Step → Step → Step
+choose true x y = x
+choose false x y = y
+
 -- the first of two numbers that is one
 abbrev pub first_of : ℕ → ℕ → ℕ
 first_of v w = pick (eqb v 0) w v
 
--- "`tbl` 10, 7": 10 is "field count of `tbl`, `rec` or `end`", 7 "unknown table"
+-- `tbl; name`: 10, 7
 unfoldable pub tbl_step : List Bytes → Step
 tbl_step fs =
-    pick (eqb (length fs) 1)
-    (pick (ltb (table_named (get_or fs 0 [])) TABLES) (S.Go (P.Atr (table_named (get_or fs 0 [])))) (S.Stop 7)) (S.Stop 10)
+    choose (eqb (length fs) 1)
+    (choose (ltb (table_named (get_or fs 0 [])) TABLES) (S.Go (P.Atr (table_named (get_or fs 0 [])))) (S.Stop 7)) (S.Stop 10)
 
--- "`atr` 8": "`atr` differs" and, since any arrangement is read, "8 is now given exactly if the names are no such arrangement."
+-- "8 is now given exactly if the names are no such arrangement"
 unfoldable pub atr_step : ℕ → List Bytes → Step
-atr_step t fs = pick (arranged (width t) (order_of t fs)) (S.Go (P.Frm t)) (S.Stop 8)
+atr_step t fs = choose (arranged (width t) (order_of t fs)) (S.Go (P.Frm t)) (S.Stop 8)
 
--- "A format is `num[n.0]` or `char[n]` as the column's kind asks, n from 1 to 255 without leading zeros"
+-- "A format is `num[n.0]` or `char[n]` as the column's kind asks, n from 1 to 255 without leading zeros": 9
 abbrev pub no_digit : ℕ → Bool
 no_digit b = not (digit b)
 
@@ -53,24 +58,22 @@ unfoldable pub format_ok : Bool → Bytes → Bool
 format_ok true w = formed (bytes "char[") (bytes "]") w
 format_ok false w = formed (bytes "num[") (bytes ".0]") w
 
--- one format for each column as it stands
+-- "`frm` with one format a column"
 unfoldable pub formats_ok : List Named → List Bytes → Bool
 formats_ok [] [] = true
 formats_ok [] (f ∷ fs) = false
 formats_ok (c ∷ cs) [] = false
 formats_ok (c ∷ cs) (f ∷ fs) = format_ok c.column.text f && formats_ok cs fs
 
--- "`frm` 9": "`frm` differs"
--- "it limits no value", against "The size in `frm` cuts or refuses a text": no format is carried on to the records
 unfoldable pub frm_step : ℕ → Order → List Bytes → Step
-frm_step t o fs = pick (formats_ok (standing t o) fs) (S.Go (P.Rows t 0 0)) (S.Stop 9)
+frm_step t o fs = choose (formats_ok (standing t o) fs) (S.Go (P.Rows t 0 0)) (S.Stop 9)
 
 -- the text of a record's field: its own bytes, and where it stands in the field, between the quotes
 pub record Wording : Type 0 where
   pub own : Bytes
   pub span : Span
 
--- it ends before the spaces that stand before the closing quote
+-- "Spaces at the end of a text in a record no longer belong to it": it ends before those that stand before the closing quote
 abbrev pub own_span : Bytes → Span
 own_span f = record { from = 1; to = keep space (take (length f - 1) f) }
 
@@ -78,7 +81,6 @@ abbrev pub worded : Bytes → Option Bytes → Option Wording
 worded f none = none
 worded f (some t) = some (record { own = unpadded t; span = own_span f })
 
--- "13 measures the trimmed text, and 15, 22 and a fill's 11 go by it."
 unfoldable pub words_of : Bytes → Option Wording
 words_of f = worded f (text_of f)
 
@@ -89,7 +91,7 @@ own_of (some x) = some x.own
 unfoldable pub record_text : Bytes → Option Bytes
 record_text f = own_of (words_of f)
 
--- 11: "not a text"; 13: "number out of range, or text over its size, a doubled quote counting once"
+-- "11 or 12, then 13": 13 is a number out of range, or a text over its size, a doubled quote counting once; "13 measures the trimmed text"
 unfoldable pub text_field : ℕ → Option Wording → Field
 text_field size none = F.Refused 11
 text_field size (some x) = pick (leb (length x.own) size) (F.Text x.span) (F.Refused 13)
@@ -98,14 +100,12 @@ text_field size (some x) = pick (leb (length x.own) size) (F.Text x.span) (F.Ref
 unfoldable pub day_field : Bool → ℕ → Field
 day_field day n = pick (day && not (real_day n)) (F.Refused 26) (F.Number n)
 
--- 12: "not a number"
 unfoldable pub number_field : Bool → ℕ → ℕ → Number → Field
 number_field day lo hi (N.Plus n) = pick (leb lo n && leb n hi) (day_field day n) (F.Refused 13)
 number_field day lo hi (N.Minus n) = F.Refused 13
 number_field day lo hi N.Nothing = F.Refused 12
 
--- "Where a column there allows NULL, an empty field is a missing number or, in a text column, the empty text": no text column there allows it; a
--- field has no spaces around it
+-- "Where a column there allows NULL, an empty field is a missing number"; a field has no spaces around it
 abbrev pub left_out : Bool → Bytes → Bool
 left_out optional f = optional && eqb (length f) 0
 
@@ -129,7 +129,7 @@ field_number (F.Number n) = 0
 field_number F.Missing = 0
 field_number (F.Refused v) = v
 
--- "Fields are still checked from the left as written": against the columns as they stand
+-- "each field from the left"
 unfoldable pub first_wrong : List Named → List Bytes → ℕ
 first_wrong [] fs = 0
 first_wrong (c ∷ cs) [] = 0
@@ -159,13 +159,13 @@ own_feeder c x fs =
     (empty_at fs x && (empty_at fs (x + 1) && empty_at fs (x + 2)))
     && (not (eqb (amount_at fs (c + 1)) 0) && not (eqb (amount_at fs (c + 3)) 0))
 
--- "with 1 to 255 the three texts are filled, and ZUB_LI_NR, ZUB_LI_RI_NR and ZUB_ORT_REF_ORT are 0, which is therefore within all three ranges."
+-- "with 1 to 255 the three texts are filled, and ZUB_LI_NR, ZUB_LI_RI_NR and ZUB_ORT_REF_ORT are 0"
 unfoldable pub foreign_feeder : ℕ → ℕ → List Bytes → Bool
 foreign_feeder c x fs =
     (not (empty_at fs x) && (not (empty_at fs (x + 1)) && not (empty_at fs (x + 2))))
     && (eqb (amount_at fs (c + 1)) 0 && (eqb (amount_at fs (c + 2)) 0 && eqb (amount_at fs (c + 3)) 0))
 
--- whether a record's fields, by column, break a rule
+-- whether a record's fields, by column, break a rule: "the two points are the same"; "wrong combination"
 unfoldable pub broken : Rule → List Bytes → Bool
 broken (points_differ p) fs = eqb (amount_at fs p) (amount_at fs (p + 2)) && eqb (amount_at fs (p + 1)) (amount_at fs (p + 3))
 broken (feeder_combined c x) fs = not (pick (eqb (amount_at fs c) 0) (own_feeder c x fs) (foreign_feeder c x fs))
@@ -179,59 +179,54 @@ first_broken (r ∷ rs) fs = pick (broken r fs) (rule_number r) (first_broken rs
 unfoldable pub empty_marked : ℕ → List Bytes → Bool
 empty_marked m fs = leb 1 m && empty_at fs (m - 1)
 
--- "`rec` 10, each field from the left (11 or 12, then 13), 14, 15 for a marked empty text"; "25, wrong combination, after 14 and before 15."
+-- "`rec` 10, each field from the left, 14, 15 for a marked empty text"; "25, wrong combination, after 14 and before 15"
 unfoldable pub rec_verdict : ℕ → Order → ℕ → List Bytes → ℕ
 rec_verdict t o m fs =
     pick (eqb (length fs) (width t))
     (first_of (first_wrong (standing t o) fs) (first_of (first_broken (rules t) (by_column o fs)) (pick (empty_marked m fs) 15 0))) 10
 
 unfoldable pub rec_step : ℕ → Order → ℕ → ℕ → List Bytes → Step
-rec_step t o m n fs = pick (eqb (rec_verdict t o m fs) 0) (S.Go (P.Rows t 0 (n + 1))) (S.Stop (rec_verdict t o m fs))
+rec_step t o m n fs = choose (eqb (rec_verdict t o m fs) 0) (S.Go (P.Rows t 0 (n + 1))) (S.Stop (rec_verdict t o m fs))
 
--- "The count equals the number of `rec` lines"; 16: "`end` count wrong"
+-- "`end` 15 for a mark without record, 10, 12, 16": "The count equals the number of `rec` lines."
 unfoldable pub count_step : ℕ → ℕ → Number → Step
-count_step t n (N.Plus c) = pick (eqb c n) (S.Go (P.Ended t n)) (S.Stop 16)
+count_step t n (N.Plus c) = choose (eqb c n) (S.Go (P.Ended t n)) (S.Stop 16)
 count_step t n (N.Minus c) = S.Stop 16
 count_step t n N.Nothing = S.Stop 12
 
--- "`end` 15 for a mark without record, 10, 12, 16."
 unfoldable pub end_step : ℕ → ℕ → ℕ → List Bytes → Step
 end_step t m n fs =
-    pick (eqb m 0) (pick (eqb (length fs) 1) (count_step t n (number_of (get_or fs 0 []))) (S.Stop 10)) (S.Stop 15)
+    choose (eqb m 0) (choose (eqb (length fs) 1) (count_step t n (number_of (get_or fs 0 []))) (S.Stop 10)) (S.Stop 15)
 
 -- "A mark that is unreadable, not allowed, not rising, before `frm` or after `end` is 15 at its own line."
--- "Several marks of one record rise strictly": m is the one before it, 0 for none
 unfoldable pub mark_step : Phase → Order → ℕ → Step
 mark_step P.Tbl o i = S.Stop 15
 mark_step (P.Atr t) o i = S.Stop 15
 mark_step (P.Frm t) o i = S.Stop 15
-mark_step (P.Rows t m n) o i = pick (may_mark t o i && ltb m i) (S.Go (P.Rows t i n)) (S.Stop 15)
+mark_step (P.Rows t m n) o i = choose (may_mark t o i && ltb m i) (S.Go (P.Rows t i n)) (S.Stop 15)
 mark_step (P.Ended t n) o i = S.Stop 15
 
--- 15: "mark misplaced, unreadable, not allowed, not rising, on an empty text, or with no record"; the last two are found at `rec` and `end`
 unfoldable pub com_step : Phase → Order → Remark → Step
 com_step p o R.Comment = S.Go p
 com_step p o R.Unreadable = S.Stop 15
 com_step p o (R.Mark i) = mark_step p o i
 
--- "Besides blank and `com` lines: `tbl; name`, `atr` with exactly the columns below in this order, `frm` with one format a column, any number of
--- `rec`, `end; count`": a line of a known command k, other than `com`, with w after its first `;`; 6: "known command out of its order"
+-- a line of a known command k, other than `com`, with w after its first `;`: "known command out of its order" is 6
 unfoldable pub line_step : Phase → Order → ℕ → Bytes → Step
-line_step P.Tbl o k w = pick (eqb k Tbl) (tbl_step (fields w)) (S.Stop 6)
-line_step (P.Atr t) o k w = pick (eqb k Atr) (atr_step t (fields w)) (S.Stop 6)
-line_step (P.Frm t) o k w = pick (eqb k Frm) (frm_step t o (fields w)) (S.Stop 6)
+line_step P.Tbl o k w = choose (eqb k Tbl) (tbl_step (fields w)) (S.Stop 6)
+line_step (P.Atr t) o k w = choose (eqb k Atr) (atr_step t (fields w)) (S.Stop 6)
+line_step (P.Frm t) o k w = choose (eqb k Frm) (frm_step t o (fields w)) (S.Stop 6)
 line_step (P.Rows t m n) o k w =
-    pick (eqb k Rec) (rec_step t o m n (fields w)) (pick (eqb k End) (end_step t m n (fields w)) (S.Stop 6))
+    choose (eqb k Rec) (rec_step t o m n (fields w)) (choose (eqb k End) (end_step t m n (fields w)) (S.Stop 6))
 line_step (P.Ended t n) o k w = S.Stop 6
 
--- "in that line the first of 4, 5, 6, then" its command's own; 4: "byte not allowed in this line"; 5: "no `;`, or unknown command"; c is the
--- line's content
+-- "in that line the first of 4, 5, 6, then" its command's own; c is the line's content
 unfoldable pub content_step : Bool → Phase → Order → Bytes → Step
 content_step latin p o c =
-    pick (clean latin c)
-    (pick (blank c) (S.Go p)
-    (pick (leb Unknown (command c)) (S.Stop 5)
-    (pick (eqb (command c) Com) (com_step p o (remark_of (rest c))) (line_step p o (command c) (rest c)))))
+    choose (clean latin c)
+    (choose (blank c) (S.Go p)
+    (choose (leb Unknown (command c)) (S.Stop 5)
+    (choose (eqb (command c) Com) (com_step p o (remark_of (rest c))) (line_step p o (command c) (rest c)))))
     (S.Stop 4)
 
 unfoldable pub step : Bool → Phase → Order → Bytes → Step
@@ -257,8 +252,7 @@ table_in (P.Ended t n) = number_at t
 abbrev pub refused : ℕ → ℕ → ℕ → Outcome
 refused t v n = record { table = t; records = 0; verdict = v; line = n }
 
--- 6: "section ends without `end` (place: its last line; only if no line fails)", against "The last table is believed complete though `end` is
--- missing"; n lines have been read
+-- "section ends without `end` (place: its last line; only if no line fails)": n lines have been read
 unfoldable pub finish : Phase → ℕ → Outcome
 finish P.Tbl n = refused 0 6 n
 finish (P.Atr t) n = refused (number_at t) 6 n
@@ -271,7 +265,6 @@ unfoldable pub continue : Step → ℕ → ℕ → (Phase → Outcome) → Outco
 continue (S.Go p) t n further = further p
 continue (S.Stop v) t n further = refused t v n
 
--- "Lines count from 1 in the header and in each section": n stand before these, here and in Header.head-run
 unfoldable pub run : Bool → Phase → Order → ℕ → List Bytes → Outcome
 run latin p o n [] = finish p n
 run latin p o n (l ∷ ls) = continue (step latin p o l) (table_in p) (suc n) (λ q. run latin q (order_after p o (content l)) (suc n) ls)

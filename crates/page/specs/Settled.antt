@@ -2,7 +2,7 @@
 use Rattle.std.specs.Prelude.{◌≡◌, refl, true, List, [], ◌∷◌, ◌++◌, map}
 use Rattle.std.proofs.Math.Option.{none}
 use Rattle.page.specs.Bytes.{bytes}
-use Rattle.page.specs.Lines.{Rec, Unknown, Missing}
+use Rattle.page.specs.Lines.{Unknown, Missing}
 use Rattle.page.specs.Open.{open_all}
 use Rattle.page.specs.Cases.{Case, content_case, field_case, header_case, section_case, file_case, Answer, a_command, a_text, answer, says, heads, files, versions, day_types, point_types, links, head}
 
@@ -21,9 +21,7 @@ line_points =
     (section_case true (versions "end; 0\r") gives says 485 0 4 4) ∷
     (section_case true (versions "end; 0\r\r\n") gives says 485 0 4 4) ∷
     (section_case true (versions "end; 0\r\n") gives says 485 0 0 0) ∷
-    -- a space is byte 32 and nothing else: a tab is no space beside a command, and makes no line blank
-    (content_case (bytes " rec ;") gives a_command Rec) ∷
-    (content_case (bytes "rec\t;") gives a_command Unknown) ∷
+    -- a space is byte 32 and nothing else
     (section_case true (versions "\t\nend; 0\n") gives says 485 0 4 4) ∷
     -- a `tbl` line with a bad byte still begins its section, and then fails by that byte
     (file_case (head ++ bytes "tbl; \u{7f}\neof; 1\n") gives files 4 1 1) ∷
@@ -92,7 +90,7 @@ section_points =
     (section_case true (versions "end; 0\nrec; 7; \"\"\n") gives says 485 0 6 5) ∷
     (section_case true (versions "end; 0\n\ncom; \"x\"\n") gives says 485 0 0 0) ∷
     (section_case true (versions "end; 0\ncom; \"SUGGESTED 2\"\n") gives says 485 0 15 5) ∷
-    -- its last line counts blank lines; a waiting mark is no failing line
+    -- "its last line" counts blank lines; a waiting mark is no failing line
     (section_case true (versions "com; \"SUGGESTED 2\"\n\n") gives says 485 0 6 5) ∷
     -- a wrong number of names is 8, of formats 9
     (section_case true (bytes "tbl; MENGE_TAGESART\natr; BASIS_VERSION; TAGESART_NR\n") gives says 290 0 8 2) ∷
@@ -117,7 +115,7 @@ file_points =
     (file_case (head ++ (versions "rec; 7; \"\"\nrec; 7; \"\"\nend; 2\n" ++ (versions "end; 0\n" ++ bytes "eof; 2\n"))) gives files 17 2 1) ∷
     -- the later of two equal keys is at fault, compared by value
     (file_case (head ++ (versions "rec; 7; \"a\"\n\nrec; 007; \"b\"\nend; 2\n" ++ bytes "eof; 1\n")) gives files 18 1 6) ∷
-    -- Empty texts are allowed and equal each other as keys.
+    -- second keys compare texts by their bytes with doubled quotes undone
     (file_case (head ++ (versions "rec; 7; \"\"\nend; 1\n" ++ (point_types "rec; 7; 1; \"\"; \"\"\nrec; 7; 2; \"\"; \"\"\nend; 2\n" ++ bytes "eof; 2\n"))) gives files 19 2 5) ∷
     -- a reference looks anywhere in the file, and may find no record
     (file_case (head ++ (day_types "rec; 7; 1; \"\"\nend; 1\n" ++ (versions "rec; 7; \"\"\nend; 1\n" ++ bytes "eof; 2\n"))) gives files 0 0 0) ∷

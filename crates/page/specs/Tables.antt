@@ -1,4 +1,4 @@
--- The eight tables of document 01, and the two of document 02 (E3): "The columns, kinds, ranges and keys stand once, as fixed tables."
+-- The eight tables of document 01, and the two of document 02 (E3): "The columns, kinds, ranges and keys stand once".
 use Rattle.std.specs.Prelude.{Bool, true, false, List, [], ◌∷◌, map, ℕ, length, get_or}
 use Prim.Native.String.{String}
 use Rattle.page.specs.Bytes.{Bytes}
@@ -18,11 +18,12 @@ pub record Reference : Type 0 where
 pub data Rule : Type 0 where
   -- "In 225 and 247 the two points, type and number together, differ": p is the column, from 0, where the four of them begin
   points_differ : (p : ℕ) → Rule
-  -- the feeder is told in one of the two ways that Section has: c is the column, from 0, of LEITSTELLENKENNUNG, with the three numbers directly
-  -- behind it, and x that where the three texts begin
+  -- "With LEITSTELLENKENNUNG 0, LinienID, RichtungsID and ASBID are empty, and ZUB_LI_NR and ZUB_ORT_REF_ORT lie above 0; with 1 to 255 the
+  -- three texts are filled, and ZUB_LI_NR, ZUB_LI_RI_NR and ZUB_ORT_REF_ORT are 0": c is the column, from 0, of LEITSTELLENKENNUNG, with the
+  -- three numbers directly behind it, and x that where the three texts begin
   feeder_combined : (c x : ℕ) → Rule
 
--- its number; 14: "the two points are the same"
+-- its number: 14 is "the two points are the same", and "25, wrong combination"
 abbrev pub rule_number : Rule → ℕ
 rule_number (points_differ p) = 14
 rule_number (feeder_combined c x) = 25
@@ -35,29 +36,41 @@ pub record Table : Type 0 where
   pub rules : List Rule
 
 -- "P marks the primary key, C the second key"; F a text that may be marked and filled; N a number that may be missing
-pub record Mark : Type 0 where
-  pub primary : Bool
-  pub second : Bool
-  pub fillable : Bool
-  pub optional : Bool
+pub data Mark : Type 0 where
+  plain P C PC F N : Mark
 
-abbrev pub plain : Mark
-plain = record { primary = false; second = false; fillable = false; optional = false }
+abbrev pub in_primary : Mark → Bool
+in_primary plain = false
+in_primary P = true
+in_primary C = false
+in_primary PC = true
+in_primary F = false
+in_primary N = false
 
-abbrev pub P : Mark
-P = record { primary = true; second = false; fillable = false; optional = false }
+abbrev pub in_second : Mark → Bool
+in_second plain = false
+in_second P = false
+in_second C = true
+in_second PC = true
+in_second F = false
+in_second N = false
 
-abbrev pub C : Mark
-C = record { primary = false; second = true; fillable = false; optional = false }
+abbrev pub may_fill : Mark → Bool
+may_fill plain = false
+may_fill P = false
+may_fill C = false
+may_fill PC = false
+may_fill F = true
+may_fill N = false
 
-abbrev pub PC : Mark
-PC = record { primary = true; second = true; fillable = false; optional = false }
-
-abbrev pub F : Mark
-F = record { primary = false; second = false; fillable = true; optional = false }
-
-abbrev pub N : Mark
-N = record { primary = false; second = false; fillable = false; optional = true }
+-- "Where a column there allows NULL"
+abbrev pub may_miss : Mark → Bool
+may_miss plain = false
+may_miss P = false
+may_miss C = false
+may_miss PC = false
+may_miss F = false
+may_miss N = true
 
 -- a column's kind: a number, a day, a text
 pub data Kind : Type 0 where
@@ -81,10 +94,10 @@ column_of k lo hi size m =
       lo = lo;
       hi = hi;
       size = size;
-      primary = m.primary;
-      second = m.second;
-      fillable = m.fillable;
-      optional = m.optional;
+      primary = in_primary m;
+      second = in_second m;
+      fillable = may_fill m;
+      optional = may_miss m;
     }
 
 -- a number from lo to hi, written with its 452 decimal size; a text of at most `size` bytes
@@ -98,7 +111,6 @@ char name size m = record { name = name; column = column_of a_text 0 size size m
 abbrev pub day : String → Mark → Named
 day name m = record { name = name; column = column_of a_day 1 99999999 8 m }
 
--- "V is BASIS_VERSION, 1..999999999."
 abbrev pub version : Mark → Named
 version m = num "BASIS_VERSION" 1 999999999 9 m
 
@@ -137,12 +149,10 @@ clock name = num name 0 129599 6 P
 abbrev pub seconds : String → Named
 seconds name = num name 0 65532 5 plain
 
--- "References: (1) every table but 485 by V to 485; (2) 348 to 290; in 225, (2) ONR_TYP_NR and (3) UEB_ZIEL_TYP, each with V, to 998; (2) 247 to
--- 225 by its six shared columns"; "REC_UMS refers to 432, 290 and 485."
 abbrev pub to : List ℕ → String → Reference
 to columns target = record { columns = columns; target = target }
 
--- by V, where it is the first column
+-- "(1) every table but 485 by V to 485"
 abbrev pub to_version : Reference
 to_version = to (0 ∷ []) "MENGE_BASIS_VERSIONEN"
 
@@ -150,9 +160,6 @@ abbrev pub table : ℕ → String → List Named → List Reference → List Rul
 table number name columns references rules =
     record { number = number; name = name; columns = columns; references = references; rules = rules }
 
--- "Where the two differ on a value, 452 decides"; "File names, other 452 tables and SQL are left out"; "The control room wants EINZELANSCHLUSS
--- (432) and REC_UMS (232), columns and ranges as source document 001 sections 9.9.1 and 9.9.2 print them, bracketed 0 included, >0 up to the
--- decimal size."
 unfoldable pub all_tables : List Table
 all_tables =
     table 485 "MENGE_BASIS_VERSIONEN" (version P ∷ char "BASIS_VERSION_TEXT" 40 F ∷ []) [] [] ∷
@@ -184,7 +191,6 @@ all_tables =
     []
 
 -- how many tables there are, the columns of the widest, and the most references of one; that it is so is computed in TableLaws
--- "Demands 2 and 3 cover ten tables, with reading proved once over the column table."
 abbrev pub TABLES : ℕ
 TABLES = 10
 

@@ -1,4 +1,4 @@
--- The trailer: "`eof; n`, n the number of `tbl` lines, only blank lines after it." ("From 451's examples.")
+-- The trailer: "`eof; n`, n the number of `tbl` lines, only blank lines after it".
 use Rattle.std.specs.Prelude.{Bool, false, ◌&&◌, List, [], ◌∷◌, ℕ, suc, eqb, length, get_or}
 use Rattle.page.specs.Bytes.{Bytes, pick}
 use Rattle.page.specs.Lines.{content, blank, rest, clean}
@@ -21,7 +21,7 @@ unfoldable pub all_blank : ℕ → List Bytes → Finding
 all_blank n [] = record { verdict = 0; line = 0 }
 all_blank n (l ∷ ls) = pick (blank (content l)) (all_blank (suc n) ls) (record { verdict = 3; line = suc n })
 
--- 3: "trailer breaks a rule"; its line is "0 if no `eof` stands."
+-- "0 if no `eof` stands"
 unfoldable pub trailer_finding : ℕ → List Bytes → Finding
 trailer_finding n [] = record { verdict = 3; line = 0 }
 trailer_finding n (l ∷ ls) = pick (eof_ok n (content l)) (all_blank 1 ls) (record { verdict = 3; line = 1 })

@@ -1,12 +1,12 @@
 -- Writing, filling, stripping into lent output.
-use Rattle.std.specs.Prelude.{Bool, false, not, ◌||◌, List, [], ◌∷◌, ◌++◌, ℕ, ◌-◌, eqb, ltb, length, drop}
+use Rattle.std.specs.Prelude.{Bool, false, not, ◌||◌, ◌++◌, ℕ, ◌-◌, eqb, ltb, length, drop}
 use Rattle.page.specs.Bytes.{Bytes, pick, all, unpadded}
 use Rattle.page.specs.Lines.{allowed}
 use Rattle.page.specs.Tables.{column_at, width}
 use Rattle.page.specs.Cut.{sections}
 use Rattle.page.specs.Head.{latin_of}
 use Rattle.page.specs.Records.{Datum, number, missing, words, table_index}
-use Rattle.page.specs.Answers.{earlier, refuse-if, Question, ask, first-refusal, written}
+use Rattle.page.specs.Answers.{earlier, refuse-if, written}
 use Rattle.page.specs.File.{limit, file_refusal}
 use Rattle.page.specs.Reading.{outside, section_at, row_at}
 use Rattle.page.specs.Model.{model_of, Changes, nothing, strip, fill, changed, kept, datum_at}
@@ -18,7 +18,7 @@ use Rattle.page.specs.declared.Stays.TheVariants as St
 use Rattle.page.specs.declared.Refusal.{Refusal}
 use Rattle.page.specs.declared.Written.{Written}
 
--- "21 exactly if the form is longer than the lent output or than 16,777,216 bytes"; 21: "no room"
+-- "21 exactly if the form is longer than the lent output or than 16,777,216 bytes"
 unfoldable pub put_refusal : Refusal → Bytes → ℕ → Refusal
 put_refusal r form room = earlier r (refuse-if (ltb room (length form) || ltb limit (length form)) 21)
 
@@ -35,17 +35,17 @@ pub record Plan : Type 0 where
   pub changes : Changes
   pub stays : Stays
 
--- lines end in LF, and every record stays
+-- "Each line ends in LF."
 abbrev pub plan : Changes → Plan
 plan c = record { ends = E.Lf; changes = c; stays = St.All }
 
 unfoldable pub form_by : Plan → Bytes → Bytes
 form_by p s = form_of p.ends (changed p.changes (kept p.stays (model_of s)))
 
+-- "Only a file with verdict 0 is written; else its verdict is given."
 unfoldable pub write_form : Bytes → Bytes
 write_form s = form_by (plan nothing) s
 
--- "Only a file with verdict 0 is written; else its verdict is given."
 unfoldable pub write_of : Bytes → ℕ → Written
 write_of s room = put_of (file_refusal s) (write_form s) room
 
@@ -61,26 +61,24 @@ strip_of s room = put_of (file_refusal s) (strip_form s) room
 unfoldable pub strip_after : Bytes → Bytes → Bytes
 strip_after s out = put_after (file_refusal s) (strip_form s) out
 
+-- "Order: verdict, 24, 23, 22, text empty 11, text byte not allowed in a `rec` 4, over 40 bytes 13, 21."
 unfoldable pub empty_datum : Datum → Bool
 empty_datum (number n) = false
 empty_datum missing = false
 empty_datum (words o t) = eqb (length t) 0
 
--- 24: no such section, record or field
 unfoldable pub fill_place : Bytes → ℕ → ℕ → ℕ → Bool
 fill_place s i r f =
     outside i (length (sections s)) || outside r (row_at s i).records || outside f (width (table_index (section_at s i).lines))
 
--- "Order: verdict, 24, 23, 22, text empty 11, text byte not allowed in a `rec` 4, over 40 bytes 13, 21"; 23: "field may not be filled"; 22: "field
--- to fill is not empty"
-unfoldable pub fill_questions : Bytes → ℕ → ℕ → ℕ → Bytes → List Question
-fill_questions s i r f t =
-    ask (fill_place s i r f) 24 ∷ ask (not (column_at (table_index (section_at s i).lines) (f - 1)).fillable) 23
-    ∷ ask (not (empty_datum (datum_at i r f (model_of s)))) 22 ∷ ask (eqb (length t) 0) 11 ∷ ask (not (all (allowed (latin_of s)) t)) 4
-    ∷ ask (ltb 40 (length t)) 13 ∷ []
-
 unfoldable pub fill_refusal : Bytes → ℕ → ℕ → ℕ → Bytes → Refusal
-fill_refusal s i r f t = earlier (file_refusal s) (first-refusal (fill_questions s i r f t))
+fill_refusal s i r f t =
+    earlier (file_refusal s)
+    (earlier (refuse-if (fill_place s i r f) 24)
+    (earlier (refuse-if (not (column_at (table_index (section_at s i).lines) (f - 1)).fillable) 23)
+    (earlier (refuse-if (not (empty_datum (datum_at i r f (model_of s)))) 22)
+    (earlier (refuse-if (eqb (length t) 0) 11)
+    (earlier (refuse-if (not (all (allowed (latin_of s)) t)) 4) (refuse-if (ltb 40 (length t)) 13))))))
 
 unfoldable pub fill_form : Bytes → ℕ → ℕ → ℕ → Bytes → Bytes
 fill_form s i r f t = form_by (plan (fill i r f t)) s

@@ -13,7 +13,7 @@ use Rattle.page.specs.Bytes.{Bytes, bytes, pick, same, all, until, keep, trim}
 use Rattle.page.specs.Lines.{lines, content, blank, known, find, semicolon, command, rest, allowed, clean, Mod, Rec, Missing}
 use Rattle.page.specs.Fields.{fields}
 use Rattle.page.specs.Order.{Order}
-use Rattle.page.specs.Section.{rec_verdict, rec_step, line_step, content_step, step, order_after, table_in, continue, run}
+use Rattle.page.specs.Section.{choose, rec_verdict, rec_step, line_step, content_step, step, order_after, table_in, continue, run}
 use Rattle.page.specs.declared.Phase.{Phase}
 use Rattle.page.specs.declared.Phase.TheVariants as P
 use Rattle.page.specs.declared.Step.TheVariants as S
@@ -68,7 +68,7 @@ module _ (w : Bytes) where
 
   pub plain_step : (latin : Bool) (t : ℕ) (o : Order) (m n : ℕ) → (eqb (rec_verdict t o m (fields w)) 0 && all (allowed latin) w) ≡ true
       → content_step latin (P.Rows t m n) o line ≡ S.Go (P.Rows t 0 (n + 1))
-  unfolding content_step line_step rec_step
+  unfolding content_step choose line_step rec_step
   plain_step latin t o m n e =
       rw (plain_clean latin, and_right (eqb (rec_verdict t o m (fields w)) 0) _ e, plain_blank, plain_command, plain_rest, and_left (eqb (rec_verdict t o m (fields w)) 0) _ e)
 
@@ -113,7 +113,7 @@ module _ (c : Bytes) (k : command c ≡ Rec) where
 
   pub other_step : (latin : Bool) (t : ℕ) (o : Order) (m n : ℕ) → all (allowed latin) (take (until semicolon c) c) ≡ true
       → (eqb (rec_verdict t o m (fields (rest c))) 0 && all (allowed latin) (rest c)) ≡ true → content_step latin (P.Rows t m n) o c ≡ S.Go (P.Rows t 0 (n + 1))
-  unfolding content_step line_step rec_step
+  unfolding content_step choose line_step rec_step
   other_step latin t o m n f e =
       rw (other_clean latin f (and_right (eqb (rec_verdict t o m (fields (rest c))) 0) _ e), other_blank, k, and_left (eqb (rec_verdict t o m (fields (rest c))) 0) _ e)
 

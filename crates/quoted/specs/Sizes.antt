@@ -1,4 +1,4 @@
--- The size of a text: "Count and check it where it stands, with less stack. Every answer remains as it is."
+-- The size of a text, "a doubled quote counting once".
 use Rattle.std.proofs.Math.Option.{Option, none, some}
 use Rattle.std.specs.Prelude.{length}
 use Rattle.page.specs.Bytes.{Bytes}

@@ -51,7 +51,7 @@ module _ (q : Choice) (ls : List Bytes) where
   unfolding again_at
   repeat_none p = line_none (again q) ls p
 
-  pub repeat_at : (i : ℕ) → i < length ls → ((m : ℕ) → m < i → again_at q ls m ≡ false) → again_at q ls i ≡ true → first_line (again q) [] 0 ls ≡ suc i
+  repeat_at : (i : ℕ) → i < length ls → ((m : ℕ) → m < i → again_at q ls m ≡ false) → again_at q ls i ≡ true → first_line (again q) [] 0 ls ≡ suc i
   unfolding again_at
   repeat_at i h p e = line_at (again q) ls i h p e
 

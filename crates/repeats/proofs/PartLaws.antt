@@ -1,13 +1,12 @@
 -- Sections passed in which no key repeats, and the lines passed of one whose keys rise. Assumes nothing.
 use mathlib.Core.Path.{◌≡◌, refl, sym, ◌∙◌}
-use mathlib.Core.Bool.{Bool, true, false, not, false≢true}
+use mathlib.Core.Bool.{Bool, true, false, not}
 use mathlib.Core.List.{List, []}
 use Prim.Native.Nat.{ℕ, ◌+◌, ◌-◌, ◌<◌, ◌≤◌}
-use native.Mathlib.Numerals.{add-one}
 use native.Mathlib.Omega.{arith}
 use borrow.Author.Count.{below_more}
 use lib.ListN.{length, take, drop}
-use Rattle.page.specs.Bytes.{Bytes, pick, same}
+use Rattle.page.specs.Bytes.{Bytes}
 use Rattle.page.specs.Lines.{lines}
 use Rattle.page.specs.Answers.{refusal, sound}
 use Rattle.page.specs.File.{repeats, first_record, filed_of}
@@ -22,10 +21,9 @@ use Rattle.seats.specs.Seating.{seat_at, Ready}
 use Rattle.seats.specs.Faults.{repeat_number, seat_key, scan_end, repeat_line}
 use Rattle.seats.proofs.RepeatLaws.{repeat_is, repeats_none, repeats_at}
 use Rattle.rounds.specs.Rounds.{again_at}
-use Rattle.rounds.proofs.RoundLaws.{not_true}
-use Rattle.rounds.proofs.NumberLaws.{Stands, stands_first, stands_in, stands_next, stands_end, again_here}
-use Rattle.repeats.specs.Parts.{scan_part, meets}
-use Rattle.repeats.proofs.FirstLaws.{repeat_none, repeat_at}
+use Rattle.rounds.proofs.NumberLaws.{Stands, stands_first, stands_next, stands_end, again_here}
+use Rattle.repeats.specs.Parts.{scan_part}
+use Rattle.repeats.proofs.FirstLaws.{repeat_none}
 
 -- no key repeats in the first n sections
 pub record Clean (s : Bytes) (r : Seats) (second : Bool) (n : ℕ) : Type 0 where
@@ -52,56 +50,48 @@ module _ (s : Bytes) (r : Seats) (z : Ready s r) (second : Bool) (i : ℕ) (d : 
         let k : n ≡ n - 1 + 1 = omega arith in
         rw k (sym (repeats_at s r z second i (n - 1) h d.none (part_line (n - 1 + 1) (sym f ∙ k))))
 
--- the first n lines of a section, up to a place: none is a record whose key stands before it, and no key lies above k
-pub record Scanned (q : Choice) (w : Bytes) (k : List ℕ) (at n : ℕ) : Type 0 where
-  pub stands : Stands w at n
-  pub new : (m : ℕ) → m < n → again_at q (lines w) m ≡ false
+-- lines passed of which none is a record whose key stands before it
+pub record Fresh (q : Choice) (w : Bytes) (at : ℕ) : Type 0 where
+  pub count : ℕ
+  pub stands : Stands w at count
+  pub new : (m : ℕ) → m < count → again_at q (lines w) m ≡ false
+
+fresh_first : (q : Choice) (w : Bytes) → Fresh q w 0
+fresh_first q w = record { count = 0; stands = stands_first w; new = λ m h. absurd (omega arith) }
+
+fresh_next : (q : Choice) (w : Bytes) (at e : ℕ) → Fresh q w at → at < length w → e ≡ at + line_size (drop at w) → again q (lines (take at w)) (take (e - at) (drop at w)) ≡ false → Fresh q w e
+fresh_next q w at e f h x y =
+    record {
+      count = f.count + 1;
+      stands = stands_next w at f.count e f.stands h x;
+      new = below_more _ _ f.new (again_here w at f.count e f.stands h x q false (sym y));
+    }
+
+fresh_end : (q : Choice) (w : Bytes) (at : ℕ) → Fresh q w at → length w ≤ at → first_line (again q) [] 0 (lines w) ≡ 0
+fresh_end q w at f h = repeat_none q (lines w) (λ m k. f.new m (omega (arith, stands_end w at f.count f.stands h)))
+
+-- the lines before a place rise up to the key k
+pub record Rising (q : Choice) (w : Bytes) (k : List ℕ) (at : ℕ) : Type 0 where
+  pub fresh : Fresh q w at
   pub topped : Topped q k (lines (take at w))
 
-pub scanned_first : (q : Choice) (w : Bytes) (k : List ℕ) → Scanned q w k 0 0
+pub rising_first : (q : Choice) (w : Bytes) (k : List ℕ) → Rising q w k 0
 unfolding lines
-scanned_first q w k = record { stands = stands_first w; new = λ m h. absurd (omega arith); topped = topped_none q k }
+rising_first q w k = record { fresh = fresh_first q w; topped = topped_none q k }
 
 is_true : (b : Bool) → not b ≡ false → b ≡ true
 is_true true e = refl
 is_true false e = sym e
 
--- a line's key beside the largest one
-module _ (q : Choice) (k top : List ℕ) (before : List Bytes) (l : Bytes) where
-  met_again : meets q k top before l ≡ true → again q before l ≡ true
-  unfolding meets
-  met_again e = by (same k top) e
-    where
-      by : (b : Bool) → pick b (again q before l) false ≡ true → again q before l ≡ true
-      by true e = e
-      by false e = absurd (false≢true e)
+module _ (q : Choice) (w : Bytes) (k : List ℕ) (at : ℕ) (p : Rising q w k at) where
+  pub rising_next : (e : ℕ) → at < length w → e ≡ at + line_size (drop at w) → (b : Bool) (top : List ℕ)
+      → (b ≡ rises q k (take (e - at) (drop at w))) × (top ≡ raised q k (take (e - at) (drop at w))) → not b ≡ false → Rising q w top e
+  rising_next e h x b top g n =
+      let r = sym g.0 ∙ is_true b n in
+      record {
+        fresh = fresh_next q w at e p.fresh h x (rise_new q k _ _ p.topped r);
+        topped = rw (passed_lines w at e h x p.fresh.stands.starts, g.1) (rise_topped q k _ _ p.topped r);
+      }
 
-  module _ (b : Bool) (x : b ≡ same k top) where
-    pub meets_other : not b ≡ true → false ≡ meets q k top before l
-    unfolding meets
-    meets_other n = rw (sym x, not_true b n)
-
-    pub meets_same : not b ≡ false → (r : Bool) → r ≡ again q before l → r ≡ meets q k top before l
-    unfolding meets
-    meets_same n r y = rw (sym x, is_true b n) y
-
-module _ (q : Choice) (w : Bytes) (k : List ℕ) (at n : ℕ) (p : Scanned q w k at n) where
-  pub scanned_end : length w ≤ at → first_line (again q) [] 0 (lines w) ≡ 0
-  scanned_end h = repeat_none q (lines w) (λ m l. p.new m (omega (arith, stands_end w at n p.stands h)))
-
-  module _ (e : ℕ) (h : at < length w) (x : e ≡ at + line_size (drop at w)) where
-    pub scanned_met : (b : Bool) (key : List ℕ) → b ≡ meets q key k (lines (take at w)) (take (e - at) (drop at w)) → b ≡ true
-        → n + 1 ≡ first_line (again q) [] 0 (lines w)
-    scanned_met b key y t =
-        let f = met_again q key k _ _ (sym y ∙ t) in
-        add-one n ∙ sym (repeat_at q (lines w) n (stands_in w at n e p.stands h x) p.new (again_here w at n e p.stands h x q true (sym f)))
-
-    pub scanned_next : (b : Bool) (top : List ℕ) → (b ≡ rises q k (take (e - at) (drop at w))) × (top ≡ raised q k (take (e - at) (drop at w)))
-        → not b ≡ false → Scanned q w top e (n + 1)
-    scanned_next b top g f =
-        let r = sym g.0 ∙ is_true b f in
-        record {
-          stands = stands_next w at n e p.stands h x;
-          new = below_more _ _ p.new (again_here w at n e p.stands h x q false (sym (rise_new q k _ _ p.topped r)));
-          topped = rw (passed_lines w at e h x p.stands.starts, g.1) (rise_topped q k _ _ p.topped r);
-        }
+  pub rising_end : length w ≤ at → first_line (again q) [] 0 (lines w) ≡ 0
+  rising_end h = fresh_end q w at p.fresh h

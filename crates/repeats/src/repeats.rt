@@ -7,7 +7,7 @@ ghost use Rattle.seats.specs.Seating.{seat_at, Ready};
 ghost use Rattle.seats.specs.Faults.{repeat_number, seat_key, scan_end};
 ghost use Rattle.repeats.specs.Parts.{scan_part};
 
-use crate::section::{find_repeat, meets_top};
+use crate::section::find_repeat;
 use choices::Choice;
 use keys::Key;
 use page::Refusal;
@@ -79,27 +79,19 @@ pub fn first_repeat(s: &[u8], seats: Seats, second: bool) -> Refusal
         i += 1;
         let mut top = Key { k: [0; 7] };
         let mut at: usize = 0;
-        let mut n: usize = 0;
         while at < w.len() {
             let here = at;
             at = pass_line(w, here);
-            n += 1;
             let rise = find_rise(w, here, at, choice, top);
+            top = rise.top;
             if !rise.rises {
-                let key = rise.top;
-                if meets_top(w, here, at, choice, key, top) {
-                    found = refuse_repeat(second, i, n);
-                    break 'scan;
-                }
-                // To search for each key after one that falls would cost the square of the section.
-                let line = find_repeat(w, choice);
-                if line == 0 {
+                let n = find_repeat(w, choice);
+                if n == 0 {
                     continue 'scan;
                 }
-                found = refuse_repeat(second, i, line);
+                found = refuse_repeat(second, i, n);
                 break 'scan;
             }
-            top = rise.top;
         }
     }
     found

@@ -1,5 +1,4 @@
 pub mod Local
-pub mod LocalPlaces
 pub mod WrittenNumbers
 pub mod WrittenTexts
 pub mod WrittenFields

@@ -7,16 +7,16 @@ use native.Mathlib.Omega.{arith}
 use lib.ListN.{length, get_or, length-append, get_or-append}
 use lib.Seq.{get_or-append-add}
 use Rattle.page.specs.Bytes.{Bytes}
-use Rattle.page.specs.Lines.{lines, joined, Whole}
-use Rattle.page.specs.Cut.{Piece, a_table, a_trailer, Cut, Section, cut, placed, placed_piece, piece_lines, flat, extend, header_lines, sections}
+use Rattle.page.specs.Lines.{lines, joined}
+use Rattle.page.specs.Cut.{Piece, a_table, a_trailer, Cut, Section, cut, placed, placed_piece, piece_lines, header_lines, sections}
 use Rattle.page.specs.Head.{latin_of}
 use Rattle.page.specs.File.{row_of, rows_of, row_given}
 use Rattle.page.specs.Section.{outcome}
 use Rattle.page.specs.Records.{entries}
 use Rattle.page.specs.Model.{content_of}
 use Rattle.page.specs.Reading.{no_section, section_at, row_at}
-use Rattle.page.proofs.LineLaws.{lines_append, joined_lines, joined_length}
-use Rattle.page.proofs.CutLaws.{front_by, join, cut_join, cut_whole}
+use Rattle.page.proofs.LineLaws.{Whole, lines_append, joined_lines, joined_length}
+use Rattle.page.proofs.CutLaws.{extend, front_by, join, cut_join, flat, cut_whole}
 use Rattle.round.specs.Local.{Run, whole, last, settled, final, closed, later, later_row, reached_pieces, reached, rows_under, SaysSame}
 
 pub run_lines : {m b : Bytes} → Run m b → lines (m ++ b) ≡ lines m ++ lines b
@@ -64,21 +64,20 @@ flat_append [] q = refl
 flat_append (p ∷ ps) q = rw (flat_append ps q, append_assoc)
 
 -- how many bytes pieces have
-abbrev pub bytes_in : List Piece → ℕ
+abbrev bytes_in : List Piece → ℕ
 bytes_in ps = length (joined (flat ps))
 
 bytes_append : (p q : List Piece) → bytes_in (p ++ q) ≡ bytes_in p + bytes_in q
 bytes_append p q = rw (flat_append p q) (joined_length (flat p) (flat q))
 
 -- header and pieces have all the bytes
-pub all_bytes : (ls : List Bytes) → length (joined (cut ls).front) + bytes_in (cut ls).pieces ≡ length (joined ls)
-all_bytes ls = sym (joined_length (cut ls).front (flat (cut ls).pieces)) ∙ ap (λ (x : List Bytes). length (joined x)) (cut_whole ls)
-
-pub whole_bytes : (s : Bytes) → length (joined (header_lines s)) + bytes_in (cut (lines s)).pieces ≡ length s
+whole_bytes : (s : Bytes) → length (joined (header_lines s)) + bytes_in (cut (lines s)).pieces ≡ length s
 unfolding header_lines
-whole_bytes s = all_bytes (lines s) ∙ ap length (joined_lines s)
+whole_bytes s =
+    sym (joined_length (cut (lines s)).front (flat (cut (lines s)).pieces))
+    ∙ ap (λ (x : List Bytes). length (joined x)) (cut_whole (lines s)) ∙ ap length (joined_lines s)
 
-pub front_some : (ps : List Piece) (f g : List Bytes) → 0 < length ps → front_by ps f g ≡ f
+front_some : (ps : List Piece) (f g : List Bytes) → 0 < length ps → front_by ps f g ≡ f
 front_some [] f g h = absurd (omega arith)
 front_some (p ∷ ps) f g h = refl
 
@@ -187,7 +186,7 @@ module _ (a m n b : Bytes) (wa : Whole a) (ha : 0 < length (cut (lines a)).piece
   same_latin : latin_of (a ++ (m ++ b)) ≡ latin_of (a ++ (n ++ b))
   same_latin = local_latin a m b wa ha r ∙ sym (local_latin a n b wa ha q)
 
-  pub says_same : (x y : Section) → x.lines ≡ y.lines → SaysSame (a ++ (m ++ b)) x (a ++ (n ++ b)) y
+  says_same : (x y : Section) → x.lines ≡ y.lines → SaysSame (a ++ (m ++ b)) x (a ++ (n ++ b)) y
   unfolding content_of
   says_same x y e = record { lines = e; outcome = rw (same_latin, e); entries = rw (same_latin, e); records = rw (same_latin, e); content = rw (same_latin, e) }
 

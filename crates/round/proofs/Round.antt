@@ -3,25 +3,29 @@
 use mathlib.Core.Path.{◌≡◌, refl, ap}
 use mathlib.Core.Bool.{Bool, true, false}
 use mathlib.Core.List.{List, [], ◌∷◌, map}
+use mathlib.Core.Logic.{◌⊎◌, inl, inr}
 use Prim.Native.Nat.{ℕ, suc, ◌≤◌}
+use native.Mathlib.Omega.{arith}
 use lib.Dec.{eqb}
 use lib.ListN.{length}
 use borrow.Author.Tests.{eqb-true, eqb-false}
 use Rattle.page.specs.Bytes.{Bytes, pick}
 use Rattle.page.specs.Cut.{Section, sections, header_lines}
+use Rattle.page.specs.Header.{head_of}
 use Rattle.page.specs.Head.{head_values, latin_of}
 use Rattle.page.specs.Section.{outcome}
 use Rattle.page.specs.Records.{records_of, table_index}
 use Rattle.page.specs.Trailer.{trailer_of}
 use Rattle.page.specs.Model.{content_of, model_of, changed, kept}
-use Rattle.page.specs.Answers.{refusal, sound, earlier}
-use Rattle.page.specs.File.{limit, found, header_refusal, row_given, row_of, rows_of, first_unsound, first_again, filed_of, record_refusal, section_refusal, file_refusal}
+use Rattle.page.specs.Answers.{refusal, sound, earlier, refuse-if}
+use Rattle.page.specs.File.{limit, too_long, found, header_refusal, row_given, row_of, rows_of, first_unsound, first_again, filed_of, record_refusal, section_refusal, file_refusal}
 use Rattle.page.specs.Form.{form_of}
 use Rattle.page.specs.Writing.{form_by, write_form}
 use Rattle.page.specs.Rules.{Every, none_left, one_more, SoundHeader}
 use Rattle.page.specs.declared.LineEnd.{LineEnd}
 use Rattle.page.specs.declared.LineEnd.TheVariants as E
 use Rattle.page.specs.declared.Row.{Row}
+use Rattle.page.specs.declared.Finding.{Finding}
 use Rattle.page.specs.declared.Outcome.{Outcome}
 use Rattle.laws.specs.Begins.{begins}
 use Rattle.round.specs.Round.{SoundContent, SoundModel}
@@ -29,7 +33,7 @@ use Rattle.round.specs.RoundKeys.{KeysHold}
 use Rattle.grammar.proofs.Accepts.{denotes_accepted}
 use Rattle.grammar.proofs.Readings.{denoted_known, handed_denoted}
 use Rattle.laws.proofs.Sections.{sections_begin}
-use Rattle.verdicts.proofs.Headers.{header_open}
+use Rattle.verdicts.proofs.Headers.{header_exactly, header_settled}
 use Rattle.round.proofs.RoundKeys.{SoundSection, sound_keys}
 use Rattle.round.proofs.RoundForm.{form_model, form_sound}
 use Rattle.round.proofs.RoundReads.{denoted_sound}
@@ -81,8 +85,16 @@ module _ (s : Bytes) (h : (file_refusal s).number ≡ 0) where
       let a = earlier_none (header_refusal s) (earlier (found (trailer_of s)) (section_refusal s)) h in
       (a.0, (earlier_none (found (trailer_of s)) (section_refusal s) a.1).1)
 
+  head_zero : (head_of (header_lines s)).verdict ≡ 0
+  unfolding header_refusal
+  head_zero = (earlier_none (refuse-if (too_long s) 1) (found (head_of (header_lines s))) the_parts.0).1
+
   head_sound : SoundHeader (header_lines s)
-  head_sound = header_open s the_parts.0
+  head_sound = by (header_settled (header_lines s))
+    where
+      by : (head_of (header_lines s) ≡ record { verdict = 0; line = 0 }) ⊎ ((n : ℕ) × (head_of (header_lines s) ≡ record { verdict = 2; line = n })) → SoundHeader (header_lines s)
+      by (inl e) = (header_exactly (header_lines s)).0 e
+      by (inr e) = absurd (let z : ⊥ = omega (arith, head_zero, ap (λ (f : Finding). f.verdict) e.1) in z)
 
   rows_zero : Every (λ r. r.verdict ≡ 0) (map (row_of (latin_of s)) (sections s))
   unfolding section_refusal rows_of

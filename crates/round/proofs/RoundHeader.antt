@@ -10,7 +10,7 @@ use lib.Dec.{eqb}
 use Rattle.page.specs.Bytes.{Bytes, bytes, same, all}
 use Rattle.page.specs.Lines.{joined, content, allowed, Mod, Src, Chs, Ver, Ifv, Dve, Fft, Com}
 use Rattle.page.specs.Fields.{digit}
-use Rattle.page.specs.Header.{form_named, mod_form, src_ok, names_ascii, names_latin, chs_ok, text_ok, holds, met_before, meet, met_none, mod_step, other_step, head_step, complete, head_end, head_continue, head_run, head_of}
+use Rattle.page.specs.Header.{form_named, mod_form, src_ok, names_ascii, names_latin, chs_ok, text_ok, holds, met_before, meet, met_none, head_choose, mod_step, other_step, head_step, complete, head_end, head_continue, head_run, head_of}
 use Rattle.page.specs.Head.{Head}
 use Rattle.page.specs.Form.{separated, line, quoted, doubled, padded, date_text, time_text, charset_name, line_if, head_form}
 use Rattle.page.specs.declared.LineEnd.{LineEnd}
@@ -114,12 +114,12 @@ src_seen ends h s =
 -- the header's machine takes them
 
 first_step : (ends : LineEnd) → head_step (met_none 0) (content (mod_line ends)) ≡ H.Go (met_none 1)
-unfolding head_step mod_step mod_form form_named same bytes
+unfolding head_step mod_step head_choose mod_form form_named same bytes
 first_step ends = rw ((mod_seen ends).clean, (mod_seen ends).shown, (mod_seen ends).named, (mod_seen ends).split)
 
 next_step : {l : Bytes} {k : ℕ} {f : Bytes} {fs : List Bytes} → Seen false l k f fs → (m : Met) → eqb m.form 0 ≡ false → eqb k Com ≡ false →
     met_before k m ≡ false → holds k m.form (f ∷ fs) ≡ true → head_step m (content l) ≡ H.Go (meet k m)
-unfolding head_step other_step
+unfolding head_step other_step head_choose
 next_step s m a b c d = rw (s.clean, s.shown, s.named, s.split, b, a, c, d)
 
 text_held : (k form : ℕ) (t : Bytes) → eqb k Src ≡ false → eqb k Chs ≡ false → holds k form (quoted t ∷ []) ≡ true

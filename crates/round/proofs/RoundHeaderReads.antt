@@ -20,8 +20,7 @@ use Rattle.page.specs.Grammar.{fields_of}
 use Rattle.page.specs.Rules.{Every, none_left, one_more, spoken, times, HeadLine, SoundHeader}
 use Rattle.page.specs.declared.Date.{Date}
 use Rattle.round.specs.Round.{Printed, PrintedIf, SoundHead}
-use Rattle.page.proofs.TextLaws.{text_quoted}
-use Rattle.round.proofs.WrittenTexts.{all_quoted}
+use Rattle.round.proofs.WrittenTexts.{text_exactly, all_quoted}
 use Rattle.round.proofs.RoundHeaderValues.{pass_line, pass_stands, hit_line}
 use Rattle.round.proofs.RoundReads.{Passing, all_drop, split_all, trim_each}
 use Rattle.laws.proofs.Tests.{blank_missing}
@@ -108,7 +107,7 @@ text_said f h a = by (text_of f) refl h
   where
     by : (x : Option Bytes) → text_of f ≡ x → is_text x ≡ true → Printed (own_bytes x)
     by none e h = absurd (false≢true h)
-    by (some t) e h = all_quoted (allowed false) t (rw (text_quoted f t e) at a)
+    by (some t) e h = all_quoted (allowed false) t (rw ((text_exactly f t).0 e) at a)
 
 field_passing : (p : ℕ → Bool) {fs : List Bytes} → Every (Passing p) fs → (i : ℕ) → all p (get_or fs i []) ≡ true
 unfolding all

@@ -22,10 +22,10 @@ use Rattle.page.specs.Rules.{Every, none_left, one_more}
 use Rattle.page.specs.declared.Column.{Column}
 use Rattle.page.specs.declared.Owner.TheVariants as O
 use Rattle.round.specs.Round.{Fits, a_number, no_number, a_text, a_suggestion, FitAll, no_value, a_value, SoundRecord}
-use Rattle.round.proofs.WrittenTexts.{all_quoted}
+use Rattle.round.proofs.WrittenTexts.{text_exactly, all_quoted}
 use Rattle.page.proofs.ScanLaws.{all_take}
 use Rattle.page.proofs.TestLaws.{and_left, and_right}
-use Rattle.page.proofs.TextLaws.{text_quoted, padded_of, record_trimmed}
+use Rattle.page.proofs.TextLaws.{padded_of, record_trimmed}
 
 -- a test that all bytes of a line pass, each field passes
 
@@ -81,7 +81,7 @@ own_all : (p : ℕ → Bool) (w t : Bytes) → all p w ≡ true → record_text 
 unfolding unpadded
 own_all p w t h e =
     let x = padded_of w t e in
-    rw x.own (all_take p (keep space x.whole) x.whole (all_quoted p x.whole (rw (text_quoted w x.whole x.is) at h)))
+    rw x.own (all_take p (keep space x.whole) x.whole (all_quoted p x.whole (rw ((text_exactly w x.whole).0 x.is) at h)))
 
 -- a field that may be marked is of a column that may be
 

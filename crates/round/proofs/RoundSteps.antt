@@ -12,7 +12,7 @@ use Rattle.page.specs.Fields.{digit}
 use Rattle.page.specs.Tables.{Named, no_column, width, rules}
 use Rattle.page.specs.Order.{Order, listed_order, by_column}
 use Rattle.page.specs.Marks.{remark_of, may_mark, owner_of}
-use Rattle.page.specs.Section.{first_broken, empty_marked, rec_verdict, rec_step, count_step, end_step, mark_step, com_step, line_step, content_step, step}
+use Rattle.page.specs.Section.{choose, first_broken, empty_marked, rec_verdict, rec_step, count_step, end_step, mark_step, com_step, line_step, content_step, step}
 use Rattle.page.specs.Records.{Datum, number, missing, words, Record}
 use Rattle.page.specs.Form.{separated, line, decimal, quoted, datum_text, mark_line}
 use Rattle.page.specs.declared.LineEnd.{LineEnd}
@@ -141,7 +141,7 @@ module _ (ends : LineEnd) (latin : Bool) (t : ℕ) where
   mark_reads i l h = rw ((mark_seen i).behind, append-nil (quoted (bytes "SUGGESTED " ++ decimal i))) (mark_again i l h)
 
   pub mark_step_back : (i n : ℕ) → 1 ≤ i → i < 10 ^ 18 → may_mark t (listed_order t) i ≡ true → step latin (P.Rows t 0 n) (listed_order t) (mark_line ends i) ≡ S.Go (P.Rows t i n)
-  unfolding step content_step com_step mark_step
+  unfolding step content_step com_step mark_step choose
   mark_step_back i n l h m =
       let s = mark_seen i in
       rw (s.clean, s.shown, s.named, mark_reads i l h, m, lt-ltb 0 i l)
@@ -154,7 +154,7 @@ module _ (ends : LineEnd) (latin : Bool) (t : ℕ) where
   end_seen n = seen ends commands.11 (decimal n) [] latin (a_field (decimal_field n) no_field) (rw and_false (decimal_allowed n))
 
   pub end_step_back : (o : Order) (n : ℕ) → n < 10 ^ 18 → step latin (P.Rows t 0 n) o (line ends "end" (decimal n ∷ [])) ≡ S.Go (P.Ended t n)
-  unfolding step content_step line_step end_step count_step
+  unfolding step content_step line_step end_step count_step choose
   end_step_back o n h =
       let s = end_seen n in
       rw (s.clean, s.shown, s.named, s.split, number_decimal n h, eq-eqb n n refl)
@@ -193,7 +193,7 @@ module _ (ends : LineEnd) (latin : Bool) (t : ℕ) (v : Datum) (vs : Record) (r 
       )
 
   pub rec_step_back : (m n : ℕ) → empty_marked m (map datum_text (v ∷ vs)) ≡ false → step latin (P.Rows t m n) (listed_order t) rec_line ≡ S.Go (P.Rows t 0 (n + 1))
-  unfolding step content_step line_step rec_step
+  unfolding step content_step line_step rec_step choose
   rec_step_back m n e =
       let s = rec_seen in
       rw (s.clean, s.shown, s.named, s.split, verdict_back m e)

@@ -2,15 +2,15 @@
 use mathlib.Core.Path.{◌≡◌, refl}
 use mathlib.Core.Bool.{Bool, true, false, not, ◌&&◌}
 use mathlib.Core.List.{[], ◌∷◌, ◌++◌}
-use Prim.Native.Nat.{ℕ, ◌<◌, ◌≤◌, ◌^◌}
+use Prim.Native.Nat.{ℕ, zero, suc, ◌<◌, ◌≤◌, ◌^◌}
 use native.Mathlib.Omega.{arith}
-use lib.Dec.{leb}
-use lib.ListN.{length}
+use lib.Dec.{eqb, leb}
+use lib.ListN.{length, get_or, get_or-eq_default}
 use lib.Seq.{take-append_seam, drop-append_seam, drop-append-add}
-use borrow.Author.Tests.{le-leb, leb-true, leb-false}
+use borrow.Author.Tests.{le-leb, leb-true, leb-false, ne_eqb}
 use Rattle.page.specs.Bytes.{Bytes, bytes, pick, same, all, until}
 use Rattle.page.specs.Fields.{quote, digit}
-use Rattle.page.specs.Dates.{days_in, real_date, real_time, number_in, digits_in, byte_is, quoted_size, date_of, date_shape, date_ok, time_of, time_shape, time_ok}
+use Rattle.page.specs.Dates.{days_in, leap, real_date, real_time, number_in, digits_in, byte_is, quoted_size, date_of, date_shape, date_ok, time_of, time_shape, time_ok}
 use Rattle.page.specs.Marks.{mark_number, mark_text, remark_of}
 use Rattle.page.specs.Section.{no_digit, size_ok, formed, format_ok}
 use Rattle.page.specs.Form.{decimal, padded, doubled, quoted, date_text, time_text, format_text}
@@ -23,7 +23,6 @@ use Rattle.round.proofs.WrittenNumbers.{decimal_all, decimal_digits, decimal_val
 use Rattle.round.proofs.WrittenFields.{quoted_field}
 use Rattle.page.proofs.TestLaws.{and_left, and_right, same_refl}
 use Rattle.page.proofs.TextLaws.{quoted_text}
-use Rattle.page.proofs.DateLaws.{longest, no_month}
 
 -- bytes without a quote are quoted as they are
 abbrev pub no_quote : ℕ → Bool
@@ -67,6 +66,33 @@ pub quoted_time : (t : Time) → quoted (time_text t) ≡ time_field t
 unfolding quoted
 quoted_time t = rw (doubled_plain (time_text t) (time_plain t))
 
+-- each month of a real date is one of twelve, and has at most 31 days
+days_most : (y m : ℕ) → days_in y m ≤ 31
+unfolding days_in
+days_most y m = by (eqb m 2 && leap y) m
+  where
+    by : (b : Bool) (m : ℕ) → pick b 29 (get_or (0 ∷ 31 ∷ 28 ∷ 31 ∷ 30 ∷ 31 ∷ 30 ∷ 31 ∷ 31 ∷ 30 ∷ 31 ∷ 30 ∷ 31 ∷ []) m 0) ≤ 31
+    by true m = omega arith
+    by false zero = omega arith
+    by false (suc zero) = omega arith
+    by false (suc (suc zero)) = omega arith
+    by false (suc (suc (suc zero))) = omega arith
+    by false (suc (suc (suc (suc zero)))) = omega arith
+    by false (suc (suc (suc (suc (suc zero))))) = omega arith
+    by false (suc (suc (suc (suc (suc (suc zero)))))) = omega arith
+    by false (suc (suc (suc (suc (suc (suc (suc zero))))))) = omega arith
+    by false (suc (suc (suc (suc (suc (suc (suc (suc zero)))))))) = omega arith
+    by false (suc (suc (suc (suc (suc (suc (suc (suc (suc zero))))))))) = omega arith
+    by false (suc (suc (suc (suc (suc (suc (suc (suc (suc (suc zero)))))))))) = omega arith
+    by false (suc (suc (suc (suc (suc (suc (suc (suc (suc (suc (suc zero))))))))))) = omega arith
+    by false (suc (suc (suc (suc (suc (suc (suc (suc (suc (suc (suc (suc zero)))))))))))) = omega arith
+    by false (suc (suc (suc (suc (suc (suc (suc (suc (suc (suc (suc (suc (suc n))))))))))))) = omega arith
+
+-- past the twelfth, no days
+days_none : (y m : ℕ) → 12 < m → days_in y m ≡ 0
+unfolding days_in
+days_none y m h = rw (ne_eqb m 2 (λ (e : m ≡ 2). omega arith)) (get_or-eq_default (0 ∷ 31 ∷ 28 ∷ 31 ∷ 30 ∷ 31 ∷ 30 ∷ 31 ∷ 31 ∷ 30 ∷ 31 ∷ 30 ∷ 31 ∷ []) 0 h)
+
 module _ (d : Date) (y : d.year ≤ 9999) (real : real_date d ≡ true) where
   day_days : (1 ≤ d.day) × (d.day ≤ days_in d.year d.month)
   unfolding real_date
@@ -76,14 +102,14 @@ module _ (d : Date) (y : d.year ≤ 9999) (real : real_date d ≡ true) where
   )
 
   pub real_day : d.day ≤ 31
-  real_day = omega (arith, longest d.year d.month, day_days)
+  real_day = omega (arith, days_most d.year d.month, day_days)
 
   pub real_month : d.month ≤ 12
   real_month = by (leb d.month 12) refl
     where
       by : (b : Bool) → leb d.month 12 ≡ b → d.month ≤ 12
       by true e = leb-true d.month 12 e
-      by false e = absurd (let z : ⊥ = omega (arith, no_month d.year d.month (leb-false d.month 12 e), day_days) in z)
+      by false e = absurd (let z : ⊥ = omega (arith, days_none d.year d.month (leb-false d.month 12 e), day_days) in z)
 
   year_again : number_in 7 4 (date_field d) ≡ d.year
   unfolding number_in date_text padded bytes

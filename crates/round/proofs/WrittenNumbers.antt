@@ -2,7 +2,7 @@
 use mathlib.Core.Path.{◌≡◌, refl, ap, ◌∙◌}
 use mathlib.Core.Bool.{Bool, true, false, ◌&&◌, false≢true}
 use mathlib.Core.List.{[], ◌∷◌, ◌++◌}
-use Prim.Native.Nat.{ℕ, zero, suc, ◌+◌, ◌/◌, ◌%◌, ◌≤◌, ◌<◌, ◌^◌}
+use Prim.Native.Nat.{ℕ, zero, suc, ◌+◌, ◌*◌, ◌-◌, ◌/◌, ◌%◌, ◌≤◌, ◌<◌, ◌^◌}
 use native.Mathlib.Nat.{pow-suc}
 use native.Mathlib.Omega.{arith}
 use lib.Dec.{eqb, ltb, leb}
@@ -13,8 +13,21 @@ use Rattle.page.specs.Fields.{digit, digits, value, number_of}
 use Rattle.page.specs.Form.{decimal_in, decimal, padded}
 use Rattle.page.specs.declared.Number.TheVariants as N
 use Rattle.laws.proofs.WrittenScans.{all_append, first_append}
-use Rattle.page.proofs.NumberLaws.{digit_of, value_last}
 use Rattle.page.proofs.TestLaws.{and_left, and_right}
+
+pub digit_of : (n : ℕ) → n < 10 → digit (48 + n) ≡ true
+unfolding digit
+digit_of n h = rw (le-leb 48 (48 + n) (omega arith), le-leb (48 + n) 57 (omega arith))
+
+value_append : (n : ℕ) (v w : Bytes) → value n (v ++ w) ≡ value (value n v) w
+unfolding value
+value_append n [] w = refl
+value_append n (b ∷ v) w = value_append (n * 10 + (b - 48)) v w
+
+-- one more digit at the end
+pub value_last : (n d : ℕ) (v : Bytes) → value n (v ++ ((48 + d) ∷ [])) ≡ value n v * 10 + d
+unfolding value
+value_last n d v = value_append n v ((48 + d) ∷ []) ∙ omega arith
 
 decimal_small : (k n : ℕ) → ltb n 10 ≡ true → decimal_in (suc k) n ≡ (48 + n) ∷ []
 unfolding decimal_in

@@ -1,15 +1,22 @@
--- Texts stand by themselves in what is written, and pass a test as their bytes do. Assumes nothing.
+-- Texts come back as they were written, and a text field is exactly a quoted text. Assumes nothing.
 use mathlib.Core.Path.{◌≡◌, refl}
 use mathlib.Core.Bool.{Bool, true, false, ◌&&◌}
 use mathlib.Core.List.{List, [], ◌∷◌, ◌++◌}
+use mathlib.Core.Option.{some}
+use mathlib.Core.Logic.{◌↔◌}
 use Prim.Native.Nat.{ℕ}
 use lib.Dec.{eqb}
 use borrow.Author.Tests.{eqb-true}
 use Rattle.page.specs.Bytes.{Bytes, pick, all}
-use Rattle.page.specs.Fields.{into, split}
+use Rattle.page.specs.Fields.{into, split, text_of}
 use Rattle.page.specs.Form.{doubled, quoted}
 use Rattle.laws.proofs.WrittenScans.{all_append, all_left}
 use Rattle.page.proofs.TestLaws.{and_left, and_right}
+use Rattle.page.proofs.TextLaws.{text_quoted, quoted_text}
+
+-- "A text field is one closed quoted string with nothing beside it"
+pub text_exactly : (f t : Bytes) → text_of f ≡ some t ↔ f ≡ quoted t
+text_exactly f t = (text_quoted f t, λ e. rw e (quoted_text t))
 
 -- a test that each byte of a text passes, and back
 pub doubled_all : (f : ℕ → Bool) (t : Bytes) → all f t ≡ true → all f (doubled t) ≡ true

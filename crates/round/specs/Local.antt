@@ -1,16 +1,20 @@
 -- The parts of a file a ++ (m ++ b) around a run m of whole lines.
 use Rattle.std.specs.Prelude.{◌≡◌, List, [], ◌∷◌, ◌++◌, map, ℕ, ◌+◌, length}
 use Rattle.page.specs.Bytes.{Bytes}
-use Rattle.page.specs.Lines.{lines, joined, Whole}
-use Rattle.page.specs.Cut.{Piece, Section, cut, placed, longer, extend, flat, header_lines}
+use Rattle.page.specs.Lines.{lines, joined}
+use Rattle.page.specs.Cut.{Piece, Section, cut, placed, header_lines}
 use Rattle.page.specs.Head.{latin_of}
 use Rattle.page.specs.File.{row_of}
 use Rattle.page.specs.Section.{outcome}
 use Rattle.page.specs.Records.{entries_of, records_of}
 use Rattle.page.specs.Model.{content_of}
 use Rattle.page.specs.declared.Row.{Row}
+use Rattle.page.specs.declared.Value.{Value}
+use Rattle.page.specs.declared.Value.TheVariants as Va
+use Rattle.page.proofs.LineLaws.{Whole}
+use Rattle.page.proofs.CutLaws.{longer, extend, flat}
 
--- a run of whole lines in front of b; only at the end of a file may its last line lack LF
+-- a run of whole lines in front of b: "only a file's last line may lack LF"
 pub data Run : Bytes → Bytes → Type 0 where
   whole : {m : Bytes} (b : Bytes) → Whole m → Run m b
   last : (m : Bytes) → Run m []
@@ -52,10 +56,15 @@ unfoldable pub rows_under : Bytes → List Section → List Row
 rows_under a xs = map (row_of (latin_of a)) xs
 
 -- two sections of two files that say the same: same lines, hence the same outcome and the same records in the same lines
--- "Demand 3 is stated over demand 2's readings, so sameness alone doesn't satisfy it."
 pub record SaysSame (s : Bytes) (x : Section) (u : Bytes) (y : Section) : Type 0 where
   pub lines : x.lines ≡ y.lines
   pub outcome : outcome (latin_of s) x.lines ≡ outcome (latin_of u) y.lines
   pub entries : entries_of (latin_of s) x.lines ≡ entries_of (latin_of u) y.lines
   pub records : records_of (latin_of s) x.lines ≡ records_of (latin_of u) y.lines
   pub content : content_of (latin_of s) x ≡ content_of (latin_of u) y
+
+-- a value whose text stands k bytes further on
+unfoldable pub later_value : ℕ → Value → Value
+later_value k (Va.Number n) = Va.Number n
+later_value k Va.Missing = Va.Missing
+later_value k (Va.Words t) = Va.Words (record { from = k + t.from; to = k + t.to; owner = t.owner })

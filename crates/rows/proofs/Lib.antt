@@ -1,2 +1,3 @@
 pub mod SectionLaws
 pub mod WalkLaws
+pub mod AnswerLaws

@@ -1,8 +1,8 @@
 // "Whoever lists a file may lend rows: one row a section."
-ghost use Rattle.std.specs.Prelude.{◌≡◌, true};
+ghost use Rattle.std.specs.Prelude.{◌≡◌, true, length};
 ghost use Rattle.page.specs.Answers.{earlier, sound};
 ghost use Rattle.page.specs.File.{file_refusal, rows_of, first_unsound};
-ghost use Rattle.page.specs.Promises.{Lists};
+ghost use Rattle.page.specs.Reading.{list_refusal, rows_after};
 ghost use Rattle.steps.specs.Steps.{Begins};
 ghost use Rattle.rows.specs.Walk.{step_of};
 
@@ -32,7 +32,8 @@ fn answer_list(file: &[u8], r: Refusal, known: bool) -> Refusal
 // "Listing is refused by 1, 2 and 21 only and then writes no row; other verdicts go into the rows and the file's answer. Spare rows
 // keep their values." The number 0 is sound.
 pub fn list(file: &[u8], rows: &mut [Row]) -> Refusal
-    ensures { Lists file.now rows.old result rows.new }
+    ensures { (result ≡ earlier (list_refusal file.now (length rows.old)) (file_refusal file.now))
+        × (rows.new ≡ rows_after file.now rows.old) }
 {
     let b = begin_list(file, rows.len());
     let n = b.count;

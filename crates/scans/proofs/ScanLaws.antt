@@ -10,11 +10,11 @@ use lib.Dec.{eqb}
 use lib.ListN.{length, get_or, take, drop, take-append-drop}
 use lib.Seq.{length-take-le, append_snoc, take-suc}
 use Rattle.page.specs.Bytes.{Bytes, same}
-use Rattle.page.specs.Lines.{lines, joined, content, command, rest, Rec, ends}
+use Rattle.page.specs.Lines.{lines, joined, content, command, rest, Rec}
 use Rattle.page.specs.Fields.{fields}
 use Rattle.page.specs.File.{any}
 use Rattle.page.proofs.ScanLaws.{part_length}
-use Rattle.page.proofs.LineLaws.{line_size, line_in, cut_at, lines_end, joined_lines, joined_length, run_lines, lines_append}
+use Rattle.page.proofs.LineLaws.{line_size, line_in, cut_at, lines_end, joined_lines, joined_length, run_lines, ends, lines_append}
 use Rattle.page.proofs.PartLaws.{part_rest}
 use Rattle.page.proofs.KeyLaws.{any_append}
 use Rattle.choices.specs.declared.Choice.{Choice}

@@ -64,7 +64,7 @@ pub record Ordered (s : Bytes) (a : Seat) (o : List ℕ) : Type 0 where
   pub stands : Stands a.table o
   pub is : held a.table o ≡ seat_order s a
 
--- 17, at the second table's first line
+-- 17: "the second table's line 1"
 unfoldable pub again_refusal : ℕ → Refusal
 again_refusal i = pick (eqb i 0) sound (record { number = 17; section = i; line = 1 })
 

@@ -1,18 +1,14 @@
 -- The machine at a place of a section's bytes, and how fast it counts. Assumes nothing.
 use mathlib.Core.Path.{◌≡◌, ap, sym, ◌∙◌}
-use mathlib.Core.Bool.{Bool, true, false, ◌&&◌}
-use mathlib.Core.List.{List, []}
+use mathlib.Core.Bool.{Bool, true, false}
+use mathlib.Core.List.{List}
 use Prim.Native.Nat.{ℕ, ◌+◌, ◌-◌, ◌<◌, ◌≤◌}
 use native.Mathlib.Omega.{arith}
-use lib.Dec.{eqb, leb, ltb}
-use lib.ListN.{length, get_or, take, drop}
-use Rattle.page.specs.Bytes.{Bytes, pick}
-use Rattle.page.specs.Lines.{lines, content, blank, command, rest, clean, Tbl, Atr, Frm, Rec, End, Com, Unknown}
-use Rattle.page.specs.Fields.{fields, number_of}
-use Rattle.page.specs.Tables.{TABLES, width, table_named}
-use Rattle.page.specs.Order.{Order, order_of, arranged, standing}
-use Rattle.page.specs.Marks.{remark_of, may_mark}
-use Rattle.page.specs.Section.{tbl_step, atr_step, formats_ok, frm_step, rec_verdict, rec_step, count_step, end_step, mark_step, com_step, line_step, content_step, step, table_in, finish, refused, continue, run, outcome}
+use lib.ListN.{length, take, drop}
+use Rattle.page.specs.Bytes.{Bytes}
+use Rattle.page.specs.Lines.{lines, content}
+use Rattle.page.specs.Order.{Order}
+use Rattle.page.specs.Section.{choose, tbl_step, atr_step, frm_step, rec_step, count_step, end_step, mark_step, com_step, line_step, content_step, step, table_in, finish, refused, continue, run, outcome}
 use Rattle.page.specs.File.{row_given, row_of}
 use Rattle.page.specs.declared.Number.{Number}
 use Rattle.page.specs.declared.Number.TheVariants as N
@@ -67,34 +63,35 @@ data Small (m : ℕ) : Step → Type 0 where
   goes : {p : Phase} → records_in p ≤ m → Small m (S.Go p)
   stops : {v : ℕ} → Small m (S.Stop v)
 
-if : {m : ℕ} (b : Bool) {x y : Step} → Small m x → Small m y → Small m (pick b x y)
+if : {m : ℕ} (b : Bool) {x y : Step} → Small m x → Small m y → Small m (choose b x y)
+unfolding choose
 if true f g = f
 if false f g = g
 
 small_tbl : (m : ℕ) (fs : List Bytes) → Small m (tbl_step fs)
 unfolding tbl_step records_in
-small_tbl m fs = if (eqb (length fs) 1) (if (ltb (table_named (get_or fs 0 [])) TABLES) (goes (omega arith)) stops) stops
+small_tbl m fs = if _ (if _ (goes (omega arith)) stops) stops
 
 small_rec : (t : ℕ) (o : Order) (m n : ℕ) (fs : List Bytes) → Small (n + 1) (rec_step t o m n fs)
 unfolding rec_step records_in
-small_rec t o m n fs = if (eqb (rec_verdict t o m fs) 0) (goes (omega arith)) stops
+small_rec t o m n fs = if _ (goes (omega arith)) stops
 
 small_count : (t n : ℕ) (x : Number) → Small (n + 1) (count_step t n x)
 unfolding count_step records_in
-small_count t n (N.Plus c) = if (eqb c n) (goes (omega arith)) stops
+small_count t n (N.Plus c) = if _ (goes (omega arith)) stops
 small_count t n (N.Minus c) = stops
 small_count t n N.Nothing = stops
 
 small_end : (t m n : ℕ) (fs : List Bytes) → Small (n + 1) (end_step t m n fs)
 unfolding end_step
-small_end t m n fs = if (eqb m 0) (if (eqb (length fs) 1) (small_count t n (number_of (get_or fs 0 []))) stops) stops
+small_end t m n fs = if _ (if _ (small_count t n _) stops) stops
 
 small_mark : (p : Phase) (o : Order) (i : ℕ) → Small (records_in p + 1) (mark_step p o i)
 unfolding mark_step records_in
 small_mark P.Tbl o i = stops
 small_mark (P.Atr t) o i = stops
 small_mark (P.Frm t) o i = stops
-small_mark (P.Rows t m n) o i = if (may_mark t o i && ltb m i) (goes (omega arith)) stops
+small_mark (P.Rows t m n) o i = if _ (goes (omega arith)) stops
 small_mark (P.Ended t n) o i = stops
 
 small_com : (p : Phase) (o : Order) (x : Remark) → Small (records_in p + 1) (com_step p o x)
@@ -105,18 +102,15 @@ small_com p o (R.Mark i) = small_mark p o i
 
 small_line : (p : Phase) (o : Order) (k : ℕ) (w : Bytes) → Small (records_in p + 1) (line_step p o k w)
 unfolding line_step atr_step frm_step records_in
-small_line P.Tbl o k w = if (eqb k Tbl) (small_tbl _ (fields w)) stops
-small_line (P.Atr t) o k w = if (eqb k Atr) (if (arranged (width t) (order_of t (fields w))) (goes (omega arith)) stops) stops
-small_line (P.Frm t) o k w = if (eqb k Frm) (if (formats_ok (standing t o) (fields w)) (goes (omega arith)) stops) stops
-small_line (P.Rows t m n) o k w = if (eqb k Rec) (small_rec t o m n (fields w)) (if (eqb k End) (small_end t m n (fields w)) stops)
+small_line P.Tbl o k w = if _ (small_tbl _ _) stops
+small_line (P.Atr t) o k w = if _ (if _ (goes (omega arith)) stops) stops
+small_line (P.Frm t) o k w = if _ (if _ (goes (omega arith)) stops) stops
+small_line (P.Rows t m n) o k w = if _ (small_rec t o m n _) (if _ (small_end t m n _) stops)
 small_line (P.Ended t n) o k w = stops
 
 small_step : (latin : Bool) (p : Phase) (o : Order) (l : Bytes) → Small (records_in p + 1) (step latin p o l)
 unfolding step content_step
-small_step latin p o l =
-    if (clean latin (content l)) (if (blank (content l)) (goes {p = p} (omega arith))
-    (if (leb Unknown (command (content l))) stops
-    (if (eqb (command (content l)) Com) (small_com p o (remark_of (rest (content l)))) (small_line p o (command (content l)) (rest (content l)))))) stops
+small_step latin p o l = if _ (if _ (goes {p = p} (omega arith)) (if _ stops (if _ (small_com p o _) (small_line p o _ _)))) stops
 
 taken : {m : ℕ} {x : Step} → Small m x → (q : Phase) → x ≡ S.Go q → records_in q ≤ m
 taken (goes {p} h) q e = let z : p ≡ q = cc in rw z at h

@@ -7,7 +7,7 @@ use Rattle.sections.specs.declared.walk.Located.{Located}
 use Rattle.sections.specs.declared.walk.Located.TheVariants as L
 use Rattle.cut.specs.Walk.{section_from, Settled}
 
--- the first of 1, 2 and 24, or the place of section i, from 1
+-- "the first of 1, 2, 24 for the section", or the place of section i, from 1
 unfoldable pub located : Bytes → ℕ → Located
 located s i = pick (eqb (find_refusal s i).number 0) (L.At (section_at s i).place) (L.Refused (find_refusal s i))
 

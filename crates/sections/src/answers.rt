@@ -1,5 +1,6 @@
 // What the call that reads one section answers.
-ghost use Rattle.page.specs.Promises.{ReadsSection};
+ghost use Rattle.std.specs.Prelude.{◌≡◌};
+ghost use Rattle.page.specs.Reading.{section_of};
 
 use crate::reading::read_section;
 use crate::walk::{Located, locate};
@@ -7,7 +8,7 @@ use page::Listed;
 
 // Section i of a file, from 1.
 pub fn section(file: &[u8], i: usize) -> Listed
-    ensures { ReadsSection file.now i result }
+    ensures { result ≡ section_of file.now i }
 {
     match locate(file, i) {
         Located::At(at) => {

@@ -30,7 +30,7 @@ unfoldable pub step_by : Bytes → ℕ → Row → Bool → Step
 step_by s at row before =
     record { row = row; next = first_place s (drop 1 (sections_from s at)); sound = stays before row.verdict }
 
--- listing is not refused
+-- "Listing is refused by 1, 2 and 21 only"
 unfoldable pub accepts : Bytes → ℕ → Bool
 accepts s room = eqb (list_refusal s room).number 0
 
@@ -38,7 +38,7 @@ accepts s room = eqb (list_refusal s room).number 0
 unfoldable pub at_of : Bytes → ℕ → ℕ → ℕ
 at_of s room i = pick (accepts s room) (first_place s (drop i (sections s))) 0
 
--- a refused one has no row to write
+-- "and then writes no row"
 abbrev pub refused : Refusal → Start
 refused r = record { refusal = r; count = 0; at = 0; latin = false }
 

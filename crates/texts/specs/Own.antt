@@ -34,7 +34,7 @@ owned o (W.Refused r) = Ha.Refused r
 abbrev pub own_of : Bytes → Text → Bytes
 own_of s x = undoubled false (take (x.to - x.from) (drop x.from s))
 
--- 11 if it is a number, missing or not
+-- "11 if it is a number"
 abbrev pub answer_of : Bytes → Value → ℕ → Handed
 answer_of s (Va.Number n) room = Ha.Refused (refusal 11 0 0)
 answer_of s Va.Missing room = Ha.Refused (refusal 11 0 0)

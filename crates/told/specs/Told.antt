@@ -1,4 +1,5 @@
--- Each answer as one flat struct: number 0 and the values of an accepted call, or a refusal's number and place and no values.
+-- "Where an answer is an enum, a definition gives this paper's number and values for each of its cases": number 0 and the values of
+-- an accepted call, or a refusal's number and place and no values.
 use Rattle.std.specs.Prelude.{Bool, true, false, ℕ}
 use Rattle.page.specs.Handing.{owner_cell}
 use Rattle.page.specs.declared.Stated.{Stated}

@@ -1,6 +1,11 @@
 // What a call writes into what C lends.
-ghost use Rattle.page.specs.Promises.{Lists};
-ghost use Rattle.told.specs.Promises.{TellsText, TellsTable, TellsWrite, TellsStrip, TellsFill};
+ghost use Rattle.std.specs.Prelude.{◌≡◌, length};
+ghost use Rattle.page.specs.Answers.{earlier};
+ghost use Rattle.page.specs.File.{file_refusal};
+ghost use Rattle.page.specs.Handing.{text_out, text_after, table_of, cells_after};
+ghost use Rattle.page.specs.Reading.{list_refusal, rows_after};
+ghost use Rattle.page.specs.Writing.{write_of, write_after, strip_of, strip_after, fill_of, fill_after};
+ghost use Rattle.told.specs.Told.{told_written, told_handed};
 
 use page::{Refusal, Row};
 use told::{LengthAnswer, TextAnswer, tell_length, tell_text};
@@ -8,7 +13,8 @@ use told::{LengthAnswer, TextAnswer, tell_length, tell_text};
 // "Listing is refused by 1, 2 and 21 only and then writes no row; other verdicts go into the rows and the file's answer."
 #[unsafe(no_mangle)]
 pub extern "C" fn vdv_list(file: &[u8], rows: &mut [Row]) -> Refusal
-    ensures { Lists file.now rows.old result rows.new }
+    ensures { (result ≡ earlier (list_refusal file.now (length rows.old)) (file_refusal file.now))
+        × (rows.new ≡ rows_after file.now rows.old) }
 {
     rows::list(file, rows)
 }
@@ -22,7 +28,8 @@ pub extern "C" fn vdv_text(
     field: usize,
     out: &mut [u8],
 ) -> TextAnswer
-    ensures { TellsText file.now section «record» field out.old result out.new }
+    ensures { (result ≡ told_handed (text_out file.now section «record» field (length out.old)))
+        × (out.new ≡ text_after file.now section «record» field out.old) }
 {
     tell_text(handing::text(file, section, record, field, out))
 }
@@ -30,7 +37,8 @@ pub extern "C" fn vdv_text(
 // All values of a sound table, three numbers each: 0, the number, 0; or 1 for the operator's text and 2 for a suggestion, and its span.
 #[unsafe(no_mangle)]
 pub extern "C" fn vdv_table(file: &[u8], section: usize, cells: &mut [u64]) -> LengthAnswer
-    ensures { TellsTable file.now section cells.old result cells.new }
+    ensures { (result ≡ told_written (table_of file.now section (length cells.old)))
+        × (cells.new ≡ cells_after file.now section cells.old) }
 {
     tell_length(grids::table(file, section, cells))
 }
@@ -38,7 +46,8 @@ pub extern "C" fn vdv_table(file: &[u8], section: usize, cells: &mut [u64]) -> L
 // "Only a file with verdict 0 is written; else its verdict is given."
 #[unsafe(no_mangle)]
 pub extern "C" fn vdv_write(file: &[u8], out: &mut [u8]) -> LengthAnswer
-    ensures { TellsWrite file.now out.old result out.new }
+    ensures { (result ≡ told_written (write_of file.now (length out.old)))
+        × (out.new ≡ write_after file.now out.old) }
 {
     tell_length(forms::write(file, out))
 }
@@ -46,7 +55,8 @@ pub extern "C" fn vdv_write(file: &[u8], out: &mut [u8]) -> LengthAnswer
 // "Stripping gives the written form with marked texts empty and no marks."
 #[unsafe(no_mangle)]
 pub extern "C" fn vdv_strip(file: &[u8], out: &mut [u8]) -> LengthAnswer
-    ensures { TellsStrip file.now out.old result out.new }
+    ensures { (result ≡ told_written (strip_of file.now (length out.old)))
+        × (out.new ≡ strip_after file.now out.old) }
 {
     tell_length(forms::strip(file, out))
 }
@@ -61,7 +71,8 @@ pub extern "C" fn vdv_fill(
     text: &[u8],
     out: &mut [u8],
 ) -> LengthAnswer
-    ensures { TellsFill file.now section «record» field text.now out.old result out.new }
+    ensures { (result ≡ told_written (fill_of file.now section «record» field text.now (length out.old)))
+        × (out.new ≡ fill_after file.now section «record» field text.now out.old) }
 {
     tell_length(forms::fill(file, section, record, field, text, out))
 }

@@ -12,10 +12,10 @@ use Rattle.page.specs.Lines.{content, command, clean, Src, Chs, Ver, Ifv}
 use Rattle.page.specs.Grammar.{fields_of}
 use Rattle.page.specs.Header.{met_before, meet, met_none, head_step, holds, complete, head_end}
 use Rattle.page.specs.Open.{open_all}
-use Rattle.page.specs.Rules.{followers, Every, none_left, one_more}
+use Rattle.page.specs.Rules.{Every, none_left, one_more}
 use Rattle.page.specs.declared.Met.{Met}
 use Rattle.page.specs.declared.Heading.TheVariants as H
-use Rattle.page.specs.Faults.{Keeps, Completable}
+use Rattle.verdicts.specs.Headers.{followers, Keeps, Completable}
 use Rattle.laws.proofs.Decides.{tested}
 use Rattle.laws.proofs.Lists.{every_at, every_from, every_map}
 use Rattle.verdicts.proofs.HeaderLines.{Fit, tally, tallies, silent, other_line, other_go}

@@ -23,7 +23,8 @@ use Rattle.page.specs.Rules.{Every, none_left, one_more, Tables, no_table, a_tab
 use Rattle.page.specs.declared.Outcome.{Outcome}
 use Rattle.page.proofs.TableLaws.{number_injective}
 use Rattle.laws.specs.Begins.{begins}
-use Rattle.page.specs.Faults.{First, NoneOf, Unsound, TableAgain}
+use Rattle.verdicts.specs.First.{First, NoneOf}
+use Rattle.verdicts.specs.Files.{Unsound, TableAgain}
 use Rattle.laws.proofs.Decides.{Decides, holds, fails, when, one_of, equal}
 use Rattle.grammar.proofs.Accepts.{denotes_accepted, accepted_denotes}
 use Rattle.grammar.proofs.Readings.{handed_denoted, denotes_read, denoted_known}

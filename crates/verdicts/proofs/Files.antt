@@ -16,8 +16,8 @@ use Rattle.page.specs.Cut.{Section, sections, header_lines, trailer_lines}
 use Rattle.page.specs.Header.{head_of}
 use Rattle.page.specs.Head.{latin_of}
 use Rattle.page.specs.Section.{refused}
-use Rattle.page.specs.Trailer.{trailer_of}
-use Rattle.page.specs.Answers.{refusal, sound, checked}
+use Rattle.page.specs.Trailer.{trailer_finding, trailer_of}
+use Rattle.page.specs.Answers.{refusal, sound, checked, paper-checked}
 use Rattle.page.specs.File.{limit, rows_of, first_unsound, first_again, any, by_primary, by_second, Filed, repeats, lost, first_record, filed_of, file_refusal, check_of}
 use Rattle.page.specs.Model.{Content, model_of}
 use Rattle.page.specs.Refusals.{Refused}
@@ -26,8 +26,9 @@ use Rattle.page.specs.declared.Column.{Column}
 use Rattle.page.specs.declared.Outcome.{Outcome}
 use Rattle.page.specs.declared.Refusal.{Refusal}
 use Rattle.page.specs.declared.Checked.TheVariants as C
-use Rattle.page.specs.Faults.{First, NoneOf, TrailerFault, Unsound, TableAgain, KeyAgain, Lost, Opens, Reads, FileRefused, too_long, header, trailer, section, table_again, primary_again, second_again, reference_lost}
-use Rattle.grammar.specs.Own.{no_content}
+use Rattle.verdicts.specs.First.{First, NoneOf}
+use Rattle.verdicts.specs.Trailers.{TrailerFault}
+use Rattle.verdicts.specs.Files.{Unsound, TableAgain, KeyAgain, Lost, FileRefused, too_long, header, trailer, section, table_again, primary_again, second_again, reference_lost}
 use Rattle.laws.proofs.Decides.{Decides, holds, fails, at_most, equal}
 use Rattle.grammar.proofs.Refuses.{refuses_exactly}
 use Rattle.verdicts.proofs.Headers.{header_exactly, header_refused_exactly, header_settled}
@@ -44,10 +45,14 @@ use Rattle.laws.proofs.Stages
 abbrev tables_of : Bytes → List Content
 tables_of s = (model_of s).tables
 
+abbrev no_content : Content
+no_content = record { table = 0; records = [] }
+
 module _ (s : Bytes) where
   -- what is known where the stages before are clear
   trailer_clear : SoundTrailer (length (sections s)) (trailer_lines s) → trailer_of s ≡ Stages.finding 0 0
-  trailer_clear t = (trailer_exactly s).1 t
+  unfolding trailer_of
+  trailer_clear t = (trailer_exactly (length (sections s)) (trailer_lines s)).1 t
 
   sections_clear : {cs : List Content} → Tables (latin_of s) (sections s) cs → first_unsound 1 (rows_of s) ≡ sound
   unfolding rows_of
@@ -92,7 +97,8 @@ module _ (s : Bytes) where
   known_filed {cs} t = filed_known cs (filed_of s) (as_filed t) (tables_known (latin_of s) t)
 
   trailer_found : (n : ℕ) → TrailerFault (length (sections s)) (trailer_lines s) n → trailer_of s ≡ Stages.finding 3 n
-  trailer_found n t = (trailer_refused_exactly s n).1 t
+  unfolding trailer_of
+  trailer_found n t = (trailer_refused_exactly (length (sections s)) (trailer_lines s) n).1 t
 
   abbrev SectionsTold : Type 0
   SectionsTold =
@@ -151,50 +157,28 @@ module _ (s : Bytes) where
 
   -- a refused file's answer is as the refusal says
   refused_gives : (v i n : ℕ) → FileRefused s v i n → (file_refusal s ≡ refusal v i n) × ¬ (v ≡ 0)
-  refused_gives v i n (too_long a y) = (rw (a, y.1, y.2) (Stages.long_gives s y.0), λ z. omega arith)
-  refused_gives v i n (header a y) = (rw (a, y.2) (Stages.header_gives s y.0 n ((header_refused_exactly (header_lines s) n).1 y.1)), λ z. omega arith)
-  refused_gives v i n (trailer a y) =
-      (rw (a, y.3) (Stages.trailer_gives s y.0 ((header_exactly (header_lines s)).1 y.1) n (trailer_found n y.2)), λ z. omega arith)
-  refused_gives v i n (section y) =
-      let o = y.0 in
-      let x = y.1.0 in
-      let f = y.1.2 in
-      let z = ((refuses_exactly (latin_of s) x.lines y.1.1 v n).1 y.1.3).1 in (
-        rw y.1.4 (Stages.unsound_gives s o.size ((header_exactly (header_lines s)).1 o.header) (trailer_clear o.trailer) v (suc (length f.before)) n z
-            (section_found x y.1.1 v n f y.1.3)),
-        z,
-      )
-  refused_gives v i n (table_again a y) =
-      let o = y.1.opens in
-      let f = y.2.1 in (
-        rw (a, y.2.2, y.3) (Stages.again_gives s o.size ((header_exactly (header_lines s)).1 o.header) (trailer_clear o.trailer) (sections_clear y.1.tables)
-            (suc (length f.before)) 1 (table_found y.2.0 y.1.tables f)),
-        λ z. omega arith,
-      )
-  refused_gives v i n (primary_again a y) =
-      let o = y.1.opens in
-      let d = y.1.tables in
-      let e = y.3.0 in (
-        rw (a, y.3.2.0, y.3.2.1) (Stages.primary_gives s o.size ((header_exactly (header_lines s)).1 o.header) (trailer_clear o.trailer) (sections_clear d) (tables_clear d y.2)
-            e.section e.line (keys_found 18 by_primary e y.3.1)),
-        λ z. omega arith,
-      )
-  refused_gives v i n (second_again a y) =
-      let o = y.1.opens in
-      let d = y.1.tables in
-      let e = y.4.0 in (
-        rw (a, y.4.2.0, y.4.2.1) (Stages.second_gives s o.size ((header_exactly (header_lines s)).1 o.header) (trailer_clear o.trailer) (sections_clear d) (tables_clear d y.2)
-            (keys_clear 18 by_primary y.3) e.section e.line (keys_found 19 by_second e y.4.1)),
-        λ z. omega arith,
-      )
-  refused_gives v i n (reference_lost a y) =
-      let o = y.1.opens in
-      let d = y.1.tables in
-      let e = y.5.0 in (
-        rw (a, y.5.2.0, y.5.2.1) (Stages.last_gives s o.size ((header_exactly (header_lines s)).1 o.header) (trailer_clear o.trailer) (sections_clear d) (tables_clear d y.2)
-            (keys_clear 18 by_primary y.3) (keys_clear 19 by_second y.4) (refusal 20 e.section e.line) (lost_found e d y.5.1)),
-        λ z. omega arith,
-      )
+  refused_gives v i n (too_long l a b c) = (rw (a, b, c) (Stages.long_gives s l), λ z. omega arith)
+  refused_gives v i n (header l h a b) = (rw (a, b) (Stages.header_gives s l n ((header_refused_exactly (header_lines s) n).1 h)), λ z. omega arith)
+  refused_gives v i n (trailer l h t a b) = (rw (a, b) (Stages.trailer_gives s l ((header_exactly (header_lines s)).1 h) n (trailer_found n t)), λ z. omega arith)
+  refused_gives v i n (section l h t x k f r a) =
+      let z = ((refuses_exactly (latin_of s) x.lines k v n).1 r).1 in
+      (rw a (Stages.unsound_gives s l ((header_exactly (header_lines s)).1 h) (trailer_clear t) v (suc (length f.before)) n z (section_found x k v n f r)), z)
+  refused_gives v i n (table_again cs l h t d c f a b e) =
+      (rw (a, b, e) (Stages.again_gives s l ((header_exactly (header_lines s)).1 h) (trailer_clear t) (sections_clear d) (suc (length f.before)) 1 (table_found c d f)), λ z. omega arith)
+  refused_gives v i n (primary_again cs l h t d m e f a b w) = (
+    rw (a, b, w) (Stages.primary_gives s l ((header_exactly (header_lines s)).1 h) (trailer_clear t) (sections_clear d) (tables_clear d m) e.section e.line (keys_found 18 by_primary e f)),
+    λ z. omega arith,
+  )
+  refused_gives v i n (second_again cs l h t d m p e f a b w) = (
+    rw (a, b, w) (Stages.second_gives s l ((header_exactly (header_lines s)).1 h) (trailer_clear t) (sections_clear d) (tables_clear d m) (keys_clear 18 by_primary p) e.section e.line
+        (keys_found 19 by_second e f)),
+    λ z. omega arith,
+  )
+  refused_gives v i n (reference_lost cs l h t d m p q e f a b w) = (
+    rw (a, b, w) (Stages.last_gives s l ((header_exactly (header_lines s)).1 h) (trailer_clear t) (sections_clear d) (tables_clear d m) (keys_clear 18 by_primary p) (keys_clear 19 by_second q)
+        (refusal 20 e.section e.line) (lost_found e d f)),
+    λ z. omega arith,
+  )
 
   -- an accepted file's answer is 0
   sound_gives : (cs : List Content) → SoundFile s cs → file_refusal s ≡ sound
@@ -209,62 +193,62 @@ module _ (s : Bytes) where
   abbrev Settled : Type 0
   Settled = ((cs : List Content) × SoundFile s cs) ⊎ ((v : ℕ) × (i : ℕ) × (n : ℕ) × FileRefused s v i n)
 
-  module _ (cs : List Content) (y : Reads s cs) where
+  module _ (l : length s ≤ limit) (h : SoundHeader (header_lines s)) (t : SoundTrailer (length (sections s)) (trailer_lines s)) (cs : List Content) (d : Tables (latin_of s) (sections s) cs) where
     abbrev LostTold : Type 0
     LostTold =
         (NoneOf (Lost (filed_of s)) [] (filed_of s) × (first_record 20 (λ before. lost (filed_of s)) [] (filed_of s) ≡ sound)) ⊎
         ((e : Filed) × First (Lost (filed_of s)) [] (filed_of s) e × (first_record 20 (λ before. lost (filed_of s)) [] (filed_of s) ≡ refusal 20 e.section e.line))
 
     last_settled : NoneOf TableAgain [] cs → NoneOf (KeyAgain by_primary) [] (filed_of s) → NoneOf (KeyAgain by_second) [] (filed_of s) → LostTold → Settled
-    last_settled m p q (inr x) = inr (20, x.0.section, x.0.line, reference_lost refl (cs, y, m, p, q, (x.0, x.1, (refl, refl))))
+    last_settled m p q (inr x) = inr (20, x.0.section, x.0.line, reference_lost cs l h t d m p q x.0 x.1 refl refl refl)
     last_settled m p q (inl x) =
-        let k = as_filed y.tables in
+        let k = as_filed d in
         inl (
           cs,
           record {
-            size = y.opens.size;
-            header = y.opens.header;
-            trailer = y.opens.trailer;
-            tables = y.tables;
+            size = l;
+            header = h;
+            trailer = t;
+            tables = d;
             once = (apart_none no_content (λ (c : Content). c.table) cs).1 m;
             primary = (keys_exactly by_primary cs (filed_of s) k m).0 p;
             second = (keys_exactly by_second cs (filed_of s) k m).0 q;
-            references = (references_exactly cs (filed_of s) k (known_filed y.tables)).0 x.0;
+            references = (references_exactly cs (filed_of s) k (known_filed d)).0 x.0;
           },
         )
 
     second_settled : NoneOf TableAgain [] cs → NoneOf (KeyAgain by_primary) [] (filed_of s) → KeyTold 19 by_second (filed_of s) → Settled
-    second_settled m p (inr x) = inr (19, x.0.section, x.0.line, second_again refl (cs, y, m, p, (x.0, x.1, (refl, refl))))
-    second_settled m p (inl x) = last_settled m p x.0 (lost_settled (filed_of s) (known_filed y.tables))
+    second_settled m p (inr x) = inr (19, x.0.section, x.0.line, second_again cs l h t d m p x.0 x.1 refl refl refl)
+    second_settled m p (inl x) = last_settled m p x.0 (lost_settled (filed_of s) (known_filed d))
 
     primary_settled : NoneOf TableAgain [] cs → KeyTold 18 by_primary (filed_of s) → Settled
-    primary_settled m (inr x) = inr (18, x.0.section, x.0.line, primary_again refl (cs, y, m, (x.0, x.1, (refl, refl))))
+    primary_settled m (inr x) = inr (18, x.0.section, x.0.line, primary_again cs l h t d m x.0 x.1 refl refl refl)
     primary_settled m (inl x) = second_settled m x.0 (keys_settled 19 by_second (filed_of s))
 
     tables_settled : (NoneOf TableAgain [] cs × (first_again [] 1 (rows_of s) ≡ sound)) ⊎ ((c : Content) × (f : First TableAgain [] cs c) × (first_again [] 1 (rows_of s) ≡ refusal 17 (1 + length f.before) 1)) → Settled
-    tables_settled (inr x) = inr (17, suc (length x.1.before), 1, table_again refl (cs, y, (x.0, x.1, refl), refl))
+    tables_settled (inr x) = inr (17, suc (length x.1.before), 1, table_again cs l h t d x.0 x.1 refl refl refl)
     tables_settled (inl x) = primary_settled x.0 (keys_settled 18 by_primary (filed_of s))
 
-  sections_settled : Opens s → SectionsTold → Settled
-  sections_settled o (inl x) = tables_settled (tables_of s) (record { opens = o; tables = x.0 }) (tables_told x.0)
-  sections_settled o (inr x) = inr (x.2, suc (length x.4.before), x.3, section (o, (x.0, x.1, x.4, x.5, refl)))
+  sections_settled : length s ≤ limit → SoundHeader (header_lines s) → SoundTrailer (length (sections s)) (trailer_lines s) → SectionsTold → Settled
+  sections_settled l h t (inl x) = tables_settled l h t (tables_of s) x.0 (tables_told x.0)
+  sections_settled l h t (inr x) = inr (x.2, suc (length x.4.before), x.3, section l h t x.0 x.1 x.4 x.5 refl)
 
   file_settled : Settled
   file_settled = by_size (leb (length s) limit) (at_most (length s) limit)
     where
       by_trailer : length s ≤ limit → SoundHeader (header_lines s) →
-          (SoundTrailer (length (sections s)) (trailer_lines s) × (trailer_of s ≡ Stages.finding 0 0)) ⊎
-          ((j : ℕ) × TrailerFault (length (sections s)) (trailer_lines s) j × (trailer_of s ≡ Stages.finding 3 j)) → Settled
-      by_trailer l h (inl x) = sections_settled (record { size = l; header = h; trailer = x.0 }) sections_told
-      by_trailer l h (inr x) = inr (3, 0, x.0, trailer refl (l, h, x.1, refl))
+          (SoundTrailer (length (sections s)) (trailer_lines s) × (trailer_finding (length (sections s)) (trailer_lines s) ≡ Stages.finding 0 0)) ⊎
+          ((j : ℕ) × TrailerFault (length (sections s)) (trailer_lines s) j × (trailer_finding (length (sections s)) (trailer_lines s) ≡ Stages.finding 3 j)) → Settled
+      by_trailer l h (inl x) = sections_settled l h x.0 sections_told
+      by_trailer l h (inr x) = inr (3, 0, x.0, trailer l h x.1 refl refl)
 
       by_header : length s ≤ limit → (head_of (header_lines s) ≡ Stages.finding 0 0) ⊎ ((n : ℕ) × (head_of (header_lines s) ≡ Stages.finding 2 n)) → Settled
-      by_header l (inl e) = by_trailer l ((header_exactly (header_lines s)).0 e) (trailer_settled s)
-      by_header l (inr x) = inr (2, 0, x.0, header refl (l, (header_refused_exactly (header_lines s) x.0).0 x.1, refl))
+      by_header l (inl e) = by_trailer l ((header_exactly (header_lines s)).0 e) (trailer_settled (length (sections s)) (trailer_lines s))
+      by_header l (inr x) = inr (2, 0, x.0, header l ((header_refused_exactly (header_lines s) x.0).0 x.1) refl refl)
 
       by_size : (b : Bool) → Decides (length s ≤ limit) b → Settled
       by_size true (holds l) = by_header l (header_settled (header_lines s))
-      by_size false (fails n) = inr (1, 0, 0, too_long refl (omega arith, refl, refl))
+      by_size false (fails n) = inr (1, 0, 0, too_long (omega arith) refl refl refl)
 
 -- a file's answer is 0 exactly if it keeps every rule, with some tables
 pub accepts_exactly : (s : Bytes) → (file_refusal s).number ≡ 0 ↔ ((cs : List Content) × SoundFile s cs)
@@ -315,3 +299,12 @@ check_refused s v i n = (λ e. (refuses_file_exactly s v i n).0 (into (eqb (file
 
     back : FileRefused s v i n → pick (eqb (file_refusal s).number 0) C.Sound (C.Refused (file_refusal s)) ≡ C.Refused (refusal v i n)
     back f = let x = refused_gives s v i n f in rw (x.0, ne_eqb v 0 x.1)
+
+-- the enum and the paper's numbers say the same
+pub check_paper : (s : Bytes) → paper-checked (check_of s) ≡ file_refusal s
+unfolding check_of checked paper-checked
+check_paper s = by (file_settled s)
+  where
+    by : Settled s → paper-checked (checked (file_refusal s)) ≡ file_refusal s
+    by (inl x) = rw (sound_gives s x.0 x.1)
+    by (inr x) = let y = refused_gives s x.0 x.1 x.2 x.3 in rw (y.0, ne_eqb x.0 0 y.1)

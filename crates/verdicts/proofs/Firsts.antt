@@ -5,7 +5,7 @@ use mathlib.Core.List.Memᴰ
 use mathlib.Core.List.{List, [], ◌∷◌, ◌++◌, append_assoc, append-nil, Memᴰ}
 use mathlib.Core.Logic.{◌⊎◌, inl, inr}
 use Rattle.page.specs.File.{any}
-use Rattle.page.specs.Faults.{First, NoneOf}
+use Rattle.verdicts.specs.First.{First, NoneOf}
 use Rattle.laws.proofs.Decides.{Decides, fails, when, one_of}
 
 module _ {A : Type 0} (Breaks : List A → A → Type 0) where

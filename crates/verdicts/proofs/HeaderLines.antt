@@ -10,12 +10,12 @@ use borrow.Author.Tests.{eqb-true, ne_eqb, eq-eqb}
 use Rattle.page.specs.Bytes.{Bytes, pick}
 use Rattle.page.specs.Lines.{content, blank, command, rest, clean, Mod, Src, Chs, Ver, Ifv, Dve, Fft, Com}
 use Rattle.page.specs.Fields.{fields}
-use Rattle.page.specs.Header.{mod_form, holds, met_before, meet, met_none, mod_step, other_step, head_step}
+use Rattle.page.specs.Header.{mod_form, holds, met_before, meet, met_none, head_choose, mod_step, other_step, head_step}
 use Rattle.page.specs.Grammar.{fields_of}
-use Rattle.page.specs.Rules.{followers, Every, none_left, one_more, spoken, times, HeadLine}
+use Rattle.page.specs.Rules.{Every, none_left, one_more, spoken, times, HeadLine}
 use Rattle.page.specs.declared.Met.{Met}
 use Rattle.page.specs.declared.Heading.TheVariants as H
-use Rattle.page.specs.Faults.{Begun, Keeps}
+use Rattle.verdicts.specs.Headers.{followers, Begun, Keeps}
 use Rattle.laws.proofs.Decides.{Decides, holds as yes-it-holds, fails, equal}
 use Rattle.laws.proofs.Lists.{every_head, every_tail, every_at, every_from}
 
@@ -97,37 +97,37 @@ unfolding times
 times_more k l ls = refl
 
 silent_step : (m : Met) (l : Bytes) → clean false (content l) ≡ true → silent l ≡ true → head_step m (content l) ≡ H.Go m
-unfolding head_step
+unfolding head_step head_choose
 silent_step m l c s = rw (c, s)
 
 pub other_line : (m : Met) (l : Bytes) → ¬ (m.form ≡ 0) → clean false (content l) ≡ true → silent l ≡ false → head_step m (content l) ≡ other_step m (command (content l)) (fields_of l)
-unfolding head_step
+unfolding head_step head_choose
 other_line m l f c s = rw (c, s, ne_eqb m.form 0 f)
 
 pub first_line : (m : Met) (l : Bytes) → m.form ≡ 0 → clean false (content l) ≡ true → silent l ≡ false → head_step m (content l) ≡ mod_step (command (content l)) (fields_of l)
-unfolding head_step
+unfolding head_step head_choose
 first_line m l f c s = rw (c, s, f)
 
 pub other_go : (m : Met) (k : ℕ) (fs : List Bytes) → met_before k m ≡ false → holds k m.form fs ≡ true → other_step m k fs ≡ H.Go (meet k m)
-unfolding other_step
+unfolding other_step head_choose
 other_go m k fs b h = rw (b, h)
 
 goes_other : (m q : Met) (k : ℕ) (fs : List Bytes) → other_step m k fs ≡ H.Go q → (met_before k m ≡ false) × (holds k m.form fs ≡ true) × (q ≡ meet k m)
-unfolding other_step
+unfolding other_step head_choose
 goes_other m q k fs e = by (met_before k m) (holds k m.form fs) refl refl e
   where
-    by : (a b : Bool) → met_before k m ≡ a → holds k m.form fs ≡ b → pick (not a && b) (H.Go (meet k m)) H.Stop ≡ H.Go q →
+    by : (a b : Bool) → met_before k m ≡ a → holds k m.form fs ≡ b → head_choose (not a && b) (H.Go (meet k m)) H.Stop ≡ H.Go q →
         (met_before k m ≡ false) × (holds k m.form fs ≡ true) × (q ≡ meet k m)
     by true b p r e = absurd (false≢true (cc))
     by false true p r e = (p, r, (cc))
     by false false p r e = absurd (false≢true (cc))
 
 clean_step : (m q : Met) (c : Bytes) → head_step m c ≡ H.Go q → clean false c ≡ true
-unfolding head_step
+unfolding head_step head_choose
 clean_step m q c e = by (clean false c) e
   where
-    by : (b : Bool) → pick b (pick (blank c || eqb (command c) Com) (H.Go m)
-        (pick (eqb m.form 0) (mod_step (command c) (fields (rest c))) (other_step m (command c) (fields (rest c))))) H.Stop ≡ H.Go q → b ≡ true
+    by : (b : Bool) → head_choose b (head_choose (blank c || eqb (command c) Com) (H.Go m)
+        (head_choose (eqb m.form 0) (mod_step (command c) (fields (rest c))) (other_step m (command c) (fields (rest c))))) H.Stop ≡ H.Go q → b ≡ true
     by true e = refl
     by false e = absurd (false≢true (cc))
 
@@ -199,7 +199,7 @@ unfolding met_before
 none_met f = one_more refl (one_more refl (one_more refl (one_more refl (one_more refl (one_more refl none_left)))))
 
 starts_go : (l : Bytes) (ls : List Bytes) → Keeps (l ∷ ls) → (q : Met) × (head_step (met_none 0) (content l) ≡ H.Go q) × (((q ≡ met_none 0) × Keeps ls) ⊎ (¬ (q.form ≡ 0) × Follows q ls))
-unfolding mod_step met_before
+unfolding mod_step head_choose met_before
 starts_go l ls k = by (silent l) refl k.rules
   where
     ok : clean false (content l) ≡ true
@@ -235,10 +235,10 @@ starts_go l ls k = by (silent l) refl k.rules
         )
 
 mod_goes : (q : Met) (k : ℕ) (fs : List Bytes) → mod_step k fs ≡ H.Go q → (k ≡ Mod) × (¬ (mod_form fs ≡ 0)) × (q ≡ met_none (mod_form fs))
-unfolding mod_step
+unfolding mod_step head_choose
 mod_goes q k fs e = by (eqb k Mod) (eqb (mod_form fs) 0) (equal k Mod) (equal (mod_form fs) 0) e
   where
-    by : (a b : Bool) → Decides (k ≡ Mod) a → Decides (mod_form fs ≡ 0) b → pick (a && not b) (H.Go (met_none (mod_form fs))) H.Stop ≡ H.Go q →
+    by : (a b : Bool) → Decides (k ≡ Mod) a → Decides (mod_form fs ≡ 0) b → head_choose (a && not b) (H.Go (met_none (mod_form fs))) H.Stop ≡ H.Go q →
         (k ≡ Mod) × (¬ (mod_form fs ≡ 0)) × (q ≡ met_none (mod_form fs))
     by true true d g e = absurd (false≢true (cc))
     by true false (yes-it-holds h) (fails n) e = (h, n, (cc))

@@ -10,18 +10,14 @@ use lib.ListN.{length}
 use borrow.Author.Tests.{ne_eqb}
 use Rattle.page.specs.Bytes.{Bytes, pick}
 use Rattle.page.specs.Lines.{content, Src, Chs, Ver, Ifv}
-use Rattle.page.specs.Cut.{header_lines}
 use Rattle.page.specs.Header.{met_before, met_none, head_step, complete, head_end, head_continue, head_run, head_of}
-use Rattle.page.specs.Answers.{refuse-if}
-use Rattle.page.specs.File.{too_long, found, header_refusal}
-use Rattle.page.specs.Rules.{followers, Every, none_left, one_more, spoken, times, SoundHeader}
+use Rattle.page.specs.Rules.{Every, none_left, one_more, spoken, times, SoundHeader}
 use Rattle.page.specs.declared.Met.{Met}
 use Rattle.page.specs.declared.Heading.{Heading}
 use Rattle.page.specs.declared.Heading.TheVariants as H
 use Rattle.page.specs.declared.Finding.{Finding}
-use Rattle.page.specs.Faults.{Begun, Keeps, HeaderFault, at_line, missing}
+use Rattle.verdicts.specs.Headers.{followers, Begun, Keeps, HeaderFault, at_line, missing}
 use Rattle.laws.proofs.Decides.{Decides, holds, fails, fact, tested, when, both}
-use Rattle.laws.proofs.Earlier.{earlier_none}
 use Rattle.laws.proofs.Lists.{every_head, every_tail, every_at, every_from}
 use Rattle.verdicts.proofs.HeaderLines.{tally, Good, starting, started, Fit, good_go, go_good, good_nil, fit_go, tally_go, mod_go}
 
@@ -286,15 +282,3 @@ header_settled ls = by (settle (met_none 0) ls)
         (head_of ls ≡ finding 0 0) ⊎ ((n : ℕ) × (head_of ls ≡ finding 2 n))
     by (inl x) = at_end (complete x.0) (passed ls x.0 x.1)
     by (inr x) = inr (suc (length x.0), ap head_of x.4 ∙ stopped x.0 x.1 x.2 x.3 x.5 x.6)
-
--- a header that nothing refuses keeps the rules
-pub header_open : (s : Bytes) → (header_refusal s).number ≡ 0 → SoundHeader (header_lines s)
-unfolding header_refusal
-header_open s h = by (header_settled (header_lines s))
-  where
-    no_verdict : (head_of (header_lines s)).verdict ≡ 0
-    no_verdict = (earlier_none (refuse-if (too_long s) 1) (found (head_of (header_lines s))) h).1
-
-    by : (head_of (header_lines s) ≡ finding 0 0) ⊎ ((n : ℕ) × (head_of (header_lines s) ≡ finding 2 n)) → SoundHeader (header_lines s)
-    by (inl e) = (header_exactly (header_lines s)).0 e
-    by (inr e) = absurd (let z : ⊥ = omega (arith, no_verdict, ap (λ (f : Finding). f.verdict) e.1) in z)

@@ -12,7 +12,8 @@ use Rattle.page.specs.Model.{Content}
 use Rattle.page.specs.Rules.{Every, none_left, one_more, Tables, no_table, a_table, key, OneKey, Meets, Refers}
 use Rattle.page.specs.declared.Column.{Column}
 use Rattle.laws.specs.Begins.{begins}
-use Rattle.page.specs.Faults.{NoneOf, TableAgain, KeyAgain, Found, Lost}
+use Rattle.verdicts.specs.First.{NoneOf}
+use Rattle.verdicts.specs.Files.{TableAgain, KeyAgain, Found, Lost}
 use Rattle.laws.proofs.Decides.{Decides, holds, fails}
 use Rattle.laws.proofs.Lists.{every_head, every_tail, every_at, every_from, every_append, every_map}
 use Rattle.grammar.proofs.Readings.{denotes_read}

@@ -16,7 +16,8 @@ use Rattle.page.specs.Answers.{refusal, sound}
 use Rattle.page.specs.Rules.{Every, none_left, one_more, bare, key}
 use Rattle.page.specs.declared.Column.{Column}
 use Rattle.page.proofs.TableLaws.{past_tables, listed, each_table, name_tells}
-use Rattle.page.specs.Faults.{First, NoneOf, KeyAgain, Found, Lost}
+use Rattle.verdicts.specs.First.{First, NoneOf}
+use Rattle.verdicts.specs.Files.{KeyAgain, Found, Lost}
 use Rattle.laws.proofs.Decides.{Decides, holds, fails, when, denied, both, equal, below}
 use Rattle.laws.proofs.Tests.{same_d, is_d}
 use Rattle.laws.proofs.Lists.{every_at}

@@ -8,7 +8,7 @@ use Prim.Native.Nat.{ℕ, zero, suc, ◌<◌}
 use native.Mathlib.Omega.{arith}
 use lib.ListN.{length, get_or, length-append}
 use Rattle.page.specs.Rules.{Apart}
-use Rattle.page.specs.Faults.{NoneOf}
+use Rattle.verdicts.specs.First.{NoneOf}
 use Rattle.verdicts.proofs.Firsts.{none_cons, none_head, none_tail}
 
 module _ {A : Type 0} where

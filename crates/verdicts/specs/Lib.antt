@@ -1,2 +1,4 @@
-pub mod Numbers
-pub mod Witnesses
+pub mod Headers
+pub mod Trailers
+pub mod First
+pub mod Files

@@ -13,11 +13,11 @@ use Rattle.page.specs.Cut.{sections}
 use Rattle.page.specs.Head.{latin_of}
 use Rattle.page.specs.Records.{table_index}
 use Rattle.page.specs.Model.{model_of, datum_at, fill}
-use Rattle.page.specs.Answers.{sound, earlier, refuse-if, first-refusal}
+use Rattle.page.specs.Answers.{earlier, refuse-if}
 use Rattle.page.specs.Reading.{outside, section_at, row_at}
 use Rattle.page.specs.File.{file_refusal}
 use Rattle.page.specs.Form.{form_of}
-use Rattle.page.specs.Writing.{put_of, put_after, empty_datum, fill_place, fill_questions, fill_refusal, fill_form}
+use Rattle.page.specs.Writing.{put_of, put_after, empty_datum, fill_place, fill_refusal, fill_form}
 use Rattle.page.specs.declared.LineEnd.TheVariants as E
 use Rattle.page.specs.declared.Refusal.{Refusal}
 use Rattle.page.specs.declared.Stays.TheVariants as St
@@ -40,7 +40,7 @@ named i n e = let z = eqb-false i 0 (neither (eqb i 0) (ltb n i) e).0 in omega a
 
 module _ (s : Bytes) (i r f : ℕ) (t : Bytes) where
   abbrev last : Refusal
-  last = earlier (refuse-if (ltb 40 (length t)) 13) sound
+  last = refuse-if (ltb 40 (length t)) 13
 
   abbrev clean : Refusal
   clean = earlier (refuse-if (not (all (allowed (latin_of s)) t)) 4) last
@@ -65,7 +65,7 @@ module _ (s : Bytes) (i r f : ℕ) (t : Bytes) where
     pub size : length t ≤ 40
 
   pub fillable : (fill_refusal s i r f t).number ≡ 0 → Fillable
-  unfolding fill_refusal fill_questions first-refusal fill_place
+  unfolding fill_refusal fill_place
   fillable h =
       let a = earlier_none (file_refusal s) placed h in
       let b = earlier_none (refuse-if (fill_place s i r f) 24) suited a.1 in
@@ -73,7 +73,6 @@ module _ (s : Bytes) (i r f : ℕ) (t : Bytes) where
       let d = earlier_none (refuse-if (not (empty_datum (datum_at i r f (model_of s)))) 22) some c.1 in
       let e = earlier_none (refuse-if (eqb (length t) 0) 11) clean d.1 in
       let g = earlier_none (refuse-if (not (all (allowed (latin_of s)) t)) 4) last e.1 in
-      let k = earlier_none (refuse-if (ltb 40 (length t)) 13) sound g.1 in
       let x = outside i (length (sections s)) in
       let y = outside r (row_at s i).records in
       let z = outside f (width (table_index (section_at s i).lines)) in
@@ -83,7 +82,7 @@ module _ (s : Bytes) (i r f : ℕ) (t : Bytes) where
         section = named i (length (sections s)) (neither x y (neither (x || y) z p).0).0;
         entry = named r (row_at s i).records (neither x y (neither (x || y) z p).0).1;
         field = named f (width (table_index (section_at s i).lines)) (neither (x || y) z p).1;
-        size = ltb-false 40 (length t) (unrefused (ltb 40 (length t)) 12 k.0);
+        size = ltb-false 40 (length t) (unrefused (ltb 40 (length t)) 12 g.1);
       }
 
 module _ (s : Bytes) (i r f : ℕ) (t : Bytes) (q : Refusal) (e : q ≡ fill_refusal s i r f t) where

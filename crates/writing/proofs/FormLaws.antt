@@ -23,11 +23,10 @@ use Rattle.page.specs.declared.Stays.{Stays}
 use Rattle.page.specs.declared.Stays.TheVariants as St
 use Rattle.page.specs.declared.Written.{Written}
 use Rattle.verdicts.proofs.Files.{accepted_says}
-use Rattle.calls.proofs.HandedHeader.{header_stands}
 use Rattle.output.specs.Put.{Wrote}
 use Rattle.frames.specs.Lines.{line_with}
 use Rattle.frames.specs.Heads.{head_raw}
-use Rattle.frames.proofs.LineLaws.{line_with_is}
+use Rattle.frames.proofs.LineLaws.{line_with_is, head_same}
 use Rattle.copies.specs.declared.plan.Plan.{Plan}
 use Rattle.recording.specs.Said.{said_in}
 use Rattle.copies.specs.Changed.{kept_tables, changed_tables, changed_model}
@@ -36,13 +35,14 @@ use Rattle.copies.proofs.KeptLaws.{kept_count}
 use Rattle.recording.proofs.SectionLaws.{changed_tables_count}
 use Rattle.writing.proofs.SoundLaws.{accepted_said}
 use Rattle.writing.proofs.RoomLaws.{said_length}
-use Rattle.writing.proofs.HeadLaws.{head_same}
+use Rattle.writing.proofs.HeadLaws.{head_placed}
+use Rattle.writing.proofs.HeaderLaws.{header_texts}
 use Rattle.writing.proofs.ModelLaws.{coded, Beside, planned}
 
 module _ (s : Bytes) (h : (file_refusal s).number ≡ 0) (p : Plan) (t : Bytes) where
   head_is : head_raw p.ends s (header_values (header_lines s)) ≡ head_form p.ends (head_values (header_lines s))
   head_is =
-      head_same p.ends s (header_values (header_lines s)) (head_values (header_lines s)) (header_stands s (accepted_says s h).header)
+      head_same p.ends s (header_values (header_lines s)) (head_values (header_lines s)) (head_placed s (header_texts (header_lines s) (accepted_says s h).header))
 
   tables_count : length (changed_tables p.strip p.section p.rec p.field t (kept_tables p.stays (map said_in (sections s)))) ≡ length (sections s)
   tables_count =

@@ -2,5 +2,6 @@ pub mod SoundLaws
 pub mod RoomLaws
 pub mod HeadLaws
 pub mod ModelLaws
+pub mod HeaderLaws
 pub mod FormLaws
 pub mod FillLaws

@@ -8,7 +8,7 @@ use borrow.Author.Tests.{ne_eqb}
 use lib.Dec.{eqb}
 use Rattle.page.specs.Bytes.{Bytes, pick}
 use Rattle.page.specs.Records.{words, Record}
-use Rattle.page.specs.Model.{Content, Model, change, fill_record, fill_content, fill_model, strip_datum, strip_content, strip_model, Changes, nothing as no_change, strip as no-marks, fill as one-text, changed, kept}
+use Rattle.page.specs.Model.{Content, Model, change, fill_record, fill_content, fill_model, strip_datum, strip_content, strip_model, Changes, nothing as no_change, strip as no-marks, fill as one_text, changed, kept}
 use Rattle.page.specs.declared.LineEnd.{LineEnd}
 use Rattle.page.specs.declared.Owner.TheVariants as O
 use Rattle.page.specs.declared.Stays.{Stays}
@@ -109,16 +109,16 @@ tables_filled (suc k) r f t cs a b c = tables_fill k r f t cs b c ∙ rw (less_o
 abbrev pub coded : LineEnd → Stays → Changes → Plan
 coded e x no_change = record { ends = e; stays = x; strip = false; section = 0; rec = 0; field = 0 }
 coded e x no-marks = record { ends = e; stays = x; strip = true; section = 0; rec = 0; field = 0 }
-coded e x (one-text i r f t) = record { ends = e; stays = x; strip = false; section = i; rec = r; field = f }
+coded e x (one_text i r f t) = record { ends = e; stays = x; strip = false; section = i; rec = r; field = f }
 
 abbrev pub Beside : Changes → Bytes → Type 0
 Beside no_change t = Unit
 Beside no-marks t = Unit
-Beside (one-text i r f u) t = (t ≡ u) × (0 < i) × (0 < r) × (0 < f)
+Beside (one_text i r f u) t = (t ≡ u) × (0 < i) × (0 < r) × (0 < f)
 
 pub planned : (e : LineEnd) (x : Stays) (c : Changes) (t : Bytes) (m : Model) → Beside c t → changed_model (coded e x c) t m ≡ changed c (kept x m)
 unfolding changed_model changed strip_model fill_model
 planned e x no_change t m b = rw (tables_none 0 0 t (kept_tables x m.tables)) (kept_is x m)
 planned e x no-marks t m b = rw (tables_strip 0 0 t (kept_tables x m.tables)) (ap strip_model (kept_is x m))
-planned e x (one-text i r f u) t m b =
+planned e x (one_text i r f u) t m b =
     rw (b.0, tables_filled i r f u (kept_tables x m.tables) b.1 b.2 b.3) (ap (fill_model i r f u) (kept_is x m))

@@ -93,7 +93,7 @@ loop-again c =
     let n : l.c ≡ l.c + 1 - 1 = omega arith in
     let v = c.before.before.before.read-value.ensures
     ∙ column_value a.t (l.c + 1) l.c p.result a.at a.m o a.w.now d.result n p.ensures d.ensures in
-    (omega arith, next_by (values_more a.t o x (width a.t) l.c h) l.invariant.1 (rw v at c.before.before.put_value.ensures))
+    (omega arith, next_by (values_more a.t o x (width a.t) l.c h) l.invariant.1 (rw v at c.before.before.put-value.ensures))
 
 same_length : tie.Need-same-length invariant-loop decreases-loop
 same_length c =

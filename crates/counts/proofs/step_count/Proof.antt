@@ -2,7 +2,7 @@
 use mathlib.Core.Path.{sym, ◌∙◌}
 use borrow.Author.Tests.{eq-eqb, ne_eqb}
 use borrow.Author.Rules.{rules}
-use Rattle.page.specs.Section.{count_step}
+use Rattle.page.specs.Section.{count_step, choose}
 use Rattle.counts.proofs.step_count.Statement.{statement}
 use Rattle.counts.proofs.step_count.Tie as tie
 
@@ -13,7 +13,7 @@ enum-known-c : tie.Need-enum-known-c
 enum-known-c c = search rules
 
 returns : tie.Need-returns
-unfolding count_step
+unfolding count_step choose
 returns c =
     rw (sym c.before.before.before.before.read_number.ensures ∙ c.before.before.c.given.1, eq-eqb c.before.before.c.given.0.0 c.before.before.before.before.before.before.args.n c.if1.true)
 
@@ -24,17 +24,17 @@ enum-told-2 : tie.Need-enum-told-2
 enum-told-2 c = search rules
 
 returns-2 : tie.Need-returns-2
-unfolding count_step
+unfolding count_step choose
 returns-2 c =
     rw (sym c.before.before.before.before.read_number.ensures ∙ c.before.before.c.given.1, ne_eqb c.before.before.c.given.0.0 c.before.before.before.before.before.before.args.n c.if1.false)
 
 returns-3 : tie.Need-returns-3
-unfolding count_step
+unfolding count_step choose
 returns-3 c =
     rw (sym c.before.before.read_number.ensures ∙ c.enum_told.given.1)
 
 returns-4 : tie.Need-returns-4
-unfolding count_step
+unfolding count_step choose
 returns-4 c =
     rw (sym c.before.before.read_number.ensures ∙ c.enum-told2.given.1)
 

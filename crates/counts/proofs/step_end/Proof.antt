@@ -2,12 +2,12 @@
 use mathlib.Core.Path.{sym}
 use borrow.Author.Tests.{eq-eqb, ne_eqb}
 use borrow.Author.Rules.{rules}
-use Rattle.page.specs.Section.{end_step}
+use Rattle.page.specs.Section.{end_step, choose}
 use Rattle.counts.proofs.step_end.Statement.{statement}
 use Rattle.counts.proofs.step_end.Tie as tie
 
 returns : tie.Need-returns
-unfolding end_step
+unfolding end_step choose
 returns c =
     rw (ne_eqb c.before.before.args.m 0 c.if1.true)
 
@@ -15,7 +15,7 @@ count-fields-requires : tie.Need-count-fields-requires
 count-fields-requires c κs = search rules
 
 returns-2 : tie.Need-returns-2
-unfolding end_step
+unfolding end_step choose
 returns-2 c =
     rw (eq-eqb c.before.before.before.before.args.m 0 c.before.before.if1.false, sym c.before.count-fields.ensures, ne_eqb c.before.count-fields.result 1 c.if2.true)
 
@@ -26,7 +26,7 @@ step-count-requires : tie.Need-step-count-requires
 step-count-requires c κs = search rules
 
 returns-3 : tie.Need-returns-3
-unfolding end_step
+unfolding end_step choose
 returns-3 c =
     rw (eq-eqb c.before.before.before.before.before.before.args.m 0 c.before.before.before.before.if1.false, sym c.before.before.before.count-fields.ensures, eq-eqb c.before.before.before.count-fields.result 1 c.before.before.if2.false, sym c.before.field_at.ensures) c.step_count.ensures
 

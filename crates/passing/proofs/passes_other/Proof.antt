@@ -44,7 +44,7 @@ passes-requires c κs = search rules
 returns-3 : tie.Need-returns-3
 returns-3 c =
     let a = c.before.before.before.before.before.before.before.before.before.args in
-    let k = sym c.before.before.before.before.before.before.before.command_of.ensures ∙ c.before.before.before.before.before.before.if1.false in
+    let k = sym c.before.before.before.before.before.before.before.command-of.ensures ∙ c.before.before.before.before.before.before.if1.false in
     let f = rw c.before.before.before.before.before.find-semicolon.ensures at (sym c.before.before.before.all-allowed.ensures ∙ not-false _ c.before.before.if2.false) in
     λ e n. other_step a.c.now k a.latin a.t (held a.t a.o.now) a.m n f (rw c.before.rest_of.ensures at (sym c.passes.ensures ∙ e))
 

@@ -49,7 +49,7 @@ use denote.Triple.Call.{calls_at}
 use denote.Triple.Clauses.{ensured, lasts}
 use denote.Triple.Table.{entered, cited}
 use denote.Triple.Walked.{says, Stays, stay_slice, stay_none_slice, walk_of, Walks, ends_at, walked, Goes-slice, Goes-none_slice, walk_Meets}
-use Rattle.page.specs.Reading.{list_refusal, list_of, rows_after}
+use Rattle.page.specs.Reading.{list_refusal, rows_after}
 use Rattle.page.specs.Answers.{earlier, sound}
 use Rattle.page.specs.File.{file_refusal, rows_of, first_unsound}
 use Rattle.page.specs.declared.Row.{Row}
@@ -112,11 +112,6 @@ Arg = Bor (List ℕ) × (Bor (List Row) × Unit {0})
 
 abbrev stayed : Stays (f.ended).signature.params (f.ended).kept
 stayed = (stay_none_slice (0 ∷ []) tt (plain (λ _. u8)) yes, (stay_slice (1 ∷ []) tt (plain (λ _. T.the_row)), tt))
-
--- "other verdicts go into the rows and the file's answer"
-said-list : (bs : List ℕ) (m : ℕ) → earlier (list_refusal bs m) (file_refusal bs) ≡ list_of bs m
-unfolding list_of
-said-list bs m = refl
 
 module _ {M : Type 1} {𝓤 : Ura M} (𝓛 : Logic 𝓤) (mem : Memory → SProp 𝓤) (run : Routine → Fun 𝓤) where
   -- the contracts that the proof cites
@@ -210,7 +205,7 @@ module _ {M : Type 1} {𝓤 : Ura M} (𝓛 : Logic 𝓤) (mem : Memory → SProp
   said-answer : (v : Refusal) (t : Bool) (r : Refusal) → ent 𝓤 (ensured 𝓛 answer-list.ended (answer-list.clauses 𝓛 mem run) (κ₁, tt) (x₁, (v, (t, tt))) tt r) (fact 𝓤 (r ≡ earlier v (file_refusal bs)))
   said-answer v t r = ex_e 𝓤 _ (λ ws. snd∗ 𝓤 (sem 𝓛 (lasts answer-list.ended (κ₁, tt) (x₁, (v, (t, tt))) ws)) (fact 𝓤 (r ≡ earlier v (file_refusal bs))))
 
-  exits : (r : Refusal) (u : Val) (zs : List Row) → r ≡ list_of bs m → zs ≡ rows_after bs ys → length zs ≡ m
+  exits : (r : Refusal) (u : Val) (zs : List Row) → r ≡ earlier (list_refusal bs m) (file_refusal bs) → zs ≡ rows_after bs ys → length zs ≡ m
       → ent 𝓤 (⋆ 𝓛 (‵ ((S.the_row).own_val r (u ∷ [])) ∷ ‵ (Own zs) ∷ ‵ (flft κ₂ q₂) ∷ ‵ B ∷ ‵ (flft κ₁ q₁) ∷ [])) (Post u)
   exits r u zs e₁ e₂ l =
       qed 𝓛 (‵ ((S.the_row).own_val r (u ∷ [])) ∷ ‵ (Own zs) ∷ ‵ (flft κ₂ q₂) ∷ ‵ B ∷ ‵ (flft κ₁ q₁) ∷ []) ∵
@@ -298,7 +293,7 @@ module _ {M : Type 1} {𝓤 : Ura M} (𝓛 : Logic 𝓤) (mem : Memory → SProp
             land ! (from ! (stop !)) (init ! 29 refl ((LL.lawful S.the_type S'.the_laws 𝓛).typed r _ is).0) $
             returns ! (look ! 29 refl) $ forget ! 9 refl $ forget ! 11 refl $ forget ! 15 refl $ forget ! 17 refl $ forget ! 19 refl $ forget ! 21 refl $ forget ! 23 refl $ forget ! 25 refl $ forget ! 27 refl $ forget ! 29 refl $
             move ! (29 ∷ 30 ∷ []) $ free1 ! $ move ! (27 ∷ 28 ∷ []) $ free1 ! $ move ! (25 ∷ 26 ∷ []) $ free1 ! $ move ! (23 ∷ 24 ∷ []) $ free1 ! $ move ! (21 ∷ 22 ∷ []) $ free1 ! $ move ! (19 ∷ 20 ∷ []) $ free1 ! $ move ! (17 ∷ 18 ∷ []) $ free1 ! $ move ! (15 ∷ 16 ∷ []) $ free1 ! $ move ! (13 ∷ 14 ∷ []) $ free1 ! $ move ! (11 ∷ 12 ∷ []) $ free1 ! $ move ! (9 ∷ 10 ∷ []) $ free1 ! $ move ! (7 ∷ 8 ∷ []) $ free1 ! $ move ! (5 ∷ 6 ∷ []) $ free1 ! $ free0 ! $
-            by ! (exits r u (zs i) (e ∙ ap (λ (v : Refusal). earlier v (file_refusal bs)) (start_refusal bs m) ∙ said-list bs m) (ap (λ (k : ℕ). filled bs ys k) (le_antisymm i.1 (nltb→le i.0 n over)) ∙ filled_all bs ys) (long i)))))))
+            by ! (exits r u (zs i) (e ∙ ap (λ (v : Refusal). earlier v (file_refusal bs)) (start_refusal bs m)) (ap (λ (k : ℕ). filled bs ys k) (le_antisymm i.1 (nltb→le i.0 n over)) ∙ filled_all bs ys) (long i)))))))
           where
             σ : Step
             σ = step_at bs m i.0

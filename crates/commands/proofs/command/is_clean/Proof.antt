@@ -13,7 +13,7 @@ all-allowed-requires c κs = search rules
 
 returns : tie.Need-returns
 unfolding clean
-returns c = rw (c.before.before.if1.true, sym c.before.command_of.ensures) c.all-allowed.ensures
+returns c = rw (c.before.before.if1.true, sym c.before.command-of.ensures) c.all-allowed.ensures
 
 all-allowed-requires-2 : tie.Need-all-allowed-requires-2
 all-allowed-requires-2 c κs = search rules

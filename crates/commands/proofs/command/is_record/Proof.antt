@@ -12,7 +12,7 @@ command-of-requires c κs = search rules
 
 returns : tie.Need-returns
 returns c =
-    rw (sym c.before.content_without_end.ensures, sym c.command_of.ensures)
+    rw (sym c.before.content_without_end.ensures, sym c.command-of.ensures)
 
 pub is-record-spec : {M : Type 1} → statement M
 is-record-spec = tie.close (tie.spec content-of-requires command-of-requires returns)

@@ -135,7 +135,7 @@ add-t20 c =
     let to = at + c.before.before.before.before.before.content-len.result in
     let n : to ≡ at + content_size (take (c.before.before.before.before.before.before.before.line.result.span.to - at) (drop at h)) = ap (λ (x : ℕ). at + x) c.before.before.before.before.before.content-len.ensures in
     let i = content_in h at c.before.before.before.before.before.before.before.line.result.span.to to c.before.before.before.before.before.before.before.before.if1.true t.size n in
-    let z = semicolon_in h at c.before.before.before.before.before.before.before.line.result.span.to to c.before.before.before.before.before.before.before.before.if1.true t.size n c.before.before.before.before.before.before.before.before.before.before.before.before.args.k c.find-semicolon.result c.before.before.before.before.before.before.before.before.before.before.before.before.requires (sym c.before.before.before.command_of.ensures ∙ c.before.before.if2.true) c.find-semicolon.ensures in
+    let z = semicolon_in h at c.before.before.before.before.before.before.before.line.result.span.to to c.before.before.before.before.before.before.before.before.if1.true t.size n c.before.before.before.before.before.before.before.before.before.before.before.before.args.k c.find-semicolon.result c.before.before.before.before.before.before.before.before.before.before.before.before.requires (sym c.before.before.before.command-of.ensures ∙ c.before.before.if2.true) c.find-semicolon.ensures in
     search rules
 
 add-t23 : tie.Need-overflow-add-t23 invariant-loop decreases-loop
@@ -146,7 +146,7 @@ add-t23 c =
     let to = at + c.before.before.before.before.before.content-len.result in
     let n : to ≡ at + content_size (take (c.before.before.before.before.before.before.before.line.result.span.to - at) (drop at h)) = ap (λ (x : ℕ). at + x) c.before.before.before.before.before.content-len.ensures in
     let i = content_in h at c.before.before.before.before.before.before.before.line.result.span.to to c.before.before.before.before.before.before.before.before.if1.true t.size n in
-    let z = semicolon_in h at c.before.before.before.before.before.before.before.line.result.span.to to c.before.before.before.before.before.before.before.before.if1.true t.size n c.before.before.before.before.before.before.before.before.before.before.before.before.args.k c.find-semicolon.result c.before.before.before.before.before.before.before.before.before.before.before.before.requires (sym c.before.before.before.command_of.ensures ∙ c.before.before.if2.true) c.find-semicolon.ensures in
+    let z = semicolon_in h at c.before.before.before.before.before.before.before.line.result.span.to to c.before.before.before.before.before.before.before.before.if1.true t.size n c.before.before.before.before.before.before.before.before.before.before.before.before.args.k c.find-semicolon.result c.before.before.before.before.before.before.before.before.before.before.before.before.requires (sym c.before.before.before.command-of.ensures ∙ c.before.before.if2.true) c.find-semicolon.ensures in
     search rules
 
 returns : tie.Need-returns invariant-loop decreases-loop
@@ -157,7 +157,7 @@ returns c =
     let to = at + c.before.before.before.before.before.content-len.result in
     let n : to ≡ at + content_size (take (c.before.before.before.before.before.before.before.line.result.span.to - at) (drop at h)) = ap (λ (x : ℕ). at + x) c.before.before.before.before.before.content-len.ensures in
     let i = content_in h at c.before.before.before.before.before.before.before.line.result.span.to to c.before.before.before.before.before.before.before.before.if1.true t.size n in
-    found_here h at c.before.before.before.before.before.before.before.line.result.span.to to c.before.before.before.before.before.before.before.before.if1.true t.size n c.before.before.before.before.before.before.before.before.before.before.before.before.args.k c.find-semicolon.result c.before.before.before.before.before.before.before.before.before.before.before.before.requires (sym c.before.before.before.command_of.ensures ∙ c.before.before.if2.true) c.find-semicolon.ensures c.before.before.before.before.before.before.before.before.before.before.loop.invariant.1
+    found_here h at c.before.before.before.before.before.before.before.line.result.span.to to c.before.before.before.before.before.before.before.before.if1.true t.size n c.before.before.before.before.before.before.before.before.before.before.before.before.args.k c.find-semicolon.result c.before.before.before.before.before.before.before.before.before.before.before.before.requires (sym c.before.before.before.command-of.ensures ∙ c.before.before.if2.true) c.find-semicolon.ensures c.before.before.before.before.before.before.before.before.before.before.loop.invariant.1
 
 loop-less : tie.Need-loop-smaller invariant-loop decreases-loop
 loop-less c =
@@ -174,7 +174,7 @@ loop-again c =
     let to = at + c.before.before.before.before.content-len.result in
     let n : to ≡ at + content_size (take (c.before.before.before.before.before.before.line.result.span.to - at) (drop at h)) = ap (λ (x : ℕ). at + x) c.before.before.before.before.content-len.ensures in
     let i = content_in h at c.before.before.before.before.before.before.line.result.span.to to c.before.before.before.before.before.before.before.if1.true t.size n in
-    (omega arith, rw t.next (sym (line_more h at c.before.before.before.before.before.before.line.result.span.to to c.before.before.before.before.before.before.before.if1.true t.size n c.before.before.before.before.before.before.before.before.before.before.before.args.k (λ x. c.before.if2.false (c.before.before.command_of.ensures ∙ x))) ∙ c.before.before.before.before.before.before.before.before.before.loop.invariant.1))
+    (omega arith, rw t.next (sym (line_more h at c.before.before.before.before.before.before.line.result.span.to to c.before.before.before.before.before.before.before.if1.true t.size n c.before.before.before.before.before.before.before.before.before.before.before.args.k (λ x. c.before.if2.false (c.before.before.command-of.ensures ∙ x))) ∙ c.before.before.before.before.before.before.before.before.before.loop.invariant.1))
 
 returns-2 : tie.Need-returns-2 invariant-loop decreases-loop
 returns-2 c =

@@ -1,7 +1,7 @@
 -- `headers::steps::step_other` meets its contract. Assumes nothing.
 use mathlib.Core.Path.{sym}
 use borrow.Author.Rules.{rules}
-use Rattle.page.specs.Header.{other_step}
+use Rattle.page.specs.Header.{other_step, head_choose}
 use Rattle.headers.proofs.steps.step_other.Statement.{statement}
 use Rattle.headers.proofs.steps.step_other.Tie as tie
 
@@ -9,7 +9,7 @@ was-met-requires : tie.Need-was-met-requires
 was-met-requires c κs = search rules
 
 returns : tie.Need-returns
-unfolding other_step
+unfolding other_step head_choose
 returns c =
     rw (sym c.before.was-met.ensures, c.if1.true)
 
@@ -20,12 +20,12 @@ meet-requires : tie.Need-meet-requires
 meet-requires c κs = search rules
 
 returns-2 : tie.Need-returns-2
-unfolding other_step
+unfolding other_step head_choose
 returns-2 c =
     rw (sym c.before.before.before.before.was-met.ensures, c.before.before.before.if1.false, sym c.before.before.holds.ensures, c.before.if2.true, c.meet.ensures)
 
 returns-3 : tie.Need-returns-3
-unfolding other_step
+unfolding other_step head_choose
 returns-3 c =
     rw (sym c.before.before.before.was-met.ensures, c.before.before.if1.false, sym c.before.holds.ensures, c.if2.false)
 

@@ -2,7 +2,7 @@
 use mathlib.Core.Path.{sym}
 use borrow.Author.Tests.{eq-eqb, ne_eqb}
 use borrow.Author.Rules.{rules}
-use Rattle.page.specs.Section.{line_step, atr_step}
+use Rattle.page.specs.Section.{line_step, atr_step, choose}
 use Rattle.machine.specs.Carries.{records_in, order_at, Carries, Found}
 use Rattle.machine.proofs.machine.step_line.Statement.{statement}
 use Rattle.machine.proofs.machine.step_line.Tie as tie
@@ -14,7 +14,7 @@ step-tbl-requires : tie.Need-step-tbl-requires
 step-tbl-requires c κs = search rules
 
 returns : tie.Need-returns
-unfolding line_step
+unfolding line_step choose
 returns c =
     rw (c.before.before.enum_told.given.1, eq-eqb c.before.before.before.before.before.args.k 8 c.before.if1.true) c.step-tbl.ensures
 
@@ -25,7 +25,7 @@ step-atr-requires : tie.Need-step-atr-requires
 step-atr-requires c κs = search rules
 
 returns-2 : tie.Need-returns-2
-unfolding line_step atr_step Found
+unfolding line_step atr_step choose Found
 returns-2 c =
     let f = rw c.before.before.before.p.given.1 at c.before.before.before.before.before.before.requires.2 in
     rw (c.before.before.before.p.given.1, eq-eqb c.before.before.before.before.before.before.args.k 9 c.before.if2.true, sym f) c.step-atr.ensures
@@ -38,7 +38,7 @@ unfolding Carries
 step-frm-requires c κs = let x = rw c.before.before.p2.given.1 at c.before.before.before.before.before.requires.0 in x.orderly
 
 returns-3 : tie.Need-returns-3
-unfolding line_step order_at
+unfolding line_step order_at choose
 returns-3 c =
     rw (c.before.before.before.p2.given.1, eq-eqb c.before.before.before.before.before.before.args.k 10 c.before.if3.true) c.step-frm.ensures
 
@@ -56,17 +56,17 @@ enum-told-2 : tie.Need-enum-told-2
 enum-told-2 c = search rules
 
 returns-4 : tie.Need-returns-4
-unfolding line_step
+unfolding line_step choose
 returns-4 c =
     rw (c.before.enum_told.given.1, ne_eqb c.before.before.before.before.args.k 8 c.if1.false)
 
 returns-5 : tie.Need-returns-5
-unfolding line_step
+unfolding line_step choose
 returns-5 c =
     rw (c.before.before.p.given.1, ne_eqb c.before.before.before.before.before.args.k 9 c.if2.false)
 
 returns-6 : tie.Need-returns-6
-unfolding line_step
+unfolding line_step choose
 returns-6 c =
     rw (c.before.before.p2.given.1, ne_eqb c.before.before.before.before.before.args.k 10 c.if3.false)
 

@@ -2,7 +2,7 @@
 use mathlib.Core.Path.{sym, ◌∙◌}
 use borrow.Author.Tests.{not-true, not-false, lt-ltb, le-ltb}
 use borrow.Author.Rules.{rules}
-use Rattle.page.specs.Section.{mark_step}
+use Rattle.page.specs.Section.{mark_step, choose}
 use Rattle.machine.specs.Carries.{order_at, Carries}
 use Rattle.machine.proofs.machine.step_mark.Statement.{statement}
 use Rattle.machine.proofs.machine.step_mark.Tie as tie
@@ -24,11 +24,11 @@ unfolding Carries
 may-mark-requires c κs = let x = rw c.before.p.given.1 at c.before.before.before.requires in x.orderly
 
 returns : tie.Need-returns
-unfolding mark_step order_at
+unfolding mark_step order_at choose
 returns c = rw (c.before.before.before.p.given.1, sym c.before.may_mark.ensures ∙ not-true _ c.if1.true)
 
 returns-2 : tie.Need-returns-2
-unfolding mark_step order_at
+unfolding mark_step order_at choose
 returns-2 c =
     rw (c.before.before.before.before.p.given.1, sym c.before.before.may_mark.ensures ∙ not-false _ c.before.if1.false, lt-ltb c.before.before.before.before.p.given.0.1.0 c.before.before.before.before.before.before.args.i c.if2.true)
 
@@ -51,7 +51,7 @@ returns-5 c =
     rw c.enum-told3.given.1
 
 returns-6 : tie.Need-returns-6
-unfolding mark_step order_at
+unfolding mark_step order_at choose
 returns-6 c =
     rw (c.before.before.before.before.p.given.1, sym c.before.before.may_mark.ensures ∙ not-false _ c.before.if1.false, le-ltb c.before.before.before.before.p.given.0.1.0 c.before.before.before.before.before.before.args.i c.if2.false)
 

@@ -52,7 +52,7 @@ returns c =
     let t = handed c.before.before.before.before.before.before.before.before.before.before.args.s.now c.before.before.before.before.before.before.before.before.loop.c.at c.before.before.before.before.before.line.result c.before.before.before.before.before.before.if1.true c.before.before.before.before.before.line.ensures in
     let x = c.before.before.before.content_without_end.ensures in
     c.rest_of.ensures ∙ ap rest x
-    ∙ sym (atr_here _ _ _ t.cut (sym (ap command x) ∙ sym c.before.before.command_of.ensures ∙ c.before.if2.true)) ∙ c.before.before.before.before.before.before.before.before.loop.invariant.1
+    ∙ sym (atr_here _ _ _ t.cut (sym (ap command x) ∙ sym c.before.before.command-of.ensures ∙ c.before.if2.true)) ∙ c.before.before.before.before.before.before.before.before.loop.invariant.1
 
 loop-less : tie.Need-loop-smaller invariant-loop decreases-loop
 loop-less c =
@@ -66,7 +66,7 @@ loop-again c =
     let n = c.before.if2.false in (
       omega arith,
       rw t.next
-          (sym (atr_later _ _ _ t.cut (λ e. n (c.before.before.command_of.ensures ∙ ap command x ∙ e))) ∙ c.before.before.before.before.before.before.before.before.loop.invariant.1),
+          (sym (atr_later _ _ _ t.cut (λ e. n (c.before.before.command-of.ensures ∙ ap command x ∙ e))) ∙ c.before.before.before.before.before.before.before.before.loop.invariant.1),
     )
 
 slice-aggregate-result : tie.Need-slice-aggregate-result invariant-loop decreases-loop

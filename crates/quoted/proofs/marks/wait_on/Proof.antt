@@ -10,7 +10,7 @@ command-of-requires c κs = search rules
 
 returns : tie.Need-returns
 returns c =
-    waits_other _ _ (λ e. c.if1.true (c.before.command_of.ensures ∙ e))
+    waits_other _ _ (λ e. c.if1.true (c.before.command-of.ensures ∙ e))
 
 rest-of-requires : tie.Need-rest-of-requires
 rest-of-requires c κs = search rules
@@ -29,15 +29,15 @@ enum-known-i c = search rules
 
 returns-2 : tie.Need-returns-2
 returns-2 c =
-    waits_remark _ _ _ (sym c.before.before.before.before.before.command_of.ensures ∙ c.before.before.before.before.if1.false) (ap remark_of (sym c.before.before.before.rest_of.ensures) ∙ sym c.before.before.read-remark.ensures ∙ c.enum_told.given.1)
+    waits_remark _ _ _ (sym c.before.before.before.before.before.command-of.ensures ∙ c.before.before.before.before.if1.false) (ap remark_of (sym c.before.before.before.rest_of.ensures) ∙ sym c.before.before.read-remark.ensures ∙ c.enum_told.given.1)
 
 returns-3 : tie.Need-returns-3
 returns-3 c =
-    waits_remark _ _ _ (sym c.before.before.before.before.before.command_of.ensures ∙ c.before.before.before.before.if1.false) (ap remark_of (sym c.before.before.before.rest_of.ensures) ∙ sym c.before.before.read-remark.ensures ∙ c.enum-told2.given.1)
+    waits_remark _ _ _ (sym c.before.before.before.before.before.command-of.ensures ∙ c.before.before.before.before.if1.false) (ap remark_of (sym c.before.before.before.rest_of.ensures) ∙ sym c.before.before.read-remark.ensures ∙ c.enum-told2.given.1)
 
 returns-4 : tie.Need-returns-4
 returns-4 c =
-    waits_remark _ _ _ (sym c.before.before.before.before.before.before.command_of.ensures ∙ c.before.before.before.before.before.if1.false) (ap remark_of (sym c.before.before.before.before.rest_of.ensures) ∙ sym c.before.before.before.read-remark.ensures ∙ c.before.i.given.1)
+    waits_remark _ _ _ (sym c.before.before.before.before.before.before.command-of.ensures ∙ c.before.before.before.before.before.if1.false) (ap remark_of (sym c.before.before.before.before.rest_of.ensures) ∙ sym c.before.before.before.read-remark.ensures ∙ c.before.i.given.1)
 
 pub wait-on-spec : {M : Type 1} → statement M
 wait-on-spec =

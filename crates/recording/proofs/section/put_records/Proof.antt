@@ -83,8 +83,8 @@ put-staying-requires c κs =
     let i = c.before.before.before.before.before.before.before.line in
     let q = c.before.before.before.before.before.before.before.before.if1.true in
     let t = handed s l.c.at i.result q i.ensures in
-    let y = rows_more s l.c.at i.result.span.to q t.size a.t (held a.t a.o.now) l.m _ c.before.before.before.before.content_without_end.ensures (sym c.before.before.before.command_of.ensures ∙ c.before.before.if2.true) _ c.rest_of.ensures in
-    let p = passes_here s l.c.at i.result.span.to q t.size a.t (held a.t a.o.now) l.m _ c.before.before.before.before.content_without_end.ensures (sym c.before.before.before.command_of.ensures ∙ c.before.before.if2.true) l.invariant.2 _ c.rest_of.ensures in
+    let y = rows_more s l.c.at i.result.span.to q t.size a.t (held a.t a.o.now) l.m _ c.before.before.before.before.content_without_end.ensures (sym c.before.before.before.command-of.ensures ∙ c.before.before.if2.true) _ c.rest_of.ensures in
+    let p = passes_here s l.c.at i.result.span.to q t.size a.t (held a.t a.o.now) l.m _ c.before.before.before.before.content_without_end.ensures (sym c.before.before.before.command-of.ensures ∙ c.before.before.if2.true) l.invariant.2 _ c.rest_of.ensures in
     let r = c.before.before.before.before.before.before.before.before.before.before.before.before.before.before.before.requires in
     let k : l.n < 18446744073709551615 = search rules in
     (records_fit a.plan a.text.now l.n _ _ _ y _ _ l.invariant.4 r.0, r.1, r.2, c.before.before.before.before.before.before.before.before.before.before.before.is-listed.ensures, p, k)
@@ -107,10 +107,10 @@ loop-again c =
     let i = c.before.before.before.before.before.before.before.before.before.before.line in
     let q = c.before.before.before.before.before.before.before.before.before.before.before.if1.true in
     let t = handed s l.c.at i.result q i.ensures in
-    let y = rows_more s l.c.at i.result.span.to q t.size a.t (held a.t a.o.now) l.m _ c.before.before.before.before.before.before.before.content_without_end.ensures (sym c.before.before.before.before.before.before.command_of.ensures ∙ c.before.before.before.before.before.if2.true) _ c.before.before.before.rest_of.ensures in
+    let y = rows_more s l.c.at i.result.span.to q t.size a.t (held a.t a.o.now) l.m _ c.before.before.before.before.before.before.before.content_without_end.ensures (sym c.before.before.before.before.before.before.command-of.ensures ∙ c.before.before.before.before.before.if2.true) _ c.before.before.before.rest_of.ensures in
     let r = c.before.before.put-staying.ensures in
     let z = records_more a.plan a.text.now l.n _ _ _ _ y r.1 in
-    let p = passes_more s l.c.at i.result.span.to q t.size a.t (held a.t a.o.now) l.m _ c.before.before.before.before.before.before.before.content_without_end.ensures (sym c.before.before.before.before.before.before.command_of.ensures ∙ c.before.before.before.before.before.if2.true) l.invariant.2 in
+    let p = passes_more s l.c.at i.result.span.to q t.size a.t (held a.t a.o.now) l.m _ c.before.before.before.before.before.before.before.content_without_end.ensures (sym c.before.before.before.before.before.before.command-of.ensures ∙ c.before.before.before.before.before.if2.true) l.invariant.2 in
     let u = count_most a.plan.stays l.n _ _ r.1 in
     let v = rows_count a.plan.stays _ _ _ y in
     (omega arith, omega (arith, u), rw t.next p, rw t.next (omega (arith, v, r.1, l.invariant.3)), rw t.next (next_by z l.invariant.4 r.0))
@@ -136,8 +136,8 @@ loop-again-2 c =
     let i = c.before.before.before.before.before.before.line in
     let q = c.before.before.before.before.before.before.before.if1.true in
     let t = handed s l.c.at i.result q i.ensures in
-    let y = rows_other s l.c.at i.result.span.to q t.size a.t (held a.t a.o.now) l.m _ c.before.before.before.content_without_end.ensures (λ e. c.before.if2.false (c.before.before.command_of.ensures ∙ e)) in
-    let p = passes_other s l.c.at i.result.span.to q t.size a.t (held a.t a.o.now) l.m _ c.before.before.before.content_without_end.ensures (λ e. c.before.if2.false (c.before.before.command_of.ensures ∙ e)) l.invariant.2 in (
+    let y = rows_other s l.c.at i.result.span.to q t.size a.t (held a.t a.o.now) l.m _ c.before.before.before.content_without_end.ensures (λ e. c.before.if2.false (c.before.before.command-of.ensures ∙ e)) in
+    let p = passes_other s l.c.at i.result.span.to q t.size a.t (held a.t a.o.now) l.m _ c.before.before.before.content_without_end.ensures (λ e. c.before.if2.false (c.before.before.command-of.ensures ∙ e)) l.invariant.2 in (
       omega arith,
       omega arith,
       rw (t.next, c.wait-on.ensures) p,

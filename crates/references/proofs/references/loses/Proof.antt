@@ -39,7 +39,7 @@ command-of-requires c κs = search rules
 returns : tie.Need-returns invariant-loop decreases-loop
 returns c =
     let a = c.before.before.before.before.before.before.before.args in
-    (sym (lacks_other a.s.now a.aims a.t _ _ _ c.before.before.content_without_end.ensures c.before.command_of.ensures c.if1.true), c.before.before.before.before.before.before.before.requires.3)
+    (sym (lacks_other a.s.now a.aims a.t _ _ _ c.before.before.content_without_end.ensures c.before.command-of.ensures c.if1.true), c.before.before.before.before.before.before.before.requires.3)
 
 rest-of-requires : tie.Need-rest-of-requires invariant-loop decreases-loop
 rest-of-requires c κs = search rules
@@ -72,7 +72,7 @@ returns-2 c =
     let l = c.before.before.before.before.before.before.before.before.before.loop in
     let f = c.before.before.before.before.before.before.before.find-aim in (
       sym (
-          lacks_record a.s.now a.aims a.t _ _ _ c.before.before.before.before.before.before.before.before.before.before.before.before.before.before.content_without_end.ensures c.before.before.before.before.before.before.before.before.before.before.before.before.before.command_of.ensures c.before.before.before.before.before.before.before.before.before.before.before.before.if1.false _ c.before.before.before.before.before.before.before.before.before.before.before.rest_of.ensures c.before.before.before.before.before.before.before.before.before.before.count-references.result c.before.before.before.before.before.before.before.before.before.before.count-references.ensures
+          lacks_record a.s.now a.aims a.t _ _ _ c.before.before.before.before.before.before.before.before.before.before.before.before.before.before.content_without_end.ensures c.before.before.before.before.before.before.before.before.before.before.before.before.before.command-of.ensures c.before.before.before.before.before.before.before.before.before.before.before.before.if1.false _ c.before.before.before.before.before.before.before.before.before.before.before.rest_of.ensures c.before.before.before.before.before.before.before.before.before.before.count-references.result c.before.before.before.before.before.before.before.before.before.before.count-references.ensures
           ∙ sym l.invariant.1
           ∙ some_hit _ l.r c.before.before.before.before.before.before.before.before.before.before.count-references.result c.before.before.before.before.before.before.before.before.loop-test.true
           (lacks_is a.s.now a.aims a.t _ l.r f.result f.ensures _ c.before.before.before.before.before.before.read-chosen.ensures _ _ c.before.before.before.before.reaches.ensures c.if2.true)),
@@ -111,7 +111,7 @@ returns-3 c =
     let a = c.before.before.before.before.before.before.before.before.before.before.before.args in
     let l = c.before.loop in (
       sym (
-          lacks_record a.s.now a.aims a.t _ _ _ c.before.before.before.before.before.before.content_without_end.ensures c.before.before.before.before.before.command_of.ensures c.before.before.before.before.if1.false _ c.before.before.before.rest_of.ensures c.before.before.count-references.result c.before.before.count-references.ensures
+          lacks_record a.s.now a.aims a.t _ _ _ c.before.before.before.before.before.before.content_without_end.ensures c.before.before.before.before.before.command-of.ensures c.before.before.before.before.if1.false _ c.before.before.before.rest_of.ensures c.before.before.count-references.result c.before.before.count-references.ensures
           ∙ sym l.invariant.1 ∙ some_end _ l.r c.before.before.count-references.result c.loop-test.false),
       l.invariant.3,
     )

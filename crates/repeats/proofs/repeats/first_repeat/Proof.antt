@@ -1,5 +1,5 @@
 -- `repeats::repeats::first_repeat` meets its contract. Assumes nothing.
-use Rattle.repeats.proofs.PartLaws.{Clean, clean_first, clean_all, clean_more, repeats_here, Scanned, scanned_first, scanned_end, scanned_met, scanned_next}
+use Rattle.repeats.proofs.PartLaws.{Clean, clean_first, clean_all, clean_more, repeats_here, Rising, rising_first, rising_next, rising_end}
 use Rattle.page.specs.Answers.{sound}
 use borrow.Author.Rules.{rules}
 use Prim.Native.Nat.{◌-◌, ◌≤◌}
@@ -10,11 +10,11 @@ use Rattle.repeats.proofs.repeats.first_repeat.Statement.{statement}
 use Rattle.repeats.proofs.repeats.first_repeat.Tie as tie
 
 abbrev invariant-loop : tie.invariant-loop
-invariant-loop s seats second count found₀ i choice w top₀ at₀ n₀ found top at n =
-    (found ≡ sound) × Scanned choice w top.k at n
+invariant-loop s seats second count found₀ i choice w top₀ at₀ found top at =
+    (found ≡ sound) × Rising choice w top.k at
 
 abbrev decreases-loop : tie.decreases-loop
-decreases-loop s seats second count found₀ i choice w top₀ at₀ n₀ found top at n =
+decreases-loop s seats second count found₀ i choice w top₀ at₀ found top at =
     length w - at
 
 abbrev invariant-scan : tie.invariant-scan
@@ -38,7 +38,7 @@ add-i : tie.Need-overflow-add-i invariant-loop decreases-loop invariant-scan dec
 add-i c = omega (arith, c.before.before.scan-test.true, c.before.before.before.before.before.requires.few)
 
 loop-holds : tie.Need-loop-init invariant-loop decreases-loop invariant-scan decreases-scan
-loop-holds c = (c.before.before.before.scan.invariant.1, scanned_first _ _ _)
+loop-holds c = (c.before.before.before.scan.invariant.1, rising_first _ _ _)
 
 scan-less : tie.Need-scan-smaller invariant-loop decreases-loop invariant-scan decreases-scan
 scan-less c = omega (arith, c.before.before.before.before.scan-test.true)
@@ -47,45 +47,40 @@ scan-again : tie.Need-scan-preserved invariant-loop decreases-loop invariant-sca
 scan-again c =
     let x = c.before.before.before.before.before.before.before in
     let v = c.before.before.before.before.before.scan in
-    let t = c.before.before.before.before.scan-test.true in
     let q = c.before.before.before.find-choice in
     let w = c.before.before.find-part in
-    let l = c.before.loop in
-    (omega (arith, t), l.invariant.0, clean_more x.args.s.now x.args.seats x.requires x.args.second v.i v.invariant.2 t q.result q.ensures w.result.now w.ensures (scanned_end _ _ _ _ _ l.invariant.1 c.loop-test.false))
+    let l = c.before.loop in (
+      omega (arith, c.before.before.before.before.scan-test.true),
+      l.invariant.0,
+      clean_more x.args.s.now x.args.seats x.requires x.args.second v.i v.invariant.2 c.before.before.before.before.scan-test.true q.result q.ensures w.result.now w.ensures (rising_end _ _ _ _ l.invariant.1 c.loop-test.false),
+    )
 
 pass-line-requires : tie.Need-pass-line-requires invariant-loop decreases-loop invariant-scan decreases-scan
 pass-line-requires c κs = c.loop-test.true
 
-add-n : tie.Need-overflow-add-n invariant-loop decreases-loop invariant-scan decreases-scan
-add-n c = omega (arith, c.before.before.loop.invariant.1.stands.low)
-
 find-rise-requires : tie.Need-find-rise-requires invariant-loop decreases-loop invariant-scan decreases-scan
 find-rise-requires c κs = (omega arith, omega arith)
-
-meets-top-requires : tie.Need-meets-top-requires invariant-loop decreases-loop invariant-scan decreases-scan
-meets-top-requires c κs = (omega arith, omega arith)
-
-refuse-repeat-requires : tie.Need-refuse-repeat-requires invariant-loop decreases-loop invariant-scan decreases-scan
-refuse-repeat-requires c κs = search rules
 
 find-repeat-requires : tie.Need-find-repeat-requires invariant-loop decreases-loop invariant-scan decreases-scan
 find-repeat-requires c κs = search rules
 
 scan-less-2 : tie.Need-scan-smaller-2 invariant-loop decreases-loop invariant-scan decreases-scan
-scan-less-2 c = omega (arith, c.before.before.before.before.before.before.before.before.before.before.before.before.before.scan-test.true)
+scan-less-2 c = omega (arith, c.before.before.before.before.before.before.before.before.before.before.before.scan-test.true)
 
 scan-again-2 : tie.Need-scan-preserved-2 invariant-loop decreases-loop invariant-scan decreases-scan
 scan-again-2 c =
-    let x = c.before.before.before.before.before.before.before.before.before.before.before.before.before.before.before.before in
-    let v = c.before.before.before.before.before.before.before.before.before.before.before.before.before.before.scan in
-    let t = c.before.before.before.before.before.before.before.before.before.before.before.before.before.scan-test.true in
-    let q = c.before.before.before.before.before.before.before.before.before.before.before.before.find-choice in
-    let w = c.before.before.before.before.before.before.before.before.before.before.before.find-part in
-    let z : c.before.find-repeat.result ≡ 0 = c.if3.true in
-    (omega (arith, t), c.before.before.before.before.before.before.before.before.before.before.loop.invariant.0, clean_more x.args.s.now x.args.seats x.requires x.args.second v.i v.invariant.2 t q.result q.ensures w.result.now w.ensures (sym c.before.find-repeat.ensures ∙ z))
+    let x = c.before.before.before.before.before.before.before.before.before.before.before.before.before.before in
+    let v = c.before.before.before.before.before.before.before.before.before.before.before.before.scan in
+    let q = c.before.before.before.before.before.before.before.before.before.before.find-choice in
+    let w = c.before.before.before.before.before.before.before.before.before.find-part in
+    let z : c.before.find-repeat.result ≡ 0 = c.if2.true in (
+      omega (arith, c.before.before.before.before.before.before.before.before.before.before.before.scan-test.true),
+      c.before.before.before.before.before.before.before.before.loop.invariant.0,
+      clean_more x.args.s.now x.args.seats x.requires x.args.second v.i v.invariant.2 c.before.before.before.before.before.before.before.before.before.before.before.scan-test.true q.result q.ensures w.result.now w.ensures (sym c.before.find-repeat.ensures ∙ z),
+    )
 
-refuse-repeat-requires-2 : tie.Need-refuse-repeat-requires-2 invariant-loop decreases-loop invariant-scan decreases-scan
-refuse-repeat-requires-2 c κs = search rules
+refuse-repeat-requires : tie.Need-refuse-repeat-requires invariant-loop decreases-loop invariant-scan decreases-scan
+refuse-repeat-requires c κs = search rules
 
 loop-less : tie.Need-loop-smaller invariant-loop decreases-loop invariant-scan decreases-scan
 loop-less c = omega arith
@@ -95,7 +90,7 @@ loop-again c =
     let l = c.before.before.before.before.before.before.loop in
     let w = c.before.before.before.before.before.before.before.find-part.result.now in
     let e = c.before.before.before.before.pass_line in
-    (l.invariant.0, scanned_next _ w _ l.at l.n l.invariant.1 e.result c.before.before.before.before.before.loop-test.true e.ensures.0 _ _ c.before.before.before.find-rise.ensures c.before.if1.false)
+    (l.invariant.0, rising_next _ w _ l.at l.invariant.1 e.result c.before.before.before.before.before.loop-test.true e.ensures.0 _ _ c.before.before.before.find-rise.ensures c.if1.false)
 
 returns : tie.Need-returns invariant-loop decreases-loop invariant-scan decreases-scan
 returns c =
@@ -107,22 +102,10 @@ returns-2 : tie.Need-returns-2 invariant-loop decreases-loop invariant-scan decr
 returns-2 c =
     let x = c.before.before.before.before.before.before.before.before.before.before.before.before.before.before.before in
     let v = c.before.before.before.before.before.before.before.before.before.before.before.before.before.scan in
-    let t = c.before.before.before.before.before.before.before.before.before.before.before.before.scan-test.true in
     let q = c.before.before.before.before.before.before.before.before.before.before.before.find-choice in
     let w = c.before.before.before.before.before.before.before.before.before.before.find-part in
-    let l = c.before.before.before.before.before.before.before.before.before.loop in
-    let e = c.before.before.before.before.before.before.before.pass_line in
-    let m = scanned_met _ w.result.now _ l.at l.n l.invariant.1 e.result c.before.before.before.before.before.before.before.before.loop-test.true e.ensures.0 _ _ c.before.before.meets-top.ensures c.before.if2.true in
-    c.refuse-repeat.ensures ∙ repeats_here x.args.s.now x.args.seats x.requires x.args.second v.i v.invariant.2 t q.result q.ensures w.result.now w.ensures _ m (λ z. omega arith)
-
-returns-3 : tie.Need-returns-3 invariant-loop decreases-loop invariant-scan decreases-scan
-returns-3 c =
-    let x = c.before.before.before.before.before.before.before.before.before.before.before.before.before.before.before.before.before in
-    let v = c.before.before.before.before.before.before.before.before.before.before.before.before.before.before.before.scan in
-    let t = c.before.before.before.before.before.before.before.before.before.before.before.before.before.before.scan-test.true in
-    let q = c.before.before.before.before.before.before.before.before.before.before.before.before.before.find-choice in
-    let w = c.before.before.before.before.before.before.before.before.before.before.before.before.find-part in
-    c.refuse-repeat2.ensures ∙ repeats_here x.args.s.now x.args.seats x.requires x.args.second v.i v.invariant.2 t q.result q.ensures w.result.now w.ensures _ c.before.before.find-repeat.ensures c.before.if3.false
+    c.refuse-repeat.ensures
+    ∙ repeats_here x.args.s.now x.args.seats x.requires x.args.second v.i v.invariant.2 c.before.before.before.before.before.before.before.before.before.before.before.before.scan-test.true q.result q.ensures w.result.now w.ensures _ c.before.before.find-repeat.ensures c.before.if2.false
 
 pub first-repeat-spec : {M : Type 1} → statement M
 first-repeat-spec =
@@ -140,16 +123,12 @@ first-repeat-spec =
     scan-less
     scan-again
     pass-line-requires
-    add-n
     find-rise-requires
-    meets-top-requires
-    refuse-repeat-requires
     find-repeat-requires
     scan-less-2
     scan-again-2
-    refuse-repeat-requires-2
+    refuse-repeat-requires
     loop-less
     loop-again
     returns
-    returns-2
-    returns-3)
+    returns-2)

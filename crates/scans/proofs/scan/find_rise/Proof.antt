@@ -21,7 +21,7 @@ command-of-requires : tie.Need-command-of-requires
 command-of-requires c κs = search rules
 
 returns : tie.Need-returns
-returns c = rises_other _ _ _ _ c.before.before.content_without_end.ensures c.before.command_of.ensures _ c.if1.true
+returns c = rises_other _ _ _ _ c.before.before.content_without_end.ensures c.before.command-of.ensures _ c.if1.true
 
 rest-of-requires : tie.Need-rest-of-requires
 rest-of-requires c κs = search rules
@@ -34,7 +34,7 @@ less-key-requires c κs = search rules
 
 returns-2 : tie.Need-returns-2
 returns-2 c =
-    let r = rises_record _ _ _ _ c.before.before.before.before.before.content_without_end.ensures c.before.before.before.before.command_of.ensures _ c.before.before.before.if1.false _ c.before.before.rest_of.ensures _ c.before.read-chosen.ensures in
+    let r = rises_record _ _ _ _ c.before.before.before.before.before.content_without_end.ensures c.before.before.before.before.command-of.ensures _ c.before.before.before.if1.false _ c.before.before.rest_of.ensures _ c.before.read-chosen.ensures in
     (c.less-key.ensures ∙ r.0, r.1)
 
 pub find-rise-spec : {M : Type 1} → statement M

@@ -22,7 +22,7 @@ command-of-requires c κs = search rules
 
 returns : tie.Need-returns
 returns c =
-    sym (again_other _ _ _ _ c.before.before.content_without_end.ensures c.before.command_of.ensures _ c.if1.true)
+    sym (again_other _ _ _ _ c.before.before.content_without_end.ensures c.before.command-of.ensures _ c.if1.true)
 
 rest-of-requires : tie.Need-rest-of-requires
 rest-of-requires c κs = search rules
@@ -35,7 +35,7 @@ was-met-requires c κs = search rules
 
 returns-2 : tie.Need-returns-2
 returns-2 c =
-    c.was-met.ensures ∙ sym (again_record _ _ _ _ c.before.before.before.before.before.content_without_end.ensures c.before.before.before.before.command_of.ensures c.before.before.before.if1.false _ c.before.before.rest_of.ensures _ c.before.read-chosen.ensures _)
+    c.was-met.ensures ∙ sym (again_record _ _ _ _ c.before.before.before.before.before.content_without_end.ensures c.before.before.before.before.command-of.ensures c.before.before.before.if1.false _ c.before.before.rest_of.ensures _ c.before.read-chosen.ensures _)
 
 pub is-again-spec : {M : Type 1} → statement M
 is-again-spec =

@@ -36,7 +36,9 @@ use denote.Triple.Call.{calls_at}
 use denote.Triple.Clauses.{ensured, lasts}
 use denote.Triple.Table.{entered, cited}
 use denote.Triple.Walked.{says, Stays, stay_slice, stay_none_slice, walk_of, Walks, ends_at, walked, Goes-slice, Goes-none_slice, walk_Meets}
-use Rattle.page.specs.Reading.{list_of, rows_after}
+use Rattle.page.specs.Reading.{list_refusal, rows_after}
+use Rattle.page.specs.Answers.{earlier}
+use Rattle.page.specs.File.{file_refusal}
 use Rattle.page.specs.declared.Row.{Row}
 use Rattle.page.specs.declared.Refusal.{Refusal}
 use Rattle.page.specs.contracts.Row as T
@@ -115,7 +117,7 @@ module _ {M : Type 1} {𝓤 : Ura M} (𝓛 : Logic 𝓤) (mem : Memory → SProp
       nothing ! $ move ! (2 ∷ 0 ∷ []) $ fjoin ! $ move ! (2 ∷ 0 ∷ []) $ fjoin ! $ move ! (1 ∷ 0 ∷ []) $ join ! $ nothing ! $ move ! (1 ∷ 0 ∷ []) $ done !
 
   abbrev Says : Refusal → List Row → Type 0
-  Says r zs = (r ≡ list_of bs m) × (zs ≡ rows_after bs ys)
+  Says r zs = (r ≡ earlier (list_refusal bs m) (file_refusal bs)) × (zs ≡ rows_after bs ys)
 
   exits : (r : Refusal) (u : Val) (zs : List Row) → Says r zs → length zs ≡ m
       → ent 𝓤 (⋆ 𝓛 (‵ ((S.the_row).own_val r (u ∷ [])) ∷ ‵ (Own zs) ∷ ‵ (flft κ₂ q₂) ∷ ‵ B ∷ ‵ (flft κ₁ q₁) ∷ [])) (Post u)
