@@ -1,4 +1,6 @@
 // Where the references of a table go: asked for once a section.
+#![tactic(auto)]
+
 ghost use Rattle.std.specs.Prelude.{◌≡◌, get_or};
 ghost use Rattle.arrangement.specs.Orders.{held, Stands};
 ghost use Rattle.seats.specs.Seating.{Ready};
@@ -10,7 +12,7 @@ use tables::{TABLES, WIDEST};
 
 // A reference's fields, its target by its place in the list of tables, the bytes of the target's section, none if it has no section, and
 // the fields of the target's key.
-#[derive(Drop)]
+#[derive(Clone, Copy)]
 pub struct Aim {
     pub refer: Choice,
     pub target: usize,
@@ -20,7 +22,7 @@ pub struct Aim {
 }
 
 // Each has its own field, not a place in an array, so that what a loop needs of them stays in the machine's registers.
-#[derive(Drop)]
+#[derive(Clone, Copy)]
 pub struct Aims {
     pub first: Aim,
     pub second: Aim,

@@ -1,5 +1,7 @@
 // A number column's field by the number that it reads as: a number within its range, and a real day where that is asked, a missing number, or a
 // refusal by its number.
+#![tactic(auto)]
+
 ghost use Rattle.std.specs.Prelude.{◌≡◌, false, ◌-◌, ◌≤◌, length, take, drop};
 ghost use Rattle.page.specs.Bytes.{pick, trim};
 ghost use Rattle.page.specs.Fields.{number_of};

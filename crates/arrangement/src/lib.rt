@@ -1,4 +1,6 @@
 // Which column stands where. An order is lent as an array of WIDEST places, of which the first ones, as many as the table has columns, count.
+#![tactic(auto)]
+
 ghost use Rattle.std.specs.Prelude.{◌≡◌, true};
 ghost use Rattle.page.specs.Tables.{WIDEST};
 ghost use Rattle.page.specs.Order.{upto, listed_order, place, column_in};

@@ -1,4 +1,6 @@
 // The calendar: real Gregorian dates, by which the date of `src` and the days of records go.
+#![tactic(auto)]
+
 ghost use Rattle.std.specs.Prelude.{◌≡◌};
 ghost use Rattle.page.specs.Dates.{leap, days_in, real_date, real_day};
 

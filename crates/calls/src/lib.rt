@@ -1,1 +1,2 @@
 // What the calls answer, number by number.
+#![tactic(auto)]

@@ -1,4 +1,6 @@
 // For each file that an argument names: its name, its listing, and what writing, filling and stripping make of it.
+#![tactic(auto)]
+
 mod writing;
 
 use libc::STDOUT_FILENO;

@@ -1,4 +1,6 @@
 // The values of one record, three numbers each.
+#![tactic(auto)]
+
 ghost use Rattle.std.specs.Prelude.{◌≡◌, [], ◌∷◌, ◌+◌, ◌≤◌, length};
 ghost use Rattle.page.specs.Tables.{width};
 ghost use Rattle.page.specs.File.{limit};

@@ -1,4 +1,6 @@
 // Which fields of a line make a key or a reference, where its columns stand in an order. A loop over records asks for it once.
+#![tactic(auto)]
+
 ghost use Rattle.std.specs.Prelude.{◌≡◌, ℕ, ◌<◌, ◌≤◌, get_or};
 ghost use Rattle.page.specs.Bytes.{pick};
 ghost use Rattle.page.specs.Tables.{WIDEST};
@@ -10,7 +12,7 @@ use tables::{WIDEST, find_key, find_kinds, find_reference, find_width};
 
 // A digit a place, from the left the lowest first. Of base 4 in kinds: 0: not this field; 1: its number; 2: its text. Of base 8 in slots:
 // which of the key's numbers it is, by column.
-#[derive(Drop)]
+#[derive(Clone, Copy)]
 pub struct Choice {
     pub kinds: u64,
     pub slots: u64,

@@ -1,4 +1,6 @@
 // The rules of a header's lines.
+#![tactic(auto)]
+
 mod met;
 mod names;
 mod rules;

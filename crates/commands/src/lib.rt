@@ -1,4 +1,6 @@
 // A line's command, and its fields.
+#![tactic(auto)]
+
 mod command;
 mod fields;
 

@@ -1,4 +1,6 @@
 // How a file is written, and what of a record already stands as the form has it.
+#![tactic(auto)]
+
 mod plan;
 mod standing;
 

@@ -8,7 +8,7 @@ use page::{LineEnd, Stays};
 
 // How lines end, which records stay, and what is changed: marked texts go (`strip`), or a text is put into one field. Section, record and
 // field count from 1, and 0 names none.
-#[derive(Drop)]
+#[derive(Clone, Copy)]
 pub struct Plan {
     pub ends: LineEnd,
     pub stays: Stays,

@@ -1,4 +1,6 @@
 // The line that ends a section, and its count.
+#![tactic(auto)]
+
 ghost use Rattle.std.specs.Prelude.{◌≡◌};
 ghost use Rattle.page.specs.Fields.{fields, number_of};
 ghost use Rattle.page.specs.Section.{count_step, end_step};

@@ -60,7 +60,7 @@ pub fn count_sections(s: &[u8]) -> usize
 }
 
 // How many sections a file has, and where its trailer starts.
-#[derive(Drop)]
+#[derive(Clone, Copy)]
 pub struct Survey {
     pub sections: usize,
     pub end: usize,

@@ -1,4 +1,6 @@
 // The cut of a file into header, sections and trailer.
+#![tactic(auto)]
+
 mod cut;
 mod seek;
 

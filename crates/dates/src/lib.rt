@@ -1,4 +1,6 @@
 // Dates and times.
+#![tactic(auto)]
+
 mod dates;
 mod places;
 

@@ -1,4 +1,6 @@
 // Numbers and the digits that they are written with.
+#![tactic(auto)]
+
 mod numbers;
 mod walk;
 

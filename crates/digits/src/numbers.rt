@@ -6,7 +6,7 @@ ghost use Rattle.digits.specs.Magnitudes.{magnitude_of};
 use page::Number;
 
 // What 1 to 18 digits are worth.
-#[derive(Drop)]
+#[derive(Clone, Copy)]
 pub enum Magnitude {
     Is(u64),
     Nothing,

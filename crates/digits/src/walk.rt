@@ -11,14 +11,14 @@ use crate::numbers::{is_digit, read_number, widen};
 use page::Number;
 
 // Digits: what they are worth, and where they end.
-#[derive(Drop)]
+#[derive(Clone, Copy)]
 struct Digits {
     value: u64,
     to: usize,
 }
 
 // A number field, where it ends, and whether its bytes are known to be allowed in any line.
-#[derive(Drop)]
+#[derive(Clone, Copy)]
 pub struct Counted {
     pub number: Number,
     pub end: usize,

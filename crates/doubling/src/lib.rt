@@ -1,4 +1,6 @@
 // Texts put into lent output: with their quotes, where one inside is doubled, or their own bytes alone.
+#![tactic(auto)]
+
 mod own;
 mod texts;
 

@@ -1,5 +1,7 @@
 // The fields of a written record, column by column, each from what is read of it: k counts the columns from 0, and m is the column, from 1,
 // of the mark that waits (0: none).
+#![tactic(auto)]
+
 ghost use Rattle.std.specs.Prelude.{◌≡◌, ◌&&◌, [], ◌∷◌, ◌+◌, ◌<◌, ◌≤◌, ◌^◌, eqb, length};
 ghost use Rattle.page.specs.Bytes.{pick, part};
 ghost use Rattle.page.specs.Fields.{fields};

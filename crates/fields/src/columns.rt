@@ -17,7 +17,7 @@ use page::{Column, Field, Number, Span};
 use quoted::{Size, text_at, text_size};
 
 // A field, where it ends, and whether its bytes are known to be allowed.
-#[derive(Drop)]
+#[derive(Clone, Copy)]
 pub struct Reading {
     pub field: Field,
     pub end: usize,

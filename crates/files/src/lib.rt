@@ -1,4 +1,6 @@
 // The file's answer.
+#![tactic(auto)]
+
 mod answer;
 mod unsound;
 

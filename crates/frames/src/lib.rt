@@ -1,4 +1,6 @@
 // The lines around records: the header, a table's head, marks and counts.
+#![tactic(auto)]
+
 mod heads;
 mod lines;
 mod titles;

@@ -5,14 +5,14 @@ use keys::Key;
 use lines::Cursor;
 
 // A line's hash, and where the next line begins.
-#[derive(Drop)]
+#[derive(Clone, Copy)]
 pub struct Hashed {
     pub hash: u64,
     pub next: usize,
 }
 
 // The number that a field's digits make, where the next field begins, and whether that is in another line.
-#[derive(Drop)]
+#[derive(Clone, Copy)]
 struct Digits {
     value: u64,
     next: usize,

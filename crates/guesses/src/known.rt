@@ -2,7 +2,7 @@
 // known stays in the machine's registers.
 
 // Of each reference, where it found its last record, and by a bit whether it is guessed; and where in the section the guesses end.
-#[derive(Drop)]
+#[derive(Clone, Copy)]
 pub struct Known {
     pub first: usize,
     pub second: usize,

@@ -1,4 +1,6 @@
 // Guesses where a record may stand.
+#![tactic(auto)]
+
 mod follow;
 mod guesses;
 mod hashes;

@@ -1,4 +1,6 @@
 // What a call hands out into lent room: a text's own bytes, and whose it is.
+#![tactic(auto)]
+
 ghost use Rattle.std.specs.Prelude.{◌≡◌, length};
 ghost use Rattle.page.specs.Handing.{text_out, text_after};
 

@@ -1,4 +1,6 @@
 // A file's header and trailer.
+#![tactic(auto)]
+
 mod answer;
 mod find;
 mod steps;

@@ -16,7 +16,7 @@ use tables::{COLUMNS, HIGHS, KINDS, LOWS, MARKS, WIDEST, column_of, find_first, 
 
 // What one walk over a record's fields finds: the number of the first wrong one (0: none), whether they are known to be as many as the
 // columns, whether all bytes are known to be allowed, and a number of each, by column.
-#[derive(Drop)]
+#[derive(Clone, Copy)]
 struct Judgement {
     wrong: u32,
     whole: bool,
@@ -26,7 +26,7 @@ struct Judgement {
 
 // What one field says: the number of what is wrong with it (0: nothing), its value if it is a number or its size if it is a text, where it
 // ends, and whether its bytes are known to be allowed.
-#[derive(Drop)]
+#[derive(Clone, Copy)]
 struct Told {
     wrong: u32,
     value: u64,

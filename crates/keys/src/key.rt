@@ -6,7 +6,7 @@ ghost use Rattle.keys.specs.Orders.{less, mixed, hashed};
 pub const PLACES: usize = 7;
 
 // The numbers of a key's values, the last ones 0 where it has fewer.
-#[derive(Drop)]
+#[derive(Clone, Copy)]
 pub struct Key {
     pub k: [u64; PLACES],
 }

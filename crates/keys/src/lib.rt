@@ -1,4 +1,6 @@
 // The keys of records, by value.
+#![tactic(auto)]
+
 mod key;
 mod read;
 

@@ -13,7 +13,7 @@ use choices::Choice;
 use page::{Column, Field};
 
 // A field as a number, and where it ends.
-#[derive(Drop)]
+#[derive(Clone, Copy)]
 struct Taken {
     value: u64,
     end: usize,

@@ -1,1 +1,2 @@
 // Laws that several crates need.
+#![tactic(auto)]

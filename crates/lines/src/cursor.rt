@@ -7,13 +7,13 @@ ghost use Rattle.lines.specs.Lines.{no_lf, Onward, line_at};
 use page::Span;
 
 // A place in a file's bytes.
-#[derive(Drop)]
+#[derive(Clone, Copy)]
 pub struct Cursor {
     pub at: usize,
 }
 
 // A whole line, and the cursor behind it.
-#[derive(Drop)]
+#[derive(Clone, Copy)]
 pub struct Line {
     pub span: Span,
     pub next: Cursor,

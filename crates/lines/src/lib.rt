@@ -1,4 +1,6 @@
 // Lines, and the fields of a line.
+#![tactic(auto)]
+
 mod content;
 mod cursor;
 mod scan;

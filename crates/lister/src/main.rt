@@ -1,4 +1,6 @@
 // Lists every section of the file on standard input.
+#![tactic(auto)]
+
 use libc::STDIN_FILENO;
 
 fn main() {

@@ -1,4 +1,6 @@
 // What the program `lister` prints of a file.
+#![tactic(auto)]
+
 use libc::STDOUT_FILENO;
 use page::{Refusal, Row};
 

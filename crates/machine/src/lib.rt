@@ -1,4 +1,6 @@
 // The machine over a section's lines.
+#![tactic(auto)]
+
 mod machine;
 
 pub use machine::{Moved, step};

@@ -167,7 +167,7 @@ pub fn step_content(c: &[u8], p: Phase, o: &[u8; WIDEST], found: bool, latin: bo
 }
 
 // What a line leads to, and which column stands where after it.
-#[derive(Drop)]
+#[derive(Clone, Copy)]
 pub struct Moved {
     pub step: Step,
     pub order: [u8; WIDEST],

@@ -1,5 +1,7 @@
 // The marks that are written before a record, column by column: k counts the columns from 0, and m is the column, from 1, of the mark that
 // waits (0: none).
+#![tactic(auto)]
+
 ghost use Rattle.std.specs.Prelude.{◌≡◌, ◌&&◌, ◌+◌, ◌<◌, ◌^◌, eqb, length};
 ghost use Rattle.page.specs.Tables.{columns, column_at};
 ghost use Rattle.output.specs.Put.{Put};

@@ -1,4 +1,6 @@
 // A table by its name, and the lines that state a table's columns.
+#![tactic(auto)]
+
 ghost use Rattle.std.specs.Prelude.{◌≡◌};
 ghost use Rattle.page.specs.Bytes.{bytes, same};
 ghost use Rattle.page.specs.Tables.{name_at, table_named};

@@ -14,7 +14,7 @@ use lines::Cursor;
 use tables::{NAMES, WIDEST, find_width};
 
 // What an `atr` line says: whether it arranges the table's columns, and which stands where; document 01's own order, if it does not.
-#[derive(Drop)]
+#[derive(Clone, Copy)]
 pub struct Arranged {
     pub found: bool,
     pub order: [u8; WIDEST],

@@ -1,5 +1,7 @@
 // Bytes put into lent output, one form after another. Each function writes only inside `out` and always moves on: called with
 // `&mut out[..0]` it only counts.
+#![tactic(auto)]
+
 mod bytes;
 mod room;
 

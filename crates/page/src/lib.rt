@@ -1,14 +1,15 @@
 // The types that document 01's definitions and the code share.
+#![tactic(auto)]
 
 // Bytes of a file, from the first to before the last place.
-#[derive(Drop)]
+#[derive(Clone, Copy)]
 pub struct Span {
     pub from: usize,
     pub to: usize,
 }
 
 // A number is an optional `-` and 1 to 18 digits, `-0` being 0.
-#[derive(Drop)]
+#[derive(Clone, Copy)]
 pub enum Number {
     Plus(u64),
     Minus(u64),
@@ -16,14 +17,14 @@ pub enum Number {
 }
 
 // "Each text handed out says whose it is: the operator's, or a suggestion."
-#[derive(Drop)]
+#[derive(Clone, Copy)]
 pub enum Owner {
     Operator,
     Suggestion,
 }
 
 // A record's text: its bytes in the file, between the quotes, and whose it is.
-#[derive(Drop)]
+#[derive(Clone, Copy)]
 pub struct Text {
     pub from: usize,
     pub to: usize,
@@ -31,7 +32,7 @@ pub struct Text {
 }
 
 // "a record's value is from now on a number, a missing number or a text with its owner"
-#[derive(Drop)]
+#[derive(Clone, Copy)]
 pub enum Value {
     Number(u64),
     Missing,
@@ -40,7 +41,7 @@ pub enum Value {
 
 // What a field of a record is read as: a text by its bytes between the quotes, a number by its value, a missing number, or a refusal by
 // its number.
-#[derive(Drop)]
+#[derive(Clone, Copy)]
 pub enum Field {
     Text(Span),
     Number(u64),
@@ -50,7 +51,7 @@ pub enum Field {
 
 // A column of the fixed tables: its kind (a text of at most `hi` bytes, or a number from `lo` to `hi`, which may have to be a day), the size
 // written in `frm`, its keys, whether it may be marked and filled, and whether its number may be missing.
-#[derive(Drop)]
+#[derive(Clone, Copy)]
 pub struct Column {
     pub text: bool,
     pub day: bool,
@@ -64,7 +65,7 @@ pub struct Column {
 }
 
 // What a `com` line's rest says.
-#[derive(Drop)]
+#[derive(Clone, Copy)]
 pub enum Remark {
     Comment,
     Unreadable,
@@ -73,7 +74,7 @@ pub enum Remark {
 
 // Where a section's reading stands: the table by its place in the list of tables, the field of the mark that waits (0: none), the
 // records so far.
-#[derive(Drop)]
+#[derive(Clone, Copy)]
 pub enum Phase {
     Tbl,
     Atr(usize),
@@ -83,14 +84,14 @@ pub enum Phase {
 }
 
 // What a line of a section leads to.
-#[derive(Drop)]
+#[derive(Clone, Copy)]
 pub enum Step {
     Go(Phase),
     Stop(u32),
 }
 
 // A section's answer: its table's number (0 if the `tbl` line fails), its records, its verdict and the line that fails.
-#[derive(Drop)]
+#[derive(Clone, Copy)]
 pub struct Outcome {
     pub table: u32,
     pub records: usize,
@@ -100,7 +101,7 @@ pub struct Outcome {
 
 // "One row a section with table number, place, length, record count and verdict; the verdict stands with its line."
 #[repr(C)]
-#[derive(Drop)]
+#[derive(Clone, Copy)]
 pub struct Row {
     pub table: u32,
     pub place: usize,
@@ -111,21 +112,21 @@ pub struct Row {
 }
 
 // The verdict of a header or of a trailer, with its line.
-#[derive(Drop)]
+#[derive(Clone, Copy)]
 pub struct Finding {
     pub verdict: u32,
     pub line: usize,
 }
 
 // A Gregorian date, and a time of day.
-#[derive(Drop)]
+#[derive(Clone, Copy)]
 pub struct Date {
     pub year: u64,
     pub month: u64,
     pub day: u64,
 }
 
-#[derive(Drop)]
+#[derive(Clone, Copy)]
 pub struct Time {
     pub hour: u64,
     pub minute: u64,
@@ -133,7 +134,7 @@ pub struct Time {
 }
 
 // What a header has met so far: the date's form (0: no `mod` line yet, 1: DD.MM.YYYY, 2: YYYY/MM/DD), and which other lines.
-#[derive(Drop)]
+#[derive(Clone, Copy)]
 pub struct Met {
     pub form: u32,
     pub src: bool,
@@ -145,21 +146,21 @@ pub struct Met {
 }
 
 // What a line of a header leads to.
-#[derive(Drop)]
+#[derive(Clone, Copy)]
 pub enum Heading {
     Go(Met),
     Stop,
 }
 
 // The text of a header line that need not stand.
-#[derive(Drop)]
+#[derive(Clone, Copy)]
 pub enum Stated {
     Absent,
     At(Span),
 }
 
 // A header's values: its texts by their bytes between the quotes.
-#[derive(Drop)]
+#[derive(Clone, Copy)]
 pub struct Header {
     pub source: Span,
     pub date: Date,
@@ -173,7 +174,7 @@ pub struct Header {
 
 // A refusal: the paper's number, and its place.
 #[repr(C)]
-#[derive(Drop)]
+#[derive(Clone, Copy)]
 pub struct Refusal {
     pub number: u32,
     pub section: usize,
@@ -181,62 +182,62 @@ pub struct Refusal {
 }
 
 // The file's answer.
-#[derive(Drop)]
+#[derive(Clone, Copy)]
 pub enum Checked {
     Sound,
     Refused(Refusal),
 }
 
 // The answer of a call that reads the header.
-#[derive(Drop)]
+#[derive(Clone, Copy)]
 pub enum Headed {
     Is(Header),
     Refused(Refusal),
 }
 
 // The answer of a call that reads one section.
-#[derive(Drop)]
+#[derive(Clone, Copy)]
 pub enum Listed {
     Is(Row),
     Refused(Refusal),
 }
 
 // The answer of a call that reads one value.
-#[derive(Drop)]
+#[derive(Clone, Copy)]
 pub enum Got {
     Is(Value),
     Refused(Refusal),
 }
 
 // The answer of a call that writes into lent output: how much it wrote.
-#[derive(Drop)]
+#[derive(Clone, Copy)]
 pub enum Written {
     Length(usize),
     Refused(Refusal),
 }
 
 // A text's own bytes in lent output: how many they are, and whose the text is.
-#[derive(Drop)]
+#[derive(Clone, Copy)]
 pub struct Copied {
     pub length: usize,
     pub owner: Owner,
 }
 
 // The answer of a call that hands out one text.
-#[derive(Drop)]
+#[derive(Clone, Copy)]
 pub enum Handed {
     Is(Copied),
     Refused(Refusal),
 }
 
 // How the lines of a written file end.
-#[derive(Drop)]
+#[derive(Clone, Copy)]
 pub enum LineEnd {
     Lf,
 }
 
 // Which records of a file are written.
-#[derive(Drop)]
+#[derive(Clone, Copy)]
 pub enum Stays {
     All,
 }

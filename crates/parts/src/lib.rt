@@ -1,5 +1,7 @@
 // The parts of a record that stand as they are written: each is copied from its place in the file to its column's. w is what stands
 // after the record's first `;`, its fields in the order o.
+#![tactic(auto)]
+
 ghost use Rattle.std.specs.Prelude.{◌≡◌, true, ◌∷◌, ◌+◌, ◌-◌, ◌<◌, ◌≤◌, ◌^◌, length, take, drop};
 ghost use Rattle.page.specs.Fields.{fields};
 ghost use Rattle.page.specs.Tables.{width};
@@ -14,7 +16,7 @@ use output::{put_byte, put_bytes};
 use tables::{WIDEST, find_width};
 
 // Whether all fields stand as they are written, and then where they begin, with the space before them, and end, by column.
-#[derive(Drop)]
+#[derive(Clone, Copy)]
 pub struct Parts {
     pub all: bool,
     pub starts: [usize; WIDEST],

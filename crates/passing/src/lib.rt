@@ -1,5 +1,7 @@
 // The records of a section that follow one another, passed without asking the machine: a section is nearly all records, and nearly every
 // one passes.
+#![tactic(auto)]
+
 ghost use Rattle.std.specs.Prelude.{◌≡◌, true, ℕ, ◌+◌, ◌≤◌, length, drop, get_or};
 ghost use Rattle.page.specs.Lines.{lines};
 ghost use Rattle.page.specs.Section.{content_step, step, run};
@@ -12,7 +14,7 @@ use lines::Cursor;
 use tables::{COLUMNS, WIDEST};
 
 // Where the first line stands that was not passed, how many were, and the mark that waits there.
-#[derive(Drop)]
+#[derive(Clone, Copy)]
 pub struct Passed {
     pub at: usize,
     pub count: usize,

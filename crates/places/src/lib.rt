@@ -1,4 +1,6 @@
 // Where the records of a section stand, and the mark that waits for each.
+#![tactic(auto)]
+
 ghost use Rattle.std.specs.Prelude.{◌≡◌, ◌+◌, ◌-◌, ◌<◌, ◌≤◌, length, take, drop};
 ghost use Rattle.page.specs.Lines.{lines, content, command, Rec};
 ghost use Rattle.page.specs.Records.{waits};
@@ -9,7 +11,7 @@ ghost use Rattle.places.specs.Placed.{Placed};
 use lines::Cursor;
 
 // A record's fields: what stands after its line's first `;`, and the field of the mark that waits for it (0: none).
-#[derive(Drop)]
+#[derive(Clone, Copy)]
 pub struct Place {
     pub from: usize,
     pub to: usize,

@@ -1,4 +1,6 @@
 // Quoted texts, and the marks that they make.
+#![tactic(auto)]
+
 mod marks;
 mod texts;
 mod walk;

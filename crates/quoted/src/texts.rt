@@ -6,7 +6,7 @@ ghost use Rattle.page.specs.Section.{record_text, no_bytes};
 ghost use Rattle.quoted.specs.Sizes.{size_of};
 
 // How many bytes a text stands for.
-#[derive(Drop)]
+#[derive(Clone, Copy)]
 pub enum Size {
     Is(usize),
     Nothing,

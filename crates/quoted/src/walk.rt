@@ -13,7 +13,7 @@ use digits::{ends_at, skip_space};
 use lines::is_allowed;
 
 // What follows an opening quote: whether it is met as a text of allowed bytes, where that ends, after its closing quote, and its size.
-#[derive(Drop)]
+#[derive(Clone, Copy)]
 struct Body {
     met: bool,
     end: usize,
@@ -21,7 +21,7 @@ struct Body {
 }
 
 // A text field: whether it is met so; if it is, where it begins, at its opening quote, where it ends, and its size.
-#[derive(Drop)]
+#[derive(Clone, Copy)]
 pub struct Met {
     pub met: bool,
     pub from: usize,

@@ -1,4 +1,6 @@
 // Sections of the written file.
+#![tactic(auto)]
+
 mod section;
 
 pub use section::{Progress, put_section};

@@ -20,7 +20,7 @@ use records::put_record;
 use tables::WIDEST;
 
 // How far the writing has come, and how many records or sections were written.
-#[derive(Drop)]
+#[derive(Clone, Copy)]
 pub struct Progress {
     pub at: usize,
     pub count: usize,

@@ -1,4 +1,6 @@
 // One record of the written file.
+#![tactic(auto)]
+
 mod record;
 
 pub use record::put_record;

@@ -1,4 +1,6 @@
 // 20: "a reference finds no record".
+#![tactic(auto)]
+
 mod children;
 mod references;
 

@@ -20,14 +20,14 @@ use scans::{Find, finds_from};
 use seats::{Seats, find_order, find_seat};
 
 // Whether a reference finds its record, and what is known then.
-#[derive(Drop)]
+#[derive(Clone, Copy)]
 struct Reach {
     met: bool,
     known: Known,
 }
 
 // The key by which the first reference of the last record found its own, if one did. It is the version's, which seldom changes.
-#[derive(Drop)]
+#[derive(Clone, Copy)]
 struct Recent {
     met: bool,
     key: Key,
@@ -160,7 +160,7 @@ fn reaches(
 }
 
 // Whether a reference of a line finds no record, and what is known then.
-#[derive(Drop)]
+#[derive(Clone, Copy)]
 struct Loss {
     lost: bool,
     known: Known,

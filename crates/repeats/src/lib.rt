@@ -1,4 +1,6 @@
 // 18, 19: "primary key, second key met before".
+#![tactic(auto)]
+
 mod repeats;
 mod section;
 

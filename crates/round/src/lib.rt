@@ -1,1 +1,2 @@
 // Written and read again it is the same.
+#![tactic(auto)]

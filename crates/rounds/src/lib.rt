@@ -1,4 +1,6 @@
 // One round over the lines of a section: the first, of those whose hash falls into the round, whose key stands before it.
+#![tactic(auto)]
+
 ghost use Rattle.std.specs.Prelude.{◌≡◌, true, ◌+◌, ◌<◌, ◌≤◌, ◌^◌, length, drop};
 ghost use Rattle.page.specs.Lines.{lines};
 ghost use Rattle.page.proofs.LineLaws.{line_size};

@@ -1,4 +1,6 @@
 // "Whoever lists a file may lend rows: one row a section."
+#![tactic(auto)]
+
 ghost use Rattle.std.specs.Prelude.{◌≡◌, true, length};
 ghost use Rattle.page.specs.Answers.{earlier, sound};
 ghost use Rattle.page.specs.File.{file_refusal, rows_of, first_unsound};

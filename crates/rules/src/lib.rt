@@ -1,4 +1,6 @@
 // The rules of a table's records, asked of the numbers that are kept of a record's fields, by column.
+#![tactic(auto)]
+
 ghost use Rattle.std.specs.Prelude.{◌≡◌, not, ◌&&◌, ◌+◌, ◌≤◌};
 ghost use Rattle.page.specs.Tables.{WIDEST, points_differ, feeder_combined, rules};
 ghost use Rattle.tables.specs.Keys.{points_rule, feeder_rule};

@@ -20,7 +20,7 @@ pub fn bears_key(l: &[u8], choice: Choice, key: Key) -> bool
 }
 
 // Whether a search met its record, and where: the next search begins there.
-#[derive(Drop)]
+#[derive(Clone, Copy)]
 pub struct Find {
     pub met: bool,
     pub at: usize,
@@ -95,7 +95,7 @@ pub fn is_again(w: &[u8], at: usize, e: usize, choice: Choice) -> bool
 }
 
 // Whether a line's key lies above the largest one before it, and the largest one then. A line that is no record does not fall.
-#[derive(Drop)]
+#[derive(Clone, Copy)]
 pub struct Rise {
     pub rises: bool,
     pub top: Key,

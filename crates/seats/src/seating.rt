@@ -8,7 +8,7 @@ ghost use Rattle.seats.specs.Seating.{seat_at, Ready, Ordered, Seating};
 use tables::{TABLES, WIDEST};
 
 // A section: its table by its place in the list of tables, and its bytes.
-#[derive(Drop)]
+#[derive(Clone, Copy)]
 pub struct Seat {
     pub table: usize,
     pub from: usize,
@@ -16,14 +16,14 @@ pub struct Seat {
 }
 
 // Which column stands where in a section.
-#[derive(Drop)]
+#[derive(Clone, Copy)]
 pub struct Columns {
     pub order: [u8; WIDEST],
 }
 
 // The sections in file order; the section of each table, from 1, or 0; the first section whose table stands before it, or 0; and the order of
 // each section's columns, so that its `atr` line is read no more.
-#[derive(Drop)]
+#[derive(Clone, Copy)]
 pub struct Seats {
     pub again: usize,
     pub count: usize,

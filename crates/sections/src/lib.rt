@@ -1,4 +1,6 @@
 // One section of a file, by value.
+#![tactic(auto)]
+
 mod answers;
 mod reading;
 mod records;

@@ -10,7 +10,7 @@ use passing::pass_records;
 use tables::{COLUMNS, WIDEST};
 
 // Where the first line stands that the machine is to be asked of, how many stand before it, and the phase then.
-#[derive(Drop)]
+#[derive(Clone, Copy)]
 pub struct Skipped {
     pub at: usize,
     pub count: usize,

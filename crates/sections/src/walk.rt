@@ -7,7 +7,7 @@ use cut::find_nth;
 use page::Refusal;
 
 // A section's place, or why there is none.
-#[derive(Drop)]
+#[derive(Clone, Copy)]
 pub enum Located {
     At(usize),
     Refused(Refusal),

@@ -1,4 +1,6 @@
 // Where the fields of a record begin in what stands after its line's first `;`, from the left: for one who asks for them by column.
+#![tactic(auto)]
+
 ghost use Rattle.std.specs.Prelude.{◌≡◌, ℕ, ◌<◌, get_or};
 ghost use Rattle.page.specs.Tables.{width};
 ghost use Rattle.page.specs.Places.{field_place};

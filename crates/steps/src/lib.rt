@@ -1,4 +1,6 @@
 // What listing begins with, and how it goes from section to section.
+#![tactic(auto)]
+
 ghost use Rattle.std.specs.Prelude.{◌≡◌, drop};
 ghost use Rattle.cut.specs.Walk.{section_size};
 ghost use Rattle.steps.specs.Steps.{Begins, stays, step_by, refused, start_of};
@@ -7,7 +9,7 @@ use page::{Refusal, Row};
 
 // What a pass over a file's sections begins with: the refusal, or how many rows it writes, where the first section stands, and
 // whether the header names ISO8859-1.
-#[derive(Drop)]
+#[derive(Clone, Copy)]
 pub struct Start {
     pub refusal: Refusal,
     pub count: usize,
@@ -16,7 +18,7 @@ pub struct Start {
 }
 
 // A section's row, where the next section stands, and whether this one and all before it are sound.
-#[derive(Drop)]
+#[derive(Clone, Copy)]
 pub struct Step {
     pub row: Row,
     pub next: usize,

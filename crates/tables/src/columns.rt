@@ -13,7 +13,7 @@ use page::Column;
 
 // The rules of a table's records: the column, from 0, where the four of the two points begin, that of LEITSTELLENKENNUNG, and that where the
 // three texts that go with it begin; 0: the table does not have the rule.
-#[derive(Drop)]
+#[derive(Clone, Copy)]
 pub struct Rules {
     pub points: usize,
     pub feeder: usize,

@@ -1,6 +1,8 @@
 // "The columns, kinds, ranges and keys stand once, as fixed tables": one row a property, for the reader, the checker and the writer alike.
 // The tables stand in the order of document 01, those of document 02 after them, and the columns of all tables one after the other:
 // column k of table t, both from 0, is at find_first(t) + k.
+#![tactic(auto)]
+
 mod columns;
 mod references;
 

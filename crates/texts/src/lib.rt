@@ -1,4 +1,6 @@
 // A value that stands in the file, handed out: a text's own bytes, and whose it is.
+#![tactic(auto)]
+
 ghost use Rattle.std.specs.Prelude.{◌≡◌};
 ghost use Rattle.page.specs.Answers.{refusal};
 ghost use Rattle.page.specs.declared.Value.TheVariants as Va;

@@ -7,7 +7,7 @@ use page::{Got, Handed, Headed, Header, Listed, Owner, Refusal, Row, Stated, Val
 
 // A header's values, or a refusal: texts by their bytes between the quotes; `dve` and `fft` say whether such a line stands.
 #[repr(C)]
-#[derive(Drop)]
+#[derive(Clone, Copy)]
 pub struct HeaderAnswer {
     pub number: u32,
     pub section: usize,
@@ -35,7 +35,7 @@ pub struct HeaderAnswer {
 
 // A section's row, or a refusal.
 #[repr(C)]
-#[derive(Drop)]
+#[derive(Clone, Copy)]
 pub struct RowAnswer {
     pub number: u32,
     pub section: usize,
@@ -45,7 +45,7 @@ pub struct RowAnswer {
 
 // A value, or a refusal: kind 0 is a number, 1 the operator's text, 2 a suggestion, 3 a missing number.
 #[repr(C)]
-#[derive(Drop)]
+#[derive(Clone, Copy)]
 pub struct ValueAnswer {
     pub number: u32,
     pub section: usize,
@@ -58,7 +58,7 @@ pub struct ValueAnswer {
 
 // How much was written, or a refusal.
 #[repr(C)]
-#[derive(Drop)]
+#[derive(Clone, Copy)]
 pub struct LengthAnswer {
     pub number: u32,
     pub section: usize,
@@ -68,7 +68,7 @@ pub struct LengthAnswer {
 
 // How much was written of a text, and whose it is: 1 the operator's, 2 a suggestion; or a refusal.
 #[repr(C)]
-#[derive(Drop)]
+#[derive(Clone, Copy)]
 pub struct TextAnswer {
     pub number: u32,
     pub section: usize,

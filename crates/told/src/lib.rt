@@ -1,4 +1,6 @@
 // Each answer as one flat struct, the paper's number first.
+#![tactic(auto)]
+
 mod answers;
 
 pub use answers::{

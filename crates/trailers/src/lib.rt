@@ -1,4 +1,6 @@
 // A file's trailer.
+#![tactic(auto)]
+
 mod trailer;
 
 pub use trailer::read_trailer;

@@ -1,4 +1,6 @@
 // One value of a record.
+#![tactic(auto)]
+
 ghost use Rattle.std.specs.Prelude.{◌≡◌, [], suc, ◌+◌, ◌≤◌, length};
 ghost use Rattle.page.specs.Tables.{WIDEST};
 ghost use Rattle.page.specs.Marks.{owner_of};

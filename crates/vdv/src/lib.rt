@@ -1,4 +1,6 @@
 // The library's public face: what Rust and C programs call. No call has a condition, and none keeps anything of the file.
+#![tactic(auto)]
+
 mod lending;
 mod reading;
 

@@ -1,1 +1,2 @@
 // The file's answer, number by number.
+#![tactic(auto)]

@@ -1,4 +1,6 @@
 // Which of the names a table has, and which a column.
+#![tactic(auto)]
+
 ghost use Rattle.std.specs.Prelude.{◌≡◌};
 ghost use Rattle.page.specs.Tables.{table_at, name_at};
 ghost use Rattle.words.specs.Words.{word, Reads};

@@ -1,4 +1,6 @@
 // The written form of a file by one writer into lent output: writing, stripping and filling are three plans.
+#![tactic(auto)]
+
 mod checked;
 mod file;
 
