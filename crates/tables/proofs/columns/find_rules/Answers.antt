@@ -1,4 +1,3 @@
-use borrow.Author.Rules.{rules}
 use Rattle.page.specs.Tables.{all_tables, table_at, rules}
 use Rattle.tables.specs.Keys.{rules_of}
 use Rattle.tables.proofs.ArrayLaws.{rules_none}

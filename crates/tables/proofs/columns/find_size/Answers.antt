@@ -9,7 +9,7 @@ unfolding kinds highs sizes row_given flat all_tables
 returns-then-i-lt-COLUMNS c =
     let a = c.args in
     let y = c.find_entry-i.ensures.there c.if-i-lt-COLUMNS.true in
-    FIX_c.type_size.ensures ∙ said_size a.t a.k c.find_entry-i.result y.1 y.0
+    c.size_of.ensures ∙ said_size a.t a.k c.find_entry-i.result y.1 y.0
 
 pub returns : goal.returns
 unfolding column_at

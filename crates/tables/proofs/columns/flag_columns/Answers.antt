@@ -15,7 +15,7 @@ unfolding fill
 loop-k-init c = (
   omega arith,
   refl,
-  λ j. fill_none WIDEST false j ∙ sym (ap (λ (x : Bool). x && either c.args.a c.args.b (get_or c.args.t1 (first_column c.args.t + j) 0)) (le-ltb j 0 (omega arith))),
+  λ j. fill_none WIDEST false j ∙ sym (ap (λ (x : Bool). x && either c.args.a c.args.b (get_or c.args.row (first_column c.args.t + j) 0)) (le-ltb j 0 (omega arith))),
 )
 
 pub overflow_add-first : goal.overflow_add-first
@@ -35,8 +35,8 @@ loop-k-preserved c =
     let e : c.find_first-first.result + l.k ≡ first_column a.t + l.k = omega arith in (
       omega arith,
       length-set l.flags l.k c.is_either.result ∙ l.invariant.1,
-      flag_more (λ (j : ℕ). either a.a a.b (get_or a.t1 (first_column a.t + j) 0)) l.flags l.k c.is_either.result h
-          (c.is_either.ensures ∙ ap (λ (i : ℕ). either a.a a.b (get_or a.t1 i 0)) e) l.invariant.2,
+      flag_more (λ (j : ℕ). either a.a a.b (get_or a.row (first_column a.t + j) 0)) l.flags l.k c.is_either.result h
+          (c.is_either.ensures ∙ ap (λ (i : ℕ). either a.a a.b (get_or a.row i 0)) e) l.invariant.2,
     )
 
 pub returns : goal.returns
