@@ -1,0 +1,7 @@
+use Rattle.doubling.specs.Raw.{raw_text}
+use Rattle.output.proofs.PutLaws.{puts}
+use Rattle.doubling.proofs.texts.put_raw.Goals as goal
+
+pub returns : goal.returns
+unfolding raw_text
+returns c = puts c.put_byte-a.ensures (puts c.put_bytes-b.ensures c.put_byte.ensures)
