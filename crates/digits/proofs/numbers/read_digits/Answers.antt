@@ -11,12 +11,6 @@ use Rattle.page.proofs.NumberLaws.{value_more, value_end, digit_range, digits_no
 use Rattle.page.proofs.ScanLaws.{all_more, all_not, all_end}
 use Rattle.digits.proofs.numbers.read_digits.Goals as goal
 
-is_digit : (c : goal.Else-not-is_digit) → digit (get_or c.args.ds.now c.loop-i.i 0) ≡ true
-is_digit c = sym c.is_digit.ensures ∙ not-false _ c.if-not-is_digit.false-raw
-
-in-range : (c : goal.Else-not-is_digit) → (48 ≤ get_or c.args.ds.now c.loop-i.i 0) × (get_or c.args.ds.now c.loop-i.i 0 ≤ 57)
-in-range c = digit_range (get_or c.args.ds.now c.loop-i.i 0) (is_digit c)
-
 pub returns-then-ds-eq0 : goal.returns-then-ds-eq0
 unfolding magnitude_of
 returns-then-ds-eq0 c = rw (digits_none c.args.ds.now c.if-ds-eq0.true)
@@ -41,10 +35,10 @@ pub overflow_mul-v : goal.overflow_mul-v
 overflow_mul-v c = omega (arith, ten_up c.loop-i.i 17 (omega arith))
 
 pub overflow_sub-v : goal.overflow_sub-v
-overflow_sub-v c = omega (arith, in-range ALIAS_Else3)
+overflow_sub-v c = omega (arith, (let h : (48 ≤ get_or c.args.ds.now c.loop-i.i 0) × (get_or c.args.ds.now c.loop-i.i 0 ≤ 57) = digit_range (get_or c.args.ds.now c.loop-i.i 0) ((let h : digit (get_or c.args.ds.now c.loop-i.i 0) ≡ true = sym c.is_digit.ensures ∙ not-false _ c.if-not-is_digit.false-raw in h)) in h))
 
 pub overflow_add-v : goal.overflow_add-v
-overflow_add-v c = omega (arith, in-range ALIAS_Else3, ten_up c.loop-i.i 17 (omega arith))
+overflow_add-v c = omega (arith, (let h : (48 ≤ get_or c.args.ds.now c.loop-i.i 0) × (get_or c.args.ds.now c.loop-i.i 0 ≤ 57) = digit_range (get_or c.args.ds.now c.loop-i.i 0) ((let h : digit (get_or c.args.ds.now c.loop-i.i 0) ≡ true = sym c.is_digit.ensures ∙ not-false _ c.if-not-is_digit.false-raw in h)) in h), ten_up c.loop-i.i 17 (omega arith))
 
 pub loop-i-preserved : goal.loop-i-preserved
 loop-i-preserved c =
@@ -52,8 +46,8 @@ loop-i-preserved c =
     let l = c.loop-i in
     let lt = c.loop-i-test.true in (
       omega arith,
-      omega (arith, in-range ALIAS_Else3, ten_more l.i),
-      l.invariant.2 ∙ all_more digit s l.i lt (is_digit ALIAS_Else3),
+      omega (arith, (let h : (48 ≤ get_or c.args.ds.now c.loop-i.i 0) × (get_or c.args.ds.now c.loop-i.i 0 ≤ 57) = digit_range (get_or c.args.ds.now c.loop-i.i 0) ((let h : digit (get_or c.args.ds.now c.loop-i.i 0) ≡ true = sym c.is_digit.ensures ∙ not-false _ c.if-not-is_digit.false-raw in h)) in h), ten_more l.i),
+      l.invariant.2 ∙ all_more digit s l.i lt ((let h : digit (get_or c.args.ds.now c.loop-i.i 0) ≡ true = sym c.is_digit.ensures ∙ not-false _ c.if-not-is_digit.false-raw in h)),
       rw c.widen.ensures (l.invariant.3 ∙ value_more s l.i l.v lt),
     )
 
