@@ -33,13 +33,13 @@ use Rattle.page.proofs.TestLaws.{and_left, and_right}
 
 digits_more : {a : Bytes} {n : ℕ} → Digits a n → (b : Bytes) → all digit b ≡ true → Digits (a ++ b) (value n b)
 unfolding all value
-digits_more {a} d [] h = rw (append-nil a) d
-digits_more {a} {n} d (b ∷ bs) h =
+digits_more {a = a} d [] h = rw (append-nil a) d
+digits_more {a = a} {n = n} d (b ∷ bs) h =
     let r = digit_range b (and_left (digit b) (all digit bs) h) in
     let z : 48 + (b - 48) ≡ b = omega (arith, r) in
     let w : 10 * n + (b - 48) ≡ n * 10 + (b - 48) = omega arith in
     let e : Digits (a ++ (b ∷ [])) (n * 10 + (b - 48)) = rw (z, w) at (one_digit (b - 48) d (omega (arith, r))) in
-    rw (append_assoc a (b ∷ []) bs) at (digits_more e bs (and_right (digit b) (all digit bs) h))
+    rw (append_assoc a (b ∷ []) bs) at (digits_more {a = a ++ (b ∷ [])} e bs (and_right (digit b) (all digit bs) h))
 
 digits_back : {ds : Bytes} {n : ℕ} → Digits ds n → (all digit ds ≡ true) × (value 0 ds ≡ n)
 unfolding all value

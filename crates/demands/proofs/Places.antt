@@ -46,20 +46,20 @@ module _ {latin : Bool} where
   silence_stands t o m n over = none_left
   silence_stands t o m n (still {l} {ls} h s) = rw (quiet_line t o m n l ls h) (further t o n l ls (silence_stands t o m (suc n) s))
 
-  records_stand : (t : ℕ) (o : Order) → arranged (width t) o ≡ true → (m n c : ℕ) {ms : List ℕ} {ls : List Bytes} {rs : List Record} → ms ≡ marks_of m →
+  records_stand : (t : ℕ) (o : Order) → arranged (width t) o ≡ true → (c m n : ℕ) {ms : List ℕ} {ls : List Bytes} {rs : List Record} → ms ≡ marks_of m →
       (m ≡ 0) ⊎ (may_mark t o m ≡ true) → Records latin t o c ms ls rs → Every (EntryStands latin t o n ls) (entries t o m n ls)
   unfolding waits entries record_in
-  records_stand t o a m n c q f (pause {l} {ls} h x) = rw (quiet_line t o m n l ls h) (further t o n l ls (records_stand t o a m (suc n) c q f x))
-  records_stand t o a m n c q f (a_mark {i} {l} {ls} h x) =
+  records_stand t o a c m n q f (pause {l} {ls} h x) = rw (quiet_line t o m n l ls h) (further t o n l ls (records_stand t o a c m (suc n) q f x))
+  records_stand t o a c m n q f (a_mark {i} {l} {ls} h x) =
       let k : MarkLine latin t o (marks_of m) i l = rw q at h in
       rw (h.says.named, h.reads)
-      (further t o n l ls (records_stand t o a i (suc n) c (ap (λ (z : List ℕ). i ∷ z) q ∙ sym (only_mark t o a m i f k.may k.rises)) (inr h.may) x))
-  records_stand t o a m n c q f (a_record {vs} {l} {ls} h x) =
+      (further t o n l ls (records_stand t o a c i (suc n) (ap (λ (z : List ℕ). i ∷ z) q ∙ sym (only_mark t o a m i f k.may k.rises)) (inr h.may) x))
+  records_stand t o a c m n q f (a_record {vs} {l} {ls} h x) =
       let k : RecLine latin t o (marks_of m) vs l = rw q at h in
       rw (h.says.named, ← reads_are t o m k.fields)
       (one_more {x = record { line = suc n; values = vs }} (record { before = []; after = ls; line = l; split = refl; place = omega arith; marks = marks_of m; reads = k })
-      (further t o n l ls (records_stand t o a 0 (suc n) c refl (inl refl) x)))
-  records_stand t o a m n c q f (the_end {l} {ls} h s) =
+      (further t o n l ls (records_stand t o a c 0 (suc n) refl (inl refl) x)))
+  records_stand t o a c m n q f (the_end {l} {ls} h s) =
       rw (plain_line t o m n End l ls h.says.named refl refl) (further t o n l ls (silence_stands t o m (suc n) s))
 
   skipped_stand : {P : Bytes → Type 0} {Q : List Bytes → Type 0} (t : ℕ) (o : Order) (n : ℕ) {ls : List Bytes} →
@@ -75,7 +75,7 @@ module _ {latin : Bool} where
       skipped_stand t o 0 (λ l a xs h x. rw (plain_line t o 0 a Tbl l xs h.says.named refl refl) (further t o a l xs
       (skipped_stand t o (suc a) (λ l b ys h x. rw (plain_line t o 0 b Atr l ys h.says.named refl refl) (further t o b l ys
       (skipped_stand t o (suc b) (λ l c zs h x. rw (plain_line t o 0 c Frm l zs h.says.named refl refl) (further t o c l zs
-      (records_stand t o (denoted_arranged t rs d) 0 (suc c) (length rs) refl (inl refl) x))) x))) x))) d.1
+      (records_stand t o (denoted_arranged t rs d) (length rs) 0 (suc c) refl (inl refl) x))) x))) x))) d.1
 
 -- a section's records, filed
 section_stands : (s : Bytes) (i : ℕ) (x : Section) (c : Content) (xs ys : List Section) → begins x.lines ≡ true → Denotes (latin_of s) x.lines c.table c.records →

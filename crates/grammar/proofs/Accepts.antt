@@ -112,15 +112,15 @@ module _ (latin : Bool) (y : Outcome) where
   silence t o a k n e over = e
   silence t o a k n e (still {l} {ls} h s) = on n ls a (quiet h) (silence t o a k (suc n) e s)
 
-  records : (t : ℕ) (o : Order) → arranged (width t) o ≡ true → (m k n c : ℕ) {ms : List ℕ} {ls : List Bytes} {rs : List Record} → accepted t c ≡ y → c ≡ k + length rs →
+  records : (t : ℕ) (o : Order) → arranged (width t) o ≡ true → (c m k n : ℕ) {ms : List ℕ} {ls : List Bytes} {rs : List Record} → accepted t c ≡ y → c ≡ k + length rs →
       ms ≡ marks_of m → (m ≡ 0) ⊎ (may_mark t o m ≡ true) → Records latin t o c ms ls rs → run latin (P.Rows t m k) o n ls ≡ y
-  records t o a m k n c e g q f (pause {ls} h x) = on n ls a (quiet h) (records t o a m k (suc n) c e g q f x)
-  records t o a m k n c e g q f (a_mark {i} {l} {ls} h x) =
+  records t o a c m k n e g q f (pause {ls} h x) = on n ls a (quiet h) (records t o a c m k (suc n) e g q f x)
+  records t o a c m k n e g q f (a_mark {i} {l} {ls} h x) =
       let b : MarkLine latin t o (marks_of m) i l = rw q at h in
       let w = only_mark t o a m i f b.may b.rises in
-      on n ls a (mark b) (records t o a i k (suc n) c e g (ap (λ (z : List ℕ). i ∷ z) q ∙ sym w) (inr h.may) x)
-  records t o a m k n c e g q f (a_record {ls} h x) = on n ls a (record_line (rw q at h)) (records t o a 0 (suc k) (suc n) c e (omega arith) refl (inl refl) x)
-  records t o a m k n c e g q f (the_end {ls} h s) =
+      on n ls a (mark b) (records t o a c i k (suc n) e g (ap (λ (z : List ℕ). i ∷ z) q ∙ sym w) (inr h.may) x)
+  records t o a c m k n e g q f (a_record {ls} h x) = on n ls a (record_line (rw q at h)) (records t o a c 0 (suc k) (suc n) e (omega arith) refl (inl refl) x)
+  records t o a c m k n e g q f (the_end {ls} h s) =
       rw (unmarked m q) (on n ls a (end (rw (let z : c ≡ k = omega arith in z) at h)) (silence t o a k (suc n) (rw (let z : c ≡ k = omega arith in z) at e) s))
     where
       unmarked : (m : ℕ) → [] ≡ marks_of m → m ≡ 0
@@ -137,7 +137,7 @@ module _ (latin : Bool) (y : Outcome) where
       let o = d.0 in
       skipping P.Tbl [] tt n (λ l i xs h x. on i xs tt (tbl h)
       (skipping (P.Atr t) [] tt (suc i) (λ l j ys h x. let a = arrangement_arranged t o h.arrangement in on j ys tt (atr h)
-      (skipping (P.Frm t) o a (suc j) (λ l k zs h x. on k zs a (frm h) (records t o a 0 0 (suc k) (length rs) e (omega arith) refl (inl refl) x)) x)) x)) d.1
+      (skipping (P.Frm t) o a (suc j) (λ l k zs h x. on k zs a (frm h) (records t o a (length rs) 0 0 (suc k) e (omega arith) refl (inl refl) x)) x)) x)) d.1
 
 -- the section of a table with these records has verdict 0, that table's number and that many records
 pub denotes_accepted : (latin : Bool) (ls : List Bytes) (t : ℕ) (rs : List Record) → Denotes latin ls t rs → outcome latin ls ≡ accepted t (length rs)

@@ -67,20 +67,20 @@ quiet_atr l ls (empty ok b) = other_atr Missing l ls (blank_missing (content l) 
 quiet_atr l ls (remark s e) = other_atr Com l ls s.named refl
 
 module _ {latin : Bool} where
-  records_read : (t : ℕ) (o : Order) → arranged (width t) o ≡ true → (m n c : ℕ) {ms : List ℕ} {ls : List Bytes} {rs : List Record} → ms ≡ marks_of m →
+  records_read : (t : ℕ) (o : Order) → arranged (width t) o ≡ true → (c m n : ℕ) {ms : List ℕ} {ls : List Bytes} {rs : List Record} → ms ≡ marks_of m →
       (m ≡ 0) ⊎ (may_mark t o m ≡ true) → Records latin t o c ms ls rs → values_of (entries t o m n ls) ≡ rs
   unfolding waits entries record_in
-  records_read t o a m n c q f (pause {l} {ls} h x) = rw (quiet_line t o m n l ls h) (records_read t o a m (suc n) c q f x)
-  records_read t o a m n c q f (a_mark {i} {l} {ls} h x) =
+  records_read t o a c m n q f (pause {l} {ls} h x) = rw (quiet_line t o m n l ls h) (records_read t o a c m (suc n) q f x)
+  records_read t o a c m n q f (a_mark {i} {l} {ls} h x) =
       let k : MarkLine latin t o (marks_of m) i l = rw q at h in
       rw (h.says.named, h.reads)
-      (records_read t o a i (suc n) c (ap (λ (z : List ℕ). i ∷ z) q ∙ sym (only_mark t o a m i f k.may k.rises)) (inr h.may) x)
-  records_read t o a m n c q f (a_record {vs} {l} {ls} h x) =
+      (records_read t o a c i (suc n) (ap (λ (z : List ℕ). i ∷ z) q ∙ sym (only_mark t o a m i f k.may k.rises)) (inr h.may) x)
+  records_read t o a c m n q f (a_record {vs} {l} {ls} h x) =
       let k : RecLine latin t o (marks_of m) vs l = rw q at h in
       let d = reads_are t o m k.fields in
-      let b = records_read t o a 0 (suc n) c refl (inl refl) x in
+      let b = records_read t o a c 0 (suc n) refl (inl refl) x in
       rw h.says.named (cc)
-  records_read t o a m n c q f (the_end {l} {ls} h s) = rw (plain_line t o m n End l ls h.says.named refl refl) (silence_read t o m (suc n) s)
+  records_read t o a c m n q f (the_end {l} {ls} h s) = rw (plain_line t o m n End l ls h.says.named refl refl) (silence_read t o m (suc n) s)
 
   skipped_read : {P : Bytes → Type 0} {Q : List Bytes → Type 0} (t : ℕ) (o : Order) (n : ℕ) (rs : List Record) {ls : List Bytes} →
       ((l : Bytes) (m : ℕ) (ms : List Bytes) → P l → Q ms → values_of (entries t o 0 m (l ∷ ms)) ≡ rs) → Then latin P Q ls → values_of (entries t o 0 n ls) ≡ rs
@@ -94,7 +94,7 @@ module _ {latin : Bool} where
       skipped_read t o 0 rs (λ l a xs h x. rw (plain_line t o 0 a Tbl l xs h.says.named refl refl)
       (skipped_read t o (suc a) rs (λ l b ys h x. rw (plain_line t o 0 b Atr l ys h.says.named refl refl)
       (skipped_read t o (suc b) rs (λ l d zs g y. rw (plain_line t o 0 d Frm l zs g.says.named refl refl)
-      (records_read t o (arrangement_arranged t o h.arrangement) 0 (suc d) (length rs) refl (inl refl) y)) x)) x)) d.1
+      (records_read t o (arrangement_arranged t o h.arrangement) (length rs) 0 (suc d) refl (inl refl) y)) x)) x)) d.1
 
   -- what the line that is looked for tells, or those after it
   told : {P : Bytes → Type 0} {Q : List Bytes → Type 0} {A : Type 0} {ls : List Bytes} → ((l : Bytes) (ms : List Bytes) → P l → Q ms → A) → Then latin P Q ls → A

@@ -30,8 +30,8 @@ pub data Steps : Met → List Bytes → Met → Type 0 where
   move : {m q r : Met} {l : Bytes} {ls : List Bytes} → head_step m (content l) ≡ H.Go q → Steps q ls r → Steps m (l ∷ ls) r
 
 good_steps : {m : Met} (ls : List Bytes) → Good m ls → (q : Met) × Steps m ls q
-good_steps {m} [] g = (m, stay)
-good_steps (l ∷ ls) g = let x = good_go l ls g in let y = good_steps ls x.2 in (y.0, move x.1 y.1)
+good_steps {m = m} [] g = (m, stay)
+good_steps {m = m} (l ∷ ls) g = let x = good_go l ls g in let y = good_steps {m = x.0} ls x.2 in (y.0, move x.1 y.1)
 
 steps_good : {m q : Met} {ls : List Bytes} → Fit m → Steps m ls q → Good m ls
 steps_good f stay = good_nil f
