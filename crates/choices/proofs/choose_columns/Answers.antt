@@ -16,8 +16,8 @@ pub loop-k-init : goal.loop-k-init
 loop-k-init c = let a = c.args in
     let n : length (held a.t a.o.now) ≡ width a.t = held_length a.t a.o.now c.requires.0 in (
       search rules,
-      sym (kinds_end a.t2 a.t (held a.t a.o.now) c.find_width-k.result (omega arith)),
-      sym (slots_end a.t2 a.t (held a.t a.o.now) c.find_width-k.result (omega arith)),
+      sym (kinds_end a.taken a.t (held a.t a.o.now) c.find_width-k.result (omega arith)),
+      sym (slots_end a.taken a.t (held a.t a.o.now) c.find_width-k.result (omega arith)),
     )
 
 pub bounds-o-k : goal.bounds-o-k
@@ -33,8 +33,8 @@ overflow_mul-kinds c = let a = c.args in
     let s = y.0.small (l.k - 1) in
     let n : length (held a.t a.o.now) ≡ width a.t = held_length a.t a.o.now y.0 in
     let w = width_le a.t in
-    let u = kinds_small a.t2 a.t (held a.t a.o.now) l.k (omega arith) in
-    let v = slots_small a.t2 a.t (held a.t a.o.now) l.k y.1 (omega arith) in
+    let u = kinds_small a.taken a.t (held a.t a.o.now) l.k (omega arith) in
+    let v = slots_small a.taken a.t (held a.t a.o.now) l.k y.1 (omega arith) in
     omega arith
 
 pub bounds-taken-c : goal.bounds-taken-c
@@ -58,8 +58,8 @@ overflow_add-kinds c = let a = c.args in
     let s = y.0.small (l.k - 1) in
     let n : length (held a.t a.o.now) ≡ width a.t = held_length a.t a.o.now y.0 in
     let w = width_le a.t in
-    let u = kinds_small a.t2 a.t (held a.t a.o.now) l.k (omega arith) in
-    let v = slots_small a.t2 a.t (held a.t a.o.now) l.k y.1 (omega arith) in
+    let u = kinds_small a.taken a.t (held a.t a.o.now) l.k (omega arith) in
+    let v = slots_small a.taken a.t (held a.t a.o.now) l.k y.1 (omega arith) in
     omega arith
 
 pub overflow_mul-slots : goal.overflow_mul-slots
@@ -69,8 +69,8 @@ overflow_mul-slots c = let a = c.args in
     let s = y.0.small (l.k - 1) in
     let n : length (held a.t a.o.now) ≡ width a.t = held_length a.t a.o.now y.0 in
     let w = width_le a.t in
-    let u = kinds_small a.t2 a.t (held a.t a.o.now) l.k (omega arith) in
-    let v = slots_small a.t2 a.t (held a.t a.o.now) l.k y.1 (omega arith) in
+    let u = kinds_small a.taken a.t (held a.t a.o.now) l.k (omega arith) in
+    let v = slots_small a.taken a.t (held a.t a.o.now) l.k y.1 (omega arith) in
     omega arith
 
 pub offset_bounds-ranks-c : goal.offset_bounds-ranks-c
@@ -94,10 +94,10 @@ overflow_add-slots c = let a = c.args in
     let s = y.0.small (l.k - 1) in
     let n : length (held a.t a.o.now) ≡ width a.t = held_length a.t a.o.now y.0 in
     let w = width_le a.t in
-    let u = kinds_small a.t2 a.t (held a.t a.o.now) l.k (omega arith) in
-    let v = slots_small a.t2 a.t (held a.t a.o.now) l.k y.1 (omega arith) in
+    let u = kinds_small a.taken a.t (held a.t a.o.now) l.k (omega arith) in
+    let v = slots_small a.taken a.t (held a.t a.o.now) l.k y.1 (omega arith) in
     let r = c.rank_columns-ranks.ensures (get_or a.o.now (l.k - 1) 0) s in
-    let z = rank_le a.t2 (get_or a.o.now (l.k - 1) 0) in
+    let z = rank_le a.taken (get_or a.o.now (l.k - 1) 0) in
     omega arith
 
 pub loop-k-preserved : goal.loop-k-preserved
@@ -109,9 +109,9 @@ loop-k-preserved c = let a = c.args in
     let n : length o ≡ width a.t = held_length a.t a.o.now y.0 in
     let m : l.k - 1 + 1 ≡ l.k = omega arith in
     let x : get_or o (l.k - 1) 0 ≡ get_or a.o.now (l.k - 1) 0 = held_at a.t a.o.now (l.k - 1) (omega arith) in
-    let u = rw (m, x) at (kinds_down a.t2 a.t o (l.k - 1) (omega arith)) in
-    let v = rw (m, x) at (slots_down a.t2 a.t o (l.k - 1) (omega arith)) in
-    let f : c.find_kind.result ≡ kind_of (get_or a.t2 (get_or a.o.now (l.k - 1) 0) false) (column_at a.t (get_or a.o.now (l.k - 1) 0)) =
+    let u = rw (m, x) at (kinds_down a.taken a.t o (l.k - 1) (omega arith)) in
+    let v = rw (m, x) at (slots_down a.taken a.t o (l.k - 1) (omega arith)) in
+    let f : c.find_kind.result ≡ kind_of (get_or a.taken (get_or a.o.now (l.k - 1) 0) false) (column_at a.t (get_or a.o.now (l.k - 1) 0)) =
     kind_told _ _ (column_at a.t (get_or a.o.now (l.k - 1) 0)) c.find_kind.result
     (c.find_kinds-texts.ensures (get_or a.o.now (l.k - 1) 0) s) c.find_kind.ensures.0 in
     let r = c.rank_columns-ranks.ensures (get_or a.o.now (l.k - 1) 0) s in
@@ -123,4 +123,4 @@ returns c = let a = c.args in
     let z : l.k ≡ 0 = omega arith in
     let u = rw z at l.invariant.1 in
     let v = rw z at l.invariant.2 in
-    rw (u, v) (choice_all a.t2 a.t (held a.t a.o.now))
+    rw (u, v) (choice_all a.taken a.t (held a.t a.o.now))

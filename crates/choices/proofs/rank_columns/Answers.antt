@@ -9,12 +9,12 @@ use Rattle.choices.proofs.ChoiceLaws.{rank_first, rank_step}
 use Rattle.choices.proofs.rank_columns.Goals as goal
 
 pub loop-c-init : goal.loop-c-init
-loop-c-init c = (omega arith, omega arith, refl, sym (rank_first c.args.row), λ k h. absurd (omega arith))
+loop-c-init c = (omega arith, omega arith, refl, sym (rank_first c.args.taken), λ k h. absurd (omega arith))
 
 pub loop-c-preserved : goal.loop-c-preserved
 loop-c-preserved c =
     let l = c.loop-c in
-    let s = rank_step c.args.row l.c in (
+    let s = rank_step c.args.taken l.c in (
       search rules,
       omega arith,
       length-set l.ranks l.c l.n ∙ l.invariant.2,
