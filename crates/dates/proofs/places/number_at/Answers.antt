@@ -10,4 +10,4 @@ value_of-requires c = rw c.cut_out.ensures (omega (arith, cut_length c.args.f.no
 
 pub returns : goal.returns
 unfolding number_in
-returns c = FIX_c.value_of_lem.ensures ∙ ap (value 0) c.cut_out.ensures
+returns c = c.value_of.ensures ∙ ap (value 0) c.cut_out.ensures

@@ -1,0 +1,31 @@
+use Prim.Native.Nat.{ℕ}
+use mathlib.Core.Path.{ap, sym, ◌∙◌}
+use native.Mathlib.Omega.{arith}
+use lib.Dec.{leb}
+use Rattle.page.proofs.NumberLaws.{digits_some}
+use Rattle.digits.proofs.MagnitudeLaws.{magnitude_is, magnitude_not}
+use Rattle.names.proofs.FormatLaws.{size_not, size_zero, size_value}
+use Rattle.names.proofs.formats.is_size.Goals as goal
+
+pub bounds-w-0 : goal.bounds-w-0
+bounds-w-0 c =
+    let w = c.args.w.now in
+    let d = magnitude_is w _ (sym c.read_digits.ensures ∙ c.in-Is.is) in
+    omega (arith, digits_some w d.0)
+
+pub returns-then-w-eq48 : goal.returns-then-w-eq48
+returns-then-w-eq48 c =
+    let w = c.args.w.now in
+    let d = magnitude_is w _ (sym c.read_digits.ensures ∙ c.in-Is.is) in
+    sym (size_zero w d.0 c.if-w-eq48.true)
+
+pub returns-else-w-eq48 : goal.returns-else-w-eq48
+returns-else-w-eq48 c =
+    let w = c.args.w.now in
+    let d = magnitude_is w _ (sym c.read_digits.ensures ∙ c.in-Is.is) in
+    sym (size_value w d.0 c.if-w-eq48.false ∙ ap (λ (v : ℕ). leb v 255) d.1)
+
+pub returns-in-Nothing : goal.returns-in-Nothing
+returns-in-Nothing c =
+    let w = c.args.w.now in
+    sym (size_not w (magnitude_not w (sym c.read_digits.ensures ∙ c.in-Nothing.is)))

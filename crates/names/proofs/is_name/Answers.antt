@@ -1,0 +1,11 @@
+use mathlib.Core.Path.{ap, ◌∙◌}
+use Prim.Native.String.{String}
+use Rattle.page.specs.Bytes.{bytes, same}
+use Rattle.names.proofs.is_name.Goals as goal
+
+pub is_word-requires : goal.is_word-requires
+is_word-requires c = c.requires
+
+pub returns : goal.returns
+returns c =
+    FIX_c.is_IsWord.ensures ∙ ap (λ (x : String). same c.args.f.now (bytes x)) c.look_name.ensures
