@@ -24,8 +24,8 @@ returns-then-is_word c =
     let w = c.args.w.now in
     let l = c.loop-t in
     let h : l.t < length titles = omega (arith, titles_length) in
-    let q : same w (bytes (get_or titles l.t "")) ≡ FIX_c.before.is_IsWord.result =
-    ap (λ (x : String). same w (bytes x)) (title_at l.t ∙ sym c.look_title.ensures) ∙ sym FIX_c.before.is_IsWord.ensures in
+    let q : same w (bytes (get_or titles l.t "")) ≡ c.is_word.result =
+    ap (λ (x : String). same w (bytes x)) (title_at l.t ∙ sym c.look_title.ensures) ∙ sym c.is_word.ensures in
     sym (find_hit titles w l.t l.t h (q ∙ c.if-is_word.true)) ∙ l.invariant.2
 
 pub loop-t-preserved : goal.loop-t-preserved
@@ -33,8 +33,8 @@ loop-t-preserved c =
     let w = c.args.w.now in
     let l = c.loop-t in
     let h : l.t < length titles = omega (arith, titles_length) in
-    let q : same w (bytes (get_or titles l.t "")) ≡ FIX_c.before.is_IsWord.result =
-    ap (λ (x : String). same w (bytes x)) (title_at l.t ∙ sym c.look_title.ensures) ∙ sym FIX_c.before.is_IsWord.ensures in
+    let q : same w (bytes (get_or titles l.t "")) ≡ c.is_word.result =
+    ap (λ (x : String). same w (bytes x)) (title_at l.t ∙ sym c.look_title.ensures) ∙ sym c.is_word.ensures in
     (l.invariant.0, omega arith, sym (find_more titles w l.t l.t h (q ∙ c.if-is_word.false)) ∙ l.invariant.2)
 
 pub returns : goal.returns

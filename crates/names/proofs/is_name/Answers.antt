@@ -8,4 +8,4 @@ is_word-requires c = c.requires
 
 pub returns : goal.returns
 returns c =
-    FIX_c.is_IsWord.ensures ∙ ap (λ (x : String). same c.args.f.now (bytes x)) c.look_name.ensures
+    c.is_word.ensures ∙ ap (λ (x : String). same c.args.f.now (bytes x)) c.look_name.ensures

@@ -24,8 +24,8 @@ loop-k-preserved c =
     let a = c.args in (
       omega arith,
       next_by
-          (separated_more (titles a.formats a.t) FIX_c.loop-k.k _ _ (omega (arith, titles_count a.formats a.t, FIX_c.find_width-n.ensures, c.loop-k-test.true)) (title_is a.formats a.t FIX_c.loop-k.k))
-          FIX_c.loop-k.invariant.1 (puts c.put_separator-o.ensures c.put_title-o.ensures),
+          (separated_more (titles a.formats a.t) c.loop-k.k _ _ (omega (arith, titles_count a.formats a.t, c.find_width-n.ensures, c.loop-k-test.true)) (title_is a.formats a.t c.loop-k.k))
+          c.loop-k.invariant.1 (puts c.put_separator-o.ensures c.put_title-o.ensures),
     )
 
 pub put_line_end-requires : goal.put_line_end-requires
@@ -36,11 +36,11 @@ put_line_end-requires c =
 pub shape_of-out : goal.shape_of-out
 shape_of-out c =
     let a = c.args in
-    let z = separated_end (titles a.formats a.t) FIX_c.loop-k.k (omega (arith, titles_count a.formats a.t, FIX_c.find_width-n.ensures, c.loop-k-test.false)) in
-    put_same (puts FIX_c.put_bytes-o.ensures (puts (at_end z FIX_c.loop-k.invariant.1) c.put_line_end.ensures))
+    let z = separated_end (titles a.formats a.t) c.loop-k.k (omega (arith, titles_count a.formats a.t, c.find_width-n.ensures, c.loop-k-test.false)) in
+    put_same (puts c.put_bytes-o.ensures (puts (at_end z c.loop-k.invariant.1) c.put_line_end.ensures))
 
 pub returns : goal.returns
 returns c =
     let a = c.args in
-    let z = separated_end (titles a.formats a.t) FIX_c.loop-k.k (omega (arith, titles_count a.formats a.t, FIX_c.find_width-n.ensures, c.loop-k-test.false)) in
-    put_as (titles_line _ _ (titles a.formats a.t)) (puts FIX_c.put_bytes-o.ensures (puts (at_end z FIX_c.loop-k.invariant.1) c.put_line_end.ensures))
+    let z = separated_end (titles a.formats a.t) c.loop-k.k (omega (arith, titles_count a.formats a.t, c.find_width-n.ensures, c.loop-k-test.false)) in
+    put_as (titles_line _ _ (titles a.formats a.t)) (puts c.put_bytes-o.ensures (puts (at_end z c.loop-k.invariant.1) c.put_line_end.ensures))

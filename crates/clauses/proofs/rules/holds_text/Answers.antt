@@ -1,0 +1,14 @@
+use mathlib.Core.Path.{sym}
+use borrow.Author.Tests.{eq-eqb, ne_eqb}
+use Rattle.page.specs.Header.{text_ok}
+use Rattle.clauses.proofs.rules.holds_text.Goals as goal
+
+pub returns-then-count_fields-ne1 : goal.returns-then-count_fields-ne1
+unfolding text_ok
+returns-then-count_fields-ne1 c =
+    rw (sym c.count_fields.ensures, ne_eqb c.count_fields.result 1 c.if-count_fields-ne1.true)
+
+pub returns : goal.returns
+unfolding text_ok
+returns c =
+    rw (sym c.count_fields.ensures, eq-eqb c.count_fields.result 1 c.if-count_fields-ne1.false, sym c.field_at.ensures) c.is_text.ensures
