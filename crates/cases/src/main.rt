@@ -3,37 +3,37 @@
 
 mod writing;
 
-use libc::STDOUT_FILENO;
+use std::alloc::Global;
+use std::io::{BufWriter, Read, Write};
+use std::rt::Files;
+use std::{env, fs, io};
 
-// What is listed, and one byte more.
-const ROOM: usize = 65537;
-
-fn show_file(fd: i32) {
-    let mut space = [0; ROOM];
-    let n = io::read_full(fd, &mut space);
-    listing::print_listing(&space[..n]);
-    writing::print_forms(&space[..n]);
+fn show_file<R: Read + Drop, W: Write>(alloc: Global, file: R, out: &mut W) -> io::Result<()> {
+    let s = listing::read_front(alloc, file)?;
+    listing::print_listing(out, s.as_slice())?;
+    writing::print_forms(out, s.as_slice())
 }
 
-fn show_argument(i: usize) {
-    let mut path = io::buffer();
-    let length = os::arg(i, &mut path);
-    io::write_all(STDOUT_FILENO, &path[..length]);
-    io::write_all(STDOUT_FILENO, b"\n");
-    let fd = os::open_read(&path[..length]);
-    if fd < 0 {
-        os::fail(&path[..length]);
-        return;
+// A file that cannot be opened is told on standard error, after what was printed before it.
+fn show_argument<R: Files + Eprint + AllocGlobal, W: Write>(
+    rt: &R,
+    path: &str,
+    out: &mut W,
+) -> io::Result<()> {
+    writeln!(out, "{path}")?;
+    match fs::open(rt, path) {
+        Ok(file) => show_file(rt.alloc(), file, out),
+        Err(e) => {
+            out.flush()?;
+            eprintln!(rt; "{path}: {e}")
+        }
     }
-    show_file(fd);
-    libc::close(fd);
 }
 
-fn main() {
-    let n = os::arg_count();
-    let mut i = 1;
-    while i < n {
-        show_argument(i);
-        i += 1;
+fn main(rt: HostRuntime) -> io::Result<()> {
+    let mut out = BufWriter::new(rt.alloc(), io::writer(&rt))?;
+    for path in env::args(&rt)?.skip(1) {
+        show_argument(&rt, path.as_str(), &mut out)?;
     }
+    out.flush()
 }

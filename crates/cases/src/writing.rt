@@ -1,118 +1,130 @@
 // What writing, filling and stripping make of a file: its answer, and the form itself.
-use libc::STDOUT_FILENO;
 use listing::{end_line, print_number};
 use page::{Listed, Refusal, Written};
+use std::io;
+use std::io::Write;
 use tables::WIDEST;
 
 // A form of a listed file, with room for a filled text.
 const ROOM: usize = 131072;
 
-fn print_refusal(r: Refusal) {
-    print_number(r.number as u64);
-    print_number(r.section as u64);
-    print_number(r.line as u64);
-    end_line();
+fn print_refusal<W: Write>(out: &mut W, r: Refusal) -> io::Result<()> {
+    print_number(out, r.number as u64)?;
+    print_number(out, r.section as u64)?;
+    print_number(out, r.line as u64)?;
+    end_line(out)
 }
 
 // The first n bytes, or all if there are fewer.
-fn take_front(out: &[u8], n: usize) -> &[u8] {
-    if n <= out.len() {
-        return &out[..n];
+fn take_front(space: &[u8], n: usize) -> &[u8] {
+    if n <= space.len() {
+        return &space[..n];
     }
-    out
+    space
 }
 
-// The answer after what was asked, and on success the form, which stands at the front of `out`.
-fn print_form(x: Written, out: &[u8]) {
+// The answer after what was asked, and on success the form, which stands at the front of `space`.
+fn print_form<W: Write>(out: &mut W, x: Written, space: &[u8]) -> io::Result<()> {
     match x {
         Written::Length(n) => {
-            print_number(0);
-            print_number(n as u64);
-            end_line();
-            io::write_all(STDOUT_FILENO, take_front(out, n));
+            print_number(out, 0)?;
+            print_number(out, n as u64)?;
+            end_line(out)?;
+            out.write_all(take_front(space, n))
         }
-        Written::Refused(r) => print_refusal(r),
+        Written::Refused(r) => print_refusal(out, r),
     }
 }
 
 // "written once more no byte changes": 1 if that is so.
-fn print_again(form: &[u8]) {
-    let mut out = [0; ROOM];
-    io::write_all(STDOUT_FILENO, b"again");
-    match forms::write(form, &mut out) {
+fn print_again<W: Write>(out: &mut W, form: &[u8]) -> io::Result<()> {
+    let mut space = [0; ROOM];
+    out.write_all(b"again")?;
+    match forms::write(form, &mut space) {
         Written::Length(n) => {
-            print_number(lines::equal(take_front(&out, n), form) as u64);
-            end_line();
+            print_number(out, lines::equal(take_front(&space, n), form) as u64)?;
+            end_line(out)
         }
-        Written::Refused(r) => print_refusal(r),
+        Written::Refused(r) => print_refusal(out, r),
     }
 }
 
-fn print_written(s: &[u8]) {
-    let mut out = [0; ROOM];
-    let x = forms::write(s, &mut out);
-    io::write_all(STDOUT_FILENO, b"write");
-    print_form(x, &out);
+fn print_written<W: Write>(out: &mut W, s: &[u8]) -> io::Result<()> {
+    let mut space = [0; ROOM];
+    let x = forms::write(s, &mut space);
+    out.write_all(b"write")?;
+    print_form(out, x, &space)?;
     match x {
-        Written::Length(n) => print_again(take_front(&out, n)),
-        Written::Refused(_) => {}
+        Written::Length(n) => print_again(out, take_front(&space, n)),
+        Written::Refused(_) => Ok(()),
     }
 }
 
-fn print_stripped(s: &[u8]) {
-    let mut out = [0; ROOM];
-    let x = forms::strip(s, &mut out);
-    io::write_all(STDOUT_FILENO, b"strip");
-    print_form(x, &out);
+fn print_stripped<W: Write>(out: &mut W, s: &[u8]) -> io::Result<()> {
+    let mut space = [0; ROOM];
+    let x = forms::strip(s, &mut space);
+    out.write_all(b"strip")?;
+    print_form(out, x, &space)
 }
 
-fn print_filled(s: &[u8], section: usize, record: usize, field: usize) {
-    let mut out = [0; ROOM];
-    let x = forms::fill(s, section, record, field, b"Tag \"neu\"; 1  ", &mut out);
-    io::write_all(STDOUT_FILENO, b"fill");
-    print_number(section as u64);
-    print_number(record as u64);
-    print_number(field as u64);
-    print_form(x, &out);
+fn print_filled<W: Write>(
+    out: &mut W,
+    s: &[u8],
+    section: usize,
+    record: usize,
+    field: usize,
+) -> io::Result<()> {
+    let mut space = [0; ROOM];
+    let x = forms::fill(s, section, record, field, b"Tag \"neu\"; 1  ", &mut space);
+    out.write_all(b"fill")?;
+    print_number(out, section as u64)?;
+    print_number(out, record as u64)?;
+    print_number(out, field as u64)?;
+    print_form(out, x, &space)
 }
 
-fn print_filled_record(s: &[u8], section: usize, record: usize) {
-    let mut field: usize = 1;
-    while field <= WIDEST {
-        print_filled(s, section, record, field);
-        field += 1;
+fn print_filled_record<W: Write>(
+    out: &mut W,
+    s: &[u8],
+    section: usize,
+    record: usize,
+) -> io::Result<()> {
+    for field in 1..=WIDEST {
+        print_filled(out, s, section, record, field)?;
     }
+    Ok(())
 }
 
-fn print_filled_section(s: &[u8], section: usize, records: usize) {
-    let mut record: usize = 0;
-    while record < records {
-        record += 1;
-        print_filled_record(s, section, record);
+fn print_filled_section<W: Write>(
+    out: &mut W,
+    s: &[u8],
+    section: usize,
+    records: usize,
+) -> io::Result<()> {
+    for record in 1..=records {
+        print_filled_record(out, s, section, record)?;
     }
+    Ok(())
 }
 
 // At every place of every record, and where there is none.
-fn print_filled_everywhere(s: &[u8]) {
-    let n = cut::count_sections(s);
-    let mut i: usize = 0;
-    while i < n {
-        i += 1;
+fn print_filled_everywhere<W: Write>(out: &mut W, s: &[u8]) -> io::Result<()> {
+    for i in 1..=cut::count_sections(s) {
         match sections::section(s, i) {
-            Listed::Is(row) => print_filled_section(s, i, row.records),
-            Listed::Refused(r) => print_refusal(r),
+            Listed::Is(row) => print_filled_section(out, s, i, row.records)?,
+            Listed::Refused(r) => print_refusal(out, r)?,
         }
     }
-    print_filled(s, 0, 1, 1);
+    print_filled(out, s, 0, 1, 1)
 }
 
-pub fn print_forms(s: &[u8]) {
-    print_written(s);
-    print_stripped(s);
+pub fn print_forms<W: Write>(out: &mut W, s: &[u8]) -> io::Result<()> {
+    print_written(out, s)?;
+    print_stripped(out, s)?;
     let verdict = files::check_file(s);
     if verdict.number == 0 {
-        print_filled_everywhere(s);
+        print_filled_everywhere(out, s)
     } else {
-        print_filled(s, 1, 1, 1);
+        print_filled(out, s, 1, 1, 1)
     }
 }

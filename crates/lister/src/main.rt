@@ -1,8 +1,11 @@
 // Lists every section of the file on standard input.
 #![tactic(auto)]
 
-use libc::STDIN_FILENO;
+use std::io;
+use std::io::{BufWriter, Write};
 
-fn main() {
-    listing::list_descriptor(STDIN_FILENO);
+fn main(rt: HostRuntime) -> io::Result<()> {
+    let mut out = BufWriter::new(rt.alloc(), io::writer(&rt))?;
+    listing::list_input(rt.alloc(), rt.reader(), &mut out)?;
+    out.flush()
 }

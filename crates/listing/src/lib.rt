@@ -1,101 +1,104 @@
 // What the program `lister` prints of a file.
 #![tactic(auto)]
 
-use libc::STDOUT_FILENO;
 use page::{Refusal, Row};
+use std::alloc::Global;
+use std::io;
+use std::io::{Read, Write};
 
 // "up to 64 KiB": one more byte tells that there is more.
 const ROOM: usize = 65537;
 
-pub fn print_number(n: u64) {
-    io::write_all(STDOUT_FILENO, b";");
-    io::print_decimal(STDOUT_FILENO, n);
+pub fn print_number<W: Write>(out: &mut W, n: u64) -> io::Result<()> {
+    write!(out, ";{n}")
 }
 
-pub fn end_line() {
-    io::write_all(STDOUT_FILENO, b"\n");
+pub fn end_line<W: Write>(out: &mut W) -> io::Result<()> {
+    out.write_all(b"\n")
 }
 
 // "header verdict and line"
-fn print_header(verdict: u32, line: usize) {
-    io::write_all(STDOUT_FILENO, b"header");
-    print_number(verdict as u64);
-    print_number(line as u64);
-    end_line();
+fn print_header<W: Write>(out: &mut W, verdict: u32, line: usize) -> io::Result<()> {
+    out.write_all(b"header")?;
+    print_number(out, verdict as u64)?;
+    print_number(out, line as u64)?;
+    end_line(out)
 }
 
 // "section, table number, verdict, records, line"
-fn print_row(i: usize, row: Row) {
-    let table = row.table;
-    let verdict = row.verdict;
-    let records = row.records;
-    let line = row.line;
-    io::write_all(STDOUT_FILENO, b"table");
-    print_number(i as u64);
-    print_number(table as u64);
-    print_number(verdict as u64);
-    print_number(records as u64);
-    print_number(line as u64);
-    end_line();
+fn print_row<W: Write>(out: &mut W, i: usize, row: Row) -> io::Result<()> {
+    out.write_all(b"table")?;
+    print_number(out, i as u64)?;
+    print_number(out, row.table as u64)?;
+    print_number(out, row.verdict as u64)?;
+    print_number(out, row.records as u64)?;
+    print_number(out, row.line as u64)?;
+    end_line(out)
 }
 
-fn print_sections(s: &[u8]) {
+// A section has a byte at least, so there are no more of them than bytes.
+fn print_sections<W: Write>(out: &mut W, s: &[u8]) -> io::Result<()> {
     let latin = headers::read_charset(s);
-    let mut i: usize = 1;
     let mut at = cut::find_section(s, 0);
-    while at < s.len() {
-        print_row(i, sections::read_section(s, at, latin));
+    for i in 1..=s.len() {
+        if s.len() <= at {
+            break;
+        }
+        print_row(out, i, sections::read_section(s, at, latin))?;
         let e = cut::section_end(s, at);
         at = cut::find_section(s, e);
-        i += 1;
     }
+    Ok(())
 }
 
 // "trailer verdict"
-fn print_trailer(s: &[u8]) {
+fn print_trailer<W: Write>(out: &mut W, s: &[u8]) -> io::Result<()> {
     let found = trailers::read_trailer(s);
-    io::write_all(STDOUT_FILENO, b"trailer");
-    print_number(found.verdict as u64);
-    end_line();
+    out.write_all(b"trailer")?;
+    print_number(out, found.verdict as u64)?;
+    end_line(out)
 }
 
 // "file verdict, section, line"
-fn print_answer(r: Refusal) {
-    let number = r.number;
-    let section = r.section;
-    let line = r.line;
-    io::write_all(STDOUT_FILENO, b"file");
-    print_number(number as u64);
-    print_number(section as u64);
-    print_number(line as u64);
-    end_line();
+fn print_answer<W: Write>(out: &mut W, r: Refusal) -> io::Result<()> {
+    out.write_all(b"file")?;
+    print_number(out, r.number as u64)?;
+    print_number(out, r.section as u64)?;
+    print_number(out, r.line as u64)?;
+    end_line(out)
 }
 
 // "With a refused header only the header and file lines are printed"
-fn print_file(s: &[u8]) {
+fn print_file<W: Write>(out: &mut W, s: &[u8]) -> io::Result<()> {
     let found = headers::read_header(s);
-    let verdict = found.verdict;
-    let line = found.line;
-    print_header(verdict, line);
-    if verdict == 0 {
-        print_sections(s);
-        print_trailer(s);
+    print_header(out, found.verdict, found.line)?;
+    if found.verdict == 0 {
+        print_sections(out, s)?;
+        print_trailer(out, s)?;
     }
-    print_answer(files::check_file(s));
+    print_answer(out, files::check_file(s))
 }
 
 // "longer input prints the one line `too long`"
-pub fn print_listing(s: &[u8]) {
+pub fn print_listing<W: Write>(out: &mut W, s: &[u8]) -> io::Result<()> {
     if ROOM <= s.len() {
-        io::write_all(STDOUT_FILENO, b"too long\n");
-        return;
+        return out.write_all(b"too long\n");
     }
-    print_file(s);
+    print_file(out, s)
 }
 
-// All of a descriptor, up to what is listed and one byte more.
-pub fn list_descriptor(fd: i32) {
-    let mut space = [0; ROOM];
-    let n = io::read_full(fd, &mut space);
-    print_listing(&space[..n]);
+// All of the input, up to what is listed and one byte more.
+pub fn read_front<R: Read + Drop>(alloc: Global, input: R) -> io::Result<Vec<u8>> {
+    let mut s = Vec::new(alloc);
+    input.take(ROOM as u64).read_to_end(&mut s)?;
+    Ok(s)
+}
+
+pub fn list_input<R: Read + Drop, W: Write>(
+    alloc: Global,
+    input: R,
+    out: &mut W,
+) -> io::Result<()> {
+    let s = read_front(alloc, input)?;
+    print_listing(out, s.as_slice())
 }
