@@ -130,7 +130,7 @@ overflow_add-at c =
     let l = c.loop-k in
     let r = c.judge_field-told in
     let h = end_in c.args.w.now l.at r.result.end (search rules) r.ensures.0 in
-    omega (arith, h, ?)
+    omega (arith, h, c.well_formed.0.1)
 
 pub loop-k-preserved : goal.loop-k-preserved
 unfolding allowed
