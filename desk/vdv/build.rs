@@ -8,14 +8,8 @@ use std::process::{exit, Command, Stdio};
 /// A prebuilt archive, for a machine on which nothing can be proved.
 const GIVEN: &str = "VDV_ARCHIVE";
 
-/// What the archive is proved and built from.
-const SOURCES: [&str; 5] = [
-    "crates.txt",
-    "crates",
-    "desk/vdv/prove",
-    "desk/vdv/native",
-    "desk/vdv/include",
-];
+/// What of a crate is proved; `rt` writes beside it, to out/.
+const PARTS: [&str; 3] = ["src", "specs", "proofs"];
 
 fn main() {
     println!("cargo:rerun-if-env-changed={GIVEN}");
@@ -25,7 +19,7 @@ fn main() {
         Err(_) => proved(&Path::new(&wanted("CARGO_MANIFEST_DIR")).join("../..")),
     };
     println!("cargo:rerun-if-changed={}", archive.display());
-    // `rt ci` removes target/, so what is linked is a copy.
+    // `rt ci` empties crates/*/out, so what is linked is a copy.
     let out = PathBuf::from(wanted("OUT_DIR"));
     if let Err(error) = fs::copy(&archive, out.join("libvdv.a")) {
         refuse(&format!("{}: {error}", archive.display()));
@@ -51,12 +45,15 @@ fn given(path: &str) -> PathBuf {
     archive
 }
 
-/// The archive under target/, proved and built from the sources as they are.
+/// The archive under crates/vdv/out, proved and built from the sources as they are.
 fn proved(root: &Path) -> PathBuf {
-    for source in SOURCES {
-        println!("cargo:rerun-if-changed={}", root.join(source).display());
-    }
     let prove = root.join("desk/vdv/prove");
+    for source in [root.join("crates.txt"), prove.clone()] {
+        println!("cargo:rerun-if-changed={}", source.display());
+    }
+    for part in parts(&root.join("crates")) {
+        println!("cargo:rerun-if-changed={}", part.display());
+    }
     let run = Command::new(&prove)
         .arg(machine())
         .stderr(Stdio::inherit())
@@ -70,17 +67,26 @@ fn proved(root: &Path) -> PathBuf {
     }
 }
 
-/// The kit builds archives for x86-64 alone.
+/// The folders of the crates' sources, as many as are there.
+fn parts(crates: &Path) -> Vec<PathBuf> {
+    let names = match fs::read_dir(crates) {
+        Ok(names) => names,
+        Err(error) => refuse(&format!("{}: {error}", crates.display())),
+    };
+    let folders = names.flatten().map(|name| name.path());
+    let parts = folders.flat_map(|folder| PARTS.map(|part| folder.join(part)));
+    parts.filter(|part| part.is_dir()).collect()
+}
+
+/// The machines that the kit builds archives for.
 fn machine() -> String {
     let names = ["CARGO_CFG_TARGET_ARCH", "CARGO_CFG_TARGET_OS"];
     let [machine, system] = names.map(wanted);
-    let is_native = wanted("HOST") == wanted("TARGET");
     match (machine.as_str(), system.as_str()) {
-        ("x86_64", "linux") => machine,
-        ("aarch64", "linux") if is_native => machine,
+        ("x86_64" | "aarch64", "linux") => machine,
         _ => refuse(&format!(
-            "the library is proved and built for Linux on x86-64, and on an Arm machine for \
-             itself, not for {system} on {machine}; name an archive for it in {GIVEN}"
+            "the library is proved and built for Linux on x86-64 and on Arm (aarch64), not for \
+             {system} on {machine}; name an archive for it in {GIVEN}"
         )),
     }
 }

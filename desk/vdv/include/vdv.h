@@ -12,7 +12,7 @@
  * and the place: section, 0 for header and trailer, and line. The values that
  * follow are 0 where the call was refused.
  *
- * The library is built for Linux: on x86-64, and on an Arm machine for itself. */
+ * The library is built for Linux, on x86-64 and on Arm (aarch64). */
 #ifndef VDV_H
 #define VDV_H
 
