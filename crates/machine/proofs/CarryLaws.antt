@@ -5,8 +5,6 @@ use mathlib.Core.Logic.{inl, inr}
 use mathlib.Core.List.{List, [], ◌∷◌}
 use Prim.Native.Nat.{ℕ}
 use native.Mathlib.Omega.{arith}
-use denote.Enum.Declared.{tag_of}
-use types.Run.{OneOf}
 use lib.Dec.{eqb}
 use borrow.Author.Tests.{eqb-true}
 use Rattle.page.specs.Bytes.{Bytes}
@@ -24,20 +22,16 @@ use Rattle.page.specs.declared.Phase.{Phase}
 use Rattle.page.specs.declared.Phase.TheVariants as P
 use Rattle.page.specs.declared.Step.{Step}
 use Rattle.page.specs.declared.Step.TheVariants as S
-use Rattle.page.specs.contracts.Phase.{the_type}
 use Rattle.laws.proofs.Tests.{blank_missing}
 use Rattle.names.specs.Told.{Told}
 use Rattle.machine.specs.Carries.{order_at, Carries, Found, Carried}
 
 -- a phase at which no `atr` line is due: what the code's test on the phase tells
 abbrev pub Other : Phase → Type 0
-Other p = OneOf (0 ∷ 2 ∷ 3 ∷ 4 ∷ []) (tag_of the_type p)
+Other p = (t : ℕ) → p ≡ P.Atr t → ⊥
 
 due : {X : Type 0} (t : ℕ) → Other (P.Atr t) → X
-due t (inl e) = absurd (omega arith)
-due t (inr (inl e)) = absurd (omega arith)
-due t (inr (inr (inl e))) = absurd (omega arith)
-due t (inr (inr (inr e))) = absurd (omega arith)
+due t n = absurd (n t refl)
 
 pub none_due : (p : Phase) (w : Bytes) (b : Bool) → Other p → Found p w b
 unfolding Found

@@ -75,6 +75,7 @@ module _ (t : ℕ) (x : Order) (l : Bytes) (ls : List Bytes) where
   -- a line that is no `atr` leaves the order, and one that is states it
   stays : (p : Phase) (o : Order) → Of t x (l ∷ ls) p o → eqb (command c) Atr ≡ false → Of t x ls p (order_after p o c)
   unfolding atr_in order_after
+  stays P.Tbl o h n = elim h [ ]
   stays (P.Atr t) o (atr h) n = atr (rw n at h)
   stays (P.Frm t) o (frm h) n = frm h
   stays (P.Rows t m k) o (rows h) n = rows h
@@ -102,6 +103,7 @@ module _ (t : ℕ) (x : Order) (l : Bytes) (ls : List Bytes) where
   lead_com p o h e R.Comment y =
       still {q = p} (stays p o h (is_not c Com Atr e refl)) refl (commented (mark_in p) e y) (is_not c Com Rec e refl)
   lead_com p o h e R.Unreadable y = six
+  lead_com P.Tbl o h e (R.Mark i) y = elim h [ ]
   lead_com (P.Atr t) o (atr h) e (R.Mark i) y = six
   lead_com (P.Frm t) o (frm h) e (R.Mark i) y = six
   lead_com (P.Rows t m n) o (rows h) e (R.Mark i) y = if _ (λ z. still (rows h) refl (remarked m i e y) (is_not c Com Rec e refl)) (λ z. six)
@@ -128,6 +130,7 @@ module _ (t : ℕ) (x : Order) (l : Bytes) (ls : List Bytes) where
 
   lead_line : (p : Phase) (o : Order) → Of t x (l ∷ ls) p o → Leads t x p o l ls (line_step p o (command c) (rest c))
   unfolding line_step atr_step frm_step records_in order_after
+  lead_line P.Tbl o h = elim h [ ]
   lead_line (P.Atr t) o (atr h) =
       if _ (λ z. let e = eqb-true (command c) Atr z in if _ (λ y. still (frm (stated o h z)) refl (other 0 c Atr e refl) (is_not c Atr Rec e refl)) (λ y. six)) (λ z. six)
   lead_line (P.Frm t) o (frm h) =
@@ -149,6 +152,7 @@ module _ (latin : Bool) (t : ℕ) (x : Order) where
 
   at_end : (p : Phase) (o : Order) (n r at : ℕ) → Of t x [] p o → (finish p n).verdict ≡ 0 → records_in p + r < (finish p n).records → Passed r (mark_in p) at []
   unfolding finish records_in
+  at_end P.Tbl o n r at h e k = elim h [ ]
   at_end (P.Atr t) o n r at (atr h) e k = absurd (omega arith)
   at_end (P.Frm t) o n r at (frm h) e k = absurd (omega arith)
   at_end (P.Rows t m i) o n r at (rows h) e k = absurd (omega arith)
@@ -203,6 +207,10 @@ module _ (latin : Bool) (l : Bytes) (ls : List Bytes) (r at : ℕ) where
       → r < (continue y 0 1 (λ q. run latin q [] 1 ls)).records → Passed latin t (order_in (l ∷ ls)) r 0 at (l ∷ ls)
   unfolding continue record_at waits records_in
   after_first (S.Stop v) (refuses ne) b d k e h = absurd (ne e)
+  after_first (S.Go P.Tbl) x b d k e h = elim x [ ]
+  after_first (S.Go (P.Frm _)) x b d k e h = elim x [ ]
+  after_first (S.Go (P.Rows _ _ _)) x b d k e h = elim x [ ]
+  after_first (S.Go (P.Ended _ _)) x b d k e h = elim x [ ]
   after_first (S.Go (P.Atr u)) begins b d k e h =
       rw (b, d) (run_passed latin t (order_in (l ∷ ls)) ls (P.Atr t) [] 1 r (at + length l) k e (omega arith))
 

@@ -63,7 +63,7 @@ module _ (w : Bytes) where
 
   plain_clean : (latin : Bool) → clean latin line ≡ all (allowed latin) w
   unfolding clean all allowed
-  plain_clean true = rw plain_command
+  plain_clean true = ap (λ (k : ℕ). all (allowed (eqb k Rec)) line) plain_command
   plain_clean false = refl
 
   pub plain_step : (latin : Bool) (t : ℕ) (o : Order) (m n : ℕ) → (eqb (rec_verdict t o m (fields w)) 0 && all (allowed latin) w) ≡ true

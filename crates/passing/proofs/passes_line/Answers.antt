@@ -19,7 +19,7 @@ pub returns-then-is_plain : goal.returns-then-is_plain
 unfolding step
 returns-then-is_plain c =
     let a = c.args in
-    let k = FIX_c.before.before.before.before.content_without_end in
+    let k = c.content_of-c in
     let w = take (length k.result.now - 4) (drop 4 k.result.now) in
     let y : w ≡ drop 4 k.result.now = take_all _ _ (le_of_eq (length-drop 4 k.result.now)) in
     let x = plain_shape k.result.now w y (c.is_plain.ensures c.if-is_plain.true) in

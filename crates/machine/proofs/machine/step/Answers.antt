@@ -22,7 +22,7 @@ returns-in-Atr c =
 pub step_content-requires-2 : goal.step_content-requires-2
 step_content-requires-2 c =
     let y = c.requires in
-    (y.0, y.1, none_due c.args.p _ _ c.in_default.in_default-own.keys2)
+    (y.0, y.1, none_due c.args.p _ _ c.in_default.not-Atr)
 
 pub returns : goal.returns
 unfolding step
@@ -30,5 +30,5 @@ returns c =
     let a = c.args in
     let w = sym c.content_of-c.ensures in (
       rw w c.step_content-2.ensures,
-      λ q e. carry_on a.latin a.p q a.o a.l.now c.in_default.in_default-own.keys2 c.requires.0 (rw w (sym c.step_content-2.ensures ∙ e)),
+      λ q e. carry_on a.latin a.p q a.o a.l.now c.in_default.not-Atr c.requires.0 (rw w (sym c.step_content-2.ensures ∙ e)),
     )
