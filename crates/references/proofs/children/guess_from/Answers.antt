@@ -25,7 +25,7 @@ slice_bounds-note_targets-end c =
 
 pub loop-next-preserved-then-wants_targets : goal.loop-next-preserved-then-wants_targets
 loop-next-preserved-then-wants_targets c =
-    (search rules, c.note_targets.auto.1.1.1.1.0 ∙ c.loop-next.invariant.1)
+    (search rules, c.note_targets.auto.g ∙ c.loop-next.invariant.1)
 
 pub loop-next-preserved : goal.loop-next-preserved
 loop-next-preserved c =
@@ -33,4 +33,4 @@ loop-next-preserved c =
 
 pub shape_of-g : goal.shape_of-g
 shape_of-g c =
-    c.loop-next.invariant.1 ∙ c.note_records-until.auto.1.1.1.1.0 ∙ c.wipe.auto.0
+    c.loop-next.invariant.1 ∙ c.note_records-until.auto.g ∙ c.wipe.auto.g

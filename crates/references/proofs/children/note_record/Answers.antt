@@ -5,4 +5,4 @@ use Rattle.references.proofs.children.note_record.Goals as goal
 
 pub loop-next-preserved-then-is_guessed : goal.loop-next-preserved-then-is_guessed
 loop-next-preserved-then-is_guessed c =
-    (search rules, search rules, c.note_key-new.auto.0 ∙ c.loop-next.invariant.2)
+    (search rules, search rules, c.note_key-new.auto.g ∙ c.loop-next.invariant.2)

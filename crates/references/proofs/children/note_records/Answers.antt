@@ -12,4 +12,4 @@ loop-from-smaller c =
 
 pub loop-from-preserved : goal.loop-from-preserved
 loop-from-preserved c =
-    (search rules, c.note_record-count.auto.1.1.1.1.0 ∙ c.loop-from.invariant.1)
+    (search rules, c.note_record-count.auto.g ∙ c.loop-from.invariant.1)

@@ -4,4 +4,4 @@ use Rattle.references.proofs.children.note_targets.Goals as goal
 
 pub loop-from-preserved : goal.loop-from-preserved
 loop-from-preserved c =
-    c.note_target.auto.0 ∙ c.loop-from.invariant
+    c.note_target.auto.g ∙ c.loop-from.invariant

@@ -22,7 +22,7 @@ reaches-x-requires c =
     (c.requires.0, omega arith, c.loop-r.invariant.3)
 
 pub shape_of-g-then-not-x : goal.shape_of-g-then-not-x
-shape_of-g-then-not-x c = c.reaches-x.auto.1.1.1.1.1.1.1.1.0 ∙ c.loop-r.invariant.2
+shape_of-g-then-not-x c = c.reaches-x.auto.g ∙ c.loop-r.invariant.2
 
 pub returns-then-not-x : goal.returns-then-not-x
 returns-then-not-x c =
@@ -48,7 +48,7 @@ loop-r-preserved c =
           (some_more _ l.r c.count_references-n.result c.loop-r-test.true
           (lacks_is a.s.now a.aims a.t _ l.r f.result f.ensures _ c.read_chosen-key.ensures _ _ x.ensures c.if-not-x.false))
           ∙ l.invariant.1,
-      x.auto.1.1.1.1.1.1.1.1.0 ∙ l.invariant.2,
+      x.auto.g ∙ l.invariant.2,
       met_more a.s.now a.aims l.recent l.invariant.3 l.r _ _ x.ensures c.if-not-x.false _ c.keep_recent-recent.ensures,
     )
 

@@ -48,7 +48,7 @@ loop-at-preserved c =
       starts_next a.w.now l.at e h t.size l.invariant.1,
       sym (line_more a.w.now l.at e h t.size l.invariant.1 (lacks_any a.s.now a.aims a.t) l.n (sym x.ensures.0 ∙ c.if-x.false))
           ∙ l.invariant.2,
-      x.auto.1.1.1.1.1.1.1.1.0 ∙ l.invariant.3,
+      x.auto.g ∙ l.invariant.3,
       x.ensures.1,
     )
 

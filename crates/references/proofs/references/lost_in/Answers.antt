@@ -41,7 +41,7 @@ lost_among-requires c =
     aims_within c.take_aims-aims.ensures
 
 pub shape_of-g : goal.shape_of-g
-shape_of-g c = c.lost_among.auto.1.1.1.1.1.0
+shape_of-g c = c.lost_among.auto.g
 
 pub returns : goal.returns
 returns c =

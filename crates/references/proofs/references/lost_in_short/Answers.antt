@@ -24,7 +24,7 @@ loop-n-preserved c =
     let l = c.loop-n in (
       omega (arith, c.loop-n-test.true),
       looked_next a.s.now a.seats c.requires l.n l.invariant.1 c.lost_in-line.result c.lost_in-line.ensures c.if-line-ne0.false,
-      c.lost_in-line.auto.1.1.1.0 ∙ l.invariant.2,
+      c.lost_in-line.auto.g ∙ l.invariant.2,
     )
 
 pub returns : goal.returns

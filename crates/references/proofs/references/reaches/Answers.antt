@@ -23,7 +23,7 @@ reaches_late-late-requires c =
     (b.0, b.1)
 
 pub shape_of-g : goal.shape_of-g
-shape_of-g c = c.guess_more-more.auto.1.1.1.1.1.1.0
+shape_of-g c = c.guess_more-more.auto.g
 
 pub returns : goal.returns
 returns c = reached_at _ _ _ _ c.find_aim-a.ensures _ _ c.reaches_late-late.ensures

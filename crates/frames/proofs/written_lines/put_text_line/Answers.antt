@@ -4,7 +4,7 @@ use Rattle.frames.proofs.PlainLaws.{part_length}
 use Rattle.page.specs.Bytes.{part}
 use Rattle.output.proofs.PutLaws.{puts, put_as}
 use native.Mathlib.Omega.{arith}
-use Rattle.frames.proofs.lines.put_text_line.Goals as goal
+use Rattle.frames.proofs.written_lines.put_text_line.Goals as goal
 
 pub put_raw_part-c-requires : goal.put_raw_part-c-requires
 put_raw_part-c-requires c = omega (arith, separator_length)

@@ -3,7 +3,7 @@ use Rattle.decimals.proofs.DecimalLaws.{decimal_length}
 use Rattle.page.specs.Bytes.{bytes}
 use Rattle.output.proofs.PutLaws.{puts, put_as}
 use native.Mathlib.Omega.{arith}
-use Rattle.frames.proofs.lines.put_mark.Goals as goal
+use Rattle.frames.proofs.written_lines.put_mark.Goals as goal
 
 pub put_byte-c-requires : goal.put_byte-c-requires
 put_byte-c-requires c = omega (arith, decimal_length c.args.i)

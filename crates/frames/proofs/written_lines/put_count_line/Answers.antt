@@ -2,7 +2,7 @@ use Rattle.frames.proofs.LineLaws.{line_is, separator_length}
 use Rattle.decimals.proofs.DecimalLaws.{decimal_length}
 use Rattle.output.proofs.PutLaws.{puts, put_as}
 use native.Mathlib.Omega.{arith}
-use Rattle.frames.proofs.lines.put_count_line.Goals as goal
+use Rattle.frames.proofs.written_lines.put_count_line.Goals as goal
 
 pub put_decimal-c-requires : goal.put_decimal-c-requires
 put_decimal-c-requires c = omega (arith, separator_length)
