@@ -3,7 +3,7 @@ ghost use Rattle.std.specs.Prelude.{◌+◌, ◌*◌, ◌<◌, ◌^◌, length};
 ghost use Rattle.output.specs.Put.{Put};
 ghost use Rattle.frames.specs.Heads.{src_line, chs_line, stated_line, head_raw, versions};
 
-use crate::lines::{put_line, put_text_line};
+use crate::written_lines::{put_line, put_text_line};
 use decimals::{put_date, put_time};
 use doubling::put_raw_part;
 use output::{put_byte, put_bytes, put_line_end};

@@ -2,9 +2,9 @@
 #![tactic(auto)]
 
 mod heads;
-mod lines;
 mod titles;
+mod written_lines;
 
 pub use heads::put_head;
-pub use lines::{put_count_line, put_line, put_mark};
 pub use titles::put_table_head;
+pub use written_lines::{put_count_line, put_line, put_mark};

@@ -59,6 +59,8 @@ fits_short latin c (words O.Suggestion t) f (a_suggestion x y p h a e) = omega (
 fit_short : (latin : Bool) (cs : List Named) (vs : Record) → ((k : ℕ) → (get_or cs k no_column).column.text ≡ true → (get_or cs k no_column).column.hi ≤ 40) → FitAll latin cs vs
     → Every Short vs
 fit_short latin [] [] f no_value = none_left
+fit_short latin [] (v ∷ vs) f x = elim x [ ]
+fit_short latin (c ∷ cs) [] f x = elim x [ ]
 fit_short latin (c ∷ cs) (v ∷ vs) f (a_value x xs) = one_more (fits_short latin c.column v (f 0) x) (fit_short latin cs vs (λ (k : ℕ). f (suc k)) xs)
 
 fit_length : {latin : Bool} {cs : List Named} {vs : Record} → FitAll latin cs vs → length vs ≡ length cs

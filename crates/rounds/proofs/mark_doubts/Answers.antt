@@ -34,8 +34,8 @@ loop-at-preserved-then-mark_line c =
     let z = c.pass_line-at.ensures.0 in
     let p = c.mark_line in (
       omega arith,
-      p.auto.1.1.1.1.0 ∙ v.invariant.1,
-      p.auto.1.1.1.1.1.0 ∙ v.invariant.2,
+      p.auto.t ∙ v.invariant.1,
+      p.auto.doubts ∙ v.invariant.2,
       stands_next w v.at v.i e v.invariant.3 c.loop-at-test.true z,
       marked_doubt _ w v.at v.i e v.invariant.3 c.loop-at-test.true z _ _ _ _ _ _ _ v.invariant.4 _ _ _ p.ensures v.invariant.1 v.invariant.2 c.if-mark_line.true,
     )
@@ -51,8 +51,8 @@ loop-at-preserved c =
     let z = c.pass_line-at.ensures.0 in
     let p = c.mark_line in (
       omega arith,
-      p.auto.1.1.1.1.0 ∙ v.invariant.1,
-      p.auto.1.1.1.1.1.0 ∙ v.invariant.2,
+      p.auto.t ∙ v.invariant.1,
+      p.auto.doubts ∙ v.invariant.2,
       stands_next w v.at v.i e v.invariant.3 c.loop-at-test.true z,
       marked_new _ w v.at v.i e v.invariant.3 c.loop-at-test.true z _ _ _ _ _ _ _ v.invariant.4 _ _ _ p.ensures v.invariant.1 v.invariant.2 c.if-mark_line.false,
     )

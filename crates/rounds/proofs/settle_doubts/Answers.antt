@@ -46,7 +46,7 @@ loop-at-preserved-else-is_again c =
     let z = c.pass_line-at.ensures.0 in
     let p = c.put_doubtful in (
       omega arith,
-      p.auto.1.1.1.0 ∙ v.invariant.1,
+      p.auto.t ∙ v.invariant.1,
       stands_next w v.at v.i e v.invariant.2 c.loop-at-test.true z,
       told_met _ w v.at v.i e v.invariant.2 c.loop-at-test.true z _ _ _ _ v.invariant.3 _ _ p.ensures v.invariant.1 _ c.is_again.ensures c.if-is_again.false,
     )
@@ -62,7 +62,7 @@ loop-at-preserved c =
     let z = c.pass_line-at.ensures.0 in
     let p = c.put_doubtful in (
       omega arith,
-      p.auto.1.1.1.0 ∙ v.invariant.1,
+      p.auto.t ∙ v.invariant.1,
       stands_next w v.at v.i e v.invariant.2 c.loop-at-test.true z,
       told_new _ w v.at v.i e v.invariant.2 c.loop-at-test.true z _ _ _ _ v.invariant.3 _ _ p.ensures v.invariant.1 c.if-put_doubtful.false,
     )

@@ -6,4 +6,4 @@ returns-then-not-mark_doubts c = round_none _ _ _ _ _ _ _ _ c.mark_doubts.ensure
 
 pub returns : goal.returns
 returns c =
-    round_done _ _ _ _ _ _ _ _ _ _ c.mark_doubts.auto.1.1.1.1.1.1.0 c.mark_doubts.ensures c.settle_doubts.ensures
+    round_done _ _ _ _ _ _ _ _ _ _ c.mark_doubts.auto.doubts c.mark_doubts.ensures c.settle_doubts.ensures

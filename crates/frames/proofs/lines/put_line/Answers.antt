@@ -1,5 +1,0 @@
-use Rattle.output.proofs.PutLaws.{puts}
-use Rattle.frames.proofs.lines.put_line.Goals as goal
-
-pub returns : goal.returns
-returns c = puts c.put_bytes-a.ensures c.put_line_end.ensures
