@@ -1,3 +1,4 @@
+use native.Mathlib.Omega.{arith}
 use borrow.Author.Tests.{le-leb, lt-leb}
 use Rattle.page.specs.Dates.{real_date}
 use Rattle.calendar.proofs.is_real_date.Goals as goal
@@ -12,4 +13,4 @@ returns-then-day-lt1 c = rw (le-leb 1 c.args.d.year c.if-year-lt1.false, lt-leb 
 
 pub returns : goal.returns
 unfolding real_date
-returns c = rw (le-leb 1 c.args.d.year c.if-year-lt1.false, le-leb 1 c.args.d.day c.if-day-lt1.false, c.days_in.ensures)
+returns c = rw (le-leb 1 c.args.d.year c.if-year-lt1.false, le-leb 1 c.args.d.day (omega arith), c.days_in.ensures)
