@@ -67,7 +67,7 @@ use Rattle.laws.proofs.Earlier.{earlier_none}
 -- where a record's fields stand among the bytes
 
 -- what follows the first `;` stands in s at its place
-abbrev Lies : Bytes → Standing → Type 0
+abbrev pub Lies : Bytes → Standing → Type 0
 Lies s x = take (length x.rest) (drop x.at s) ≡ x.rest
 
 lies_in : (a c z : Bytes) (k : ℕ) → k ≤ length c → take (length (drop k c)) (drop (length a + k) (a ++ (c ++ z))) ≡ drop k c
@@ -77,7 +77,7 @@ content_first : (l z : Bytes) → l ++ z ≡ content l ++ (drop (content_size l)
 unfolding content
 content_first l z = ap (λ (w : Bytes). w ++ z) (sym (take-append-drop (content_size l) l)) ∙ append_assoc (take (content_size l) l) (drop (content_size l) l) z
 
-stands_lies : (a l z : Bytes) (m : ℕ) → Lies (a ++ (l ++ z)) (stands (length a) l m)
+pub stands_lies : (a l z : Bytes) (m : ℕ) → Lies (a ++ (l ++ z)) (stands (length a) l m)
 unfolding stands rest
 stands_lies a l z m = by (ltb (until semicolon (content l)) (length (content l))) refl
   where
@@ -192,7 +192,7 @@ text_read : (c : Column) (f u : Bytes) → c.text ≡ true → record_text f ≡
 unfolding field_of text_field
 text_read c f u t e h = rw (t, worded_some f u e, le-leb (length u) c.hi h)
 
-section_begins : (s : Bytes) (i : ℕ) → 0 < i → i ≤ length (sections s) → begins (section_at s i).lines ≡ true
+pub section_begins : (s : Bytes) (i : ℕ) → 0 < i → i ≤ length (sections s) → begins (section_at s i).lines ≡ true
 unfolding section_at
 section_begins s i p h = at (sections_begin s) (i - 1) (omega arith)
   where
@@ -231,7 +231,7 @@ module _ (s : Bytes) (i r f : ℕ) (g : Given s i r f) where
   starts : begins here.lines ≡ true
   starts = section_begins s i g.section.0 g.section.1
 
-  datum_is : datum_at i r f (model_of s) ≡ get_or (get_or (records_of (latin_of s) here.lines) (r - 1) []) (f - 1) (number 0)
+  pub datum_is : datum_at i r f (model_of s) ≡ get_or (get_or (records_of (latin_of s) here.lines) (r - 1) []) (f - 1) (number 0)
   unfolding datum_at model_of content_of section_at
   datum_is = ap (λ (c : Content). get_or (get_or c.records (r - 1) []) (f - 1) (number 0)) (map_at (content_of (latin_of s)) (sections s) (i - 1) (omega (arith, g.section)))
     where

@@ -9,3 +9,5 @@ pub mod CallAnswers
 pub mod Handed
 pub mod HandedCells
 pub mod CallVerdicts
+pub mod HeaderLies
+pub mod HandedHeader
