@@ -26,7 +26,7 @@ use Rattle.page.specs.Form.{doubled}
 use Rattle.page.specs.Answers.{refuse-if, got, written}
 use Rattle.page.specs.Reading.{no_section, section_at, row_at, later_field, field_at, valued, value_in, record_of, value_refusal, value_at, value_of}
 use Rattle.page.specs.Writing.{put_refusal, put_of}
-use Rattle.page.specs.Handing.{text_refusal, place_of, own_text, text_owner, copied, text_out}
+use Rattle.page.specs.Handing.{text_refusal, place_of, own_text, text_owner, copied, text_out, text_after}
 use Rattle.page.specs.Grammar as Grammar
 use Rattle.page.specs.Grammar.{owner_by, Day, Holds, Values, no_field, a_field, Reads, Then, found, skip, Records, pause, a_mark, a_record, the_end, Denotes}
 use Rattle.page.specs.Rules.{Every, none_left, one_more}
@@ -61,7 +61,7 @@ use Rattle.laws.proofs.Sections.{sections_begin}
 use Rattle.grammar.proofs.Marks.{pass_marks, quiet_marks, mark_marks, record_marks, pass_at, quiet_at, mark_at, rec_at, owner_handed}
 use Rattle.calls.proofs.CallAnswers.{as_written, handed_is}
 use Rattle.calls.proofs.CallNumbers.{Given, IsText, value_given}
-use Rattle.calls.proofs.PromisesHanding.{text_put}
+use Rattle.calls.proofs.PromisesHanding.{text_put, text_done}
 use Rattle.laws.proofs.Earlier.{earlier_none}
 
 -- where a record's fields stand among the bytes
@@ -372,9 +372,27 @@ module _ (s : Bytes) (i r f room : ℕ) (x : Copied) (e : text_out s i r f room 
   pub text_handed : datum_at i r f (model_of s) ≡ words x.owner (own_text s i r f)
   text_handed = rw (← owner_told) says.datum
 
+  -- the owner is the suggestion's exactly if a mark before the record names the field
+  pub text_marked : x.owner ≡ owner_by (map (column_in (order_in (section_at s i).lines)) (marks_at (r - 1) [] (section_at s i).lines)) f
+  text_marked = sym owner_told ∙ owner_is s i r f ((value_given s i r f).0 a_text_there.0)
+
+  -- the value that `value` hands out has these bytes in its span, and this owner
+  pub text_value : (v : Value) → value_of s i r f ≡ G.Is v → StandsFor s v (words x.owner (own_text s i r f))
+  text_value v h = rw text_handed at (value_handed s i r f v h)
+
   -- and the owner is the one that `value` tells
   pub text_whose : (t : Text) × ((value_of s i r f ≡ G.Is (Va.Words t)) × (t.owner ≡ x.owner))
   unfolding value_of got
   text_whose =
       let z : eqb (value_refusal s i r f).number 0 ≡ true = eq-eqb (value_refusal s i r f).number 0 a_text_there.0 in
       (the_text s i r f ((value_given s i r f).0 a_text_there.0), (rw (z, says.value), owner_told))
+
+-- the bytes that stand in the output, with the owner that is told, are the model's text
+pub text_output : (s : Bytes) (i r f : ℕ) (out : Bytes) (x : Copied) → text_out s i r f (length out) ≡ Ha.Is x →
+    datum_at i r f (model_of s) ≡ words x.owner (take x.length (text_after s i r f out))
+unfolding text_after
+text_output s i r f out x e =
+    let d = text_done s i r f out x e in
+    let k : take x.length (text_after s i r f out) ≡ own_text s i r f =
+    rw (d.holds, d.given) (take-append_seam (own_text s i r f) (drop (length (own_text s i r f)) out)) in
+    rw k (text_handed s i r f (length out) x e)

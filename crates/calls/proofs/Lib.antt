@@ -11,3 +11,4 @@ pub mod HandedCells
 pub mod CallVerdicts
 pub mod HeaderLies
 pub mod HandedHeader
+pub mod NoRoom
