@@ -143,7 +143,7 @@ unfolding refuse_if
 if_none v z (holds a) = (λ e. absurd (z e), λ n. absurd (n a))
 if_none v z (fails n) = (λ e. n, λ m. refl)
 
-find_open : (s : Bytes) (i : ℕ) → (find_refusal s i).number ≡ 0 ↔ (Open s × Within i (length (sections s)))
+pub find_open : (s : Bytes) (i : ℕ) → (find_refusal s i).number ≡ 0 ↔ (Open s × Within i (length (sections s)))
 unfolding find_refusal
 find_open s i =
     via (none_exactly (header_refusal s) (refuse_if (outside i (length (sections s))) 24))

@@ -26,7 +26,7 @@ use Rattle.page.specs.Form.{doubled}
 use Rattle.page.specs.Answers.{refuse_if, got, written}
 use Rattle.page.specs.Reading.{no_section, section_at, row_at, later_field, field_at, valued, value_in, record_of, value_refusal, value_at, value_of}
 use Rattle.page.specs.Writing.{put_refusal, put_of}
-use Rattle.page.specs.Handing.{text_refusal, place_of, own_text, text_owner, copied, text_out}
+use Rattle.page.specs.Handing.{text_refusal, place_of, own_text, text_owner, copied, text_out, text_after}
 use Rattle.page.specs.Grammar as Grammar
 use Rattle.page.specs.Grammar.{owner_by, Day, Holds, Values, no_field, a_field, Reads, Then, found, skip, Records, pause, a_mark, a_record, the_end, Denotes}
 use Rattle.page.specs.Rules.{Every, none_left, one_more}
@@ -61,13 +61,13 @@ use Rattle.laws.proofs.Sections.{sections_begin}
 use Rattle.grammar.proofs.Marks.{pass_marks, quiet_marks, mark_marks, record_marks, pass_at, quiet_at, mark_at, rec_at, owner_handed}
 use Rattle.calls.proofs.CallAnswers.{as_written, handed_is}
 use Rattle.calls.proofs.CallNumbers.{Given, IsText, value_given}
-use Rattle.calls.proofs.PromisesHanding.{text_put}
+use Rattle.calls.proofs.PromisesHanding.{text_put, text_done}
 use Rattle.laws.proofs.Earlier.{earlier_none}
 
 -- where a record's fields stand among the bytes
 
 -- what follows the first `;` stands in s at its place
-abbrev Lies : Bytes → Standing → Type 0
+abbrev pub Lies : Bytes → Standing → Type 0
 Lies s x = take (length x.rest) (drop x.at s) ≡ x.rest
 
 lies_in : (a c z : Bytes) (k : ℕ) → k ≤ length c → take (length (drop k c)) (drop (length a + k) (a ++ (c ++ z))) ≡ drop k c
@@ -77,7 +77,7 @@ content_first : (l z : Bytes) → l ++ z ≡ content l ++ (drop (content_size l)
 unfolding content
 content_first l z = ap (λ (w : Bytes). w ++ z) (sym (take-append-drop (content_size l) l)) ∙ append_assoc (take (content_size l) l) (drop (content_size l) l) z
 
-stands_lies : (a l z : Bytes) (m : ℕ) → Lies (a ++ (l ++ z)) (stands (length a) l m)
+pub stands_lies : (a l z : Bytes) (m : ℕ) → Lies (a ++ (l ++ z)) (stands (length a) l m)
 unfolding stands rest
 stands_lies a l z m = by (ltb (until semicolon (content l)) (length (content l))) refl
   where
@@ -192,7 +192,7 @@ text_read : (c : Column) (f u : Bytes) → c.text ≡ true → record_text f ≡
 unfolding field_of text_field
 text_read c f u t e h = rw (t, worded_some f u e, le-leb (length u) c.hi h)
 
-section_begins : (s : Bytes) (i : ℕ) → 0 < i → i ≤ length (sections s) → begins (section_at s i).lines ≡ true
+pub section_begins : (s : Bytes) (i : ℕ) → 0 < i → i ≤ length (sections s) → begins (section_at s i).lines ≡ true
 unfolding section_at
 section_begins s i p h = at (sections_begin s) (i - 1) (omega arith)
   where
@@ -231,7 +231,7 @@ module _ (s : Bytes) (i r f : ℕ) (g : Given s i r f) where
   starts : begins here.lines ≡ true
   starts = section_begins s i g.section.0 g.section.1
 
-  datum_is : datum_at i r f (model_of s) ≡ get_or (get_or (records_of (latin_of s) here.lines) (r - 1) []) (f - 1) (number 0)
+  pub datum_is : datum_at i r f (model_of s) ≡ get_or (get_or (records_of (latin_of s) here.lines) (r - 1) []) (f - 1) (number 0)
   unfolding datum_at model_of content_of section_at
   datum_is = ap (λ (c : Content). get_or (get_or c.records (r - 1) []) (f - 1) (number 0)) (map_at (content_of (latin_of s)) (sections s) (i - 1) (omega (arith, g.section)))
     where
@@ -372,9 +372,27 @@ module _ (s : Bytes) (i r f room : ℕ) (x : Copied) (e : text_out s i r f room 
   pub text_handed : datum_at i r f (model_of s) ≡ words x.owner (own_text s i r f)
   text_handed = rw (← owner_told) says.datum
 
+  -- the owner is the suggestion's exactly if a mark before the record names the field
+  pub text_marked : x.owner ≡ owner_by (map (column_in (order_in (section_at s i).lines)) (marks_at (r - 1) [] (section_at s i).lines)) f
+  text_marked = sym owner_told ∙ owner_is s i r f ((value_given s i r f).0 a_text_there.0)
+
+  -- the value that `value` hands out has these bytes in its span, and this owner
+  pub text_value : (v : Value) → value_of s i r f ≡ G.Is v → StandsFor s v (words x.owner (own_text s i r f))
+  text_value v h = rw text_handed at (value_handed s i r f v h)
+
   -- and the owner is the one that `value` tells
   pub text_whose : (t : Text) × ((value_of s i r f ≡ G.Is (Va.Words t)) × (t.owner ≡ x.owner))
   unfolding value_of got
   text_whose =
       let z : eqb (value_refusal s i r f).number 0 ≡ true = eq-eqb (value_refusal s i r f).number 0 a_text_there.0 in
       (the_text s i r f ((value_given s i r f).0 a_text_there.0), (rw (z, says.value), owner_told))
+
+-- the bytes that stand in the output, with the owner that is told, are the model's text
+pub text_output : (s : Bytes) (i r f : ℕ) (out : Bytes) (x : Copied) → text_out s i r f (length out) ≡ Ha.Is x →
+    datum_at i r f (model_of s) ≡ words x.owner (take x.length (text_after s i r f out))
+unfolding text_after
+text_output s i r f out x e =
+    let d = text_done s i r f out x e in
+    let k : take x.length (text_after s i r f out) ≡ own_text s i r f =
+    rw (d.holds, d.given) (take-append_seam (own_text s i r f) (drop (length (own_text s i r f)) out)) in
+    rw k (text_handed s i r f (length out) x e)

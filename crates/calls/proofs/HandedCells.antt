@@ -79,7 +79,7 @@ unfolding row_at
 cells_handed s i e = cells_are (section_at s i) ∙ ap (table_cells (section_at s i) 1) (sym (row_count (latin_of s) (section_at s i) e))
 
 -- and three numbers for each value
-cell_length : (v : Value) → length (cell_of v) ≡ 3
+pub cell_length : (v : Value) → length (cell_of v) ≡ 3
 unfolding cell_of
 cell_length (Va.Number n) = refl
 cell_length Va.Missing = refl

@@ -9,3 +9,6 @@ pub mod CallAnswers
 pub mod Handed
 pub mod HandedCells
 pub mod CallVerdicts
+pub mod HeaderLies
+pub mod HandedHeader
+pub mod NoRoom

@@ -122,7 +122,7 @@ verdict_never s i = by (eqb (outcome (latin_of s) (section_at s i).lines).verdic
     by true e = omega arith
     by false e = told_never section_numbers refl (verdict_ranged (latin_of s) (section_at s i).lines) e
 
-table_never : (s : Bytes) (i : ℕ) → ¬ ((table_refusal s i).number ≡ 21)
+pub table_never : (s : Bytes) (i : ℕ) → ¬ ((table_refusal s i).number ≡ 21)
 unfolding table_refusal
 table_never s i = earlier_never (find_refusal s i) _ (find_never s i) (verdict_never s i)
 
@@ -133,7 +133,7 @@ value_never s i j f =
     (earlier_never (verdict_of i (row_at s i)) _ (verdict_never s i)
     (if_never (outside j (row_at s i).records || outside f (width (table_index (section_at s i).lines))) 24 (λ (z : 24 ≡ 21). omega arith)))
 
-text_never : (s : Bytes) (i j f : ℕ) → ¬ ((text_refusal s i j f).number ≡ 21)
+pub text_never : (s : Bytes) (i j f : ℕ) → ¬ ((text_refusal s i j f).number ≡ 21)
 unfolding text_refusal
 text_never s i j f =
     earlier_never (value_refusal s i j f) _ (value_never s i j f)

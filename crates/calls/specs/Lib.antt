@@ -1,3 +1,4 @@
 pub mod Promises
 pub mod Turns
 pub mod Handed
+pub mod HandedHeader

@@ -13,3 +13,11 @@ pub mod WrittenMarks
 pub mod Lexical
 pub mod PaddedTexts
 pub mod MissingNumbers
+pub mod DamageBefore
+pub mod DamageSame
+pub mod DamageAfter
+pub mod DamageBetween
+pub mod DamageSample
+pub mod OutputAgain
+pub mod Contents
+pub mod Accepted

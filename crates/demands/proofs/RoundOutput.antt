@@ -21,7 +21,7 @@ pub record Put (after : Bytes) (n : ℕ) (m : Model) : Type 0 where
   pub accepted : check_of (take n after) ≡ C.Sound
   pub says : model_of (take n after) ≡ m
 
-first_bytes : (r : Refusal) (form out : Bytes) (n : ℕ) → Done r form out n → take n (put_after r form out) ≡ form
+pub first_bytes : (r : Refusal) (form out : Bytes) (n : ℕ) → Done r form out n → take n (put_after r form out) ≡ form
 first_bytes r form out n d = rw (d.holds, d.given) (take-append_seam form (drop (length form) out))
 
 check_sound : (s : Bytes) → file_refusal s ≡ sound → check_of s ≡ C.Sound

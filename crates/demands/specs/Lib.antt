@@ -3,3 +3,6 @@ pub mod RoundAlike
 pub mod Viable
 pub mod WrittenMarks
 pub mod Lexical
+pub mod Damage
+pub mod Outputs
+pub mod Accepted

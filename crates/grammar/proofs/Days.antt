@@ -2,6 +2,7 @@
 use mathlib.Core.Path.{◌≡◌, refl, ap, sym, ◌∙◌}
 use mathlib.Core.Bool.{Bool, true, false, not, ◌&&◌, false≢true}
 use mathlib.Core.List.{List, [], ◌∷◌}
+use mathlib.Core.Logic.{◌↔◌}
 use Prim.Native.Nat.{ℕ, zero, suc, ◌+◌, ◌*◌, ◌/◌, ◌%◌, ◌≤◌, ◌<◌}
 use native.Mathlib.Omega.{arith}
 use lib.Dec.{eqb, leb}
@@ -14,7 +15,7 @@ use Rattle.page.specs.Grammar.{Day}
 use Rattle.page.specs.declared.Date.{Date}
 use Rattle.page.specs.declared.Field.TheVariants as F
 use Rattle.page.proofs.TestLaws.{and_left, and_right}
-use Rattle.laws.proofs.Decides.{Decides, holds, fails, fact, by_test, both, at_most}
+use Rattle.laws.proofs.Decides.{Decides, holds, fails, fact, by_test, both, at_most, tested}
 
 months : Bytes
 months = 0 ∷ 31 ∷ 28 ∷ 31 ∷ 30 ∷ 31 ∷ 30 ∷ 31 ∷ 31 ∷ 30 ∷ 31 ∷ 30 ∷ 31 ∷ []
@@ -94,6 +95,10 @@ day_d n = by_test (real_day n) (λ e. record { date = day_of n; real = e; read =
     back d =
         let r = real_parts d.date d.real in
         ap real_day d.read ∙ ap real_date (read_back d.date.year d.date.month d.date.day r.to_month r.to_day) ∙ d.real
+
+-- a number is a real day exactly if it is YYYYMMDD of a real date
+pub day_exactly : (n : ℕ) → real_day n ≡ true ↔ Day n
+day_exactly n = (fact (day_d n), tested (day_d n))
 
 -- "Gregorian dates from 00010101 to 99991231": the range of 13 ends in the year 9999
 pub day_within : {n : ℕ} → Day n → n ≤ 99999999 → (10101 ≤ n) × (n ≤ 99991231)

@@ -17,3 +17,4 @@ pub mod RoundReads
 pub mod RoundHeaderReads
 pub mod Round
 pub mod RoundSample
+pub mod LocalPlaces

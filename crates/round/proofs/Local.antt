@@ -62,20 +62,23 @@ flat_append [] q = refl
 flat_append (p ∷ ps) q = rw (flat_append ps q, append_assoc)
 
 -- how many bytes pieces have
-abbrev bytes_in : List Piece → ℕ
+abbrev pub bytes_in : List Piece → ℕ
 bytes_in ps = length (joined (flat ps))
 
 bytes_append : (p q : List Piece) → bytes_in (p ++ q) ≡ bytes_in p + bytes_in q
 bytes_append p q = rw (flat_append p q) (joined_length (flat p) (flat q))
 
 -- header and pieces have all the bytes
-whole_bytes : (s : Bytes) → length (joined (header_lines s)) + bytes_in (cut (lines s)).pieces ≡ length s
+pub all_bytes : (ls : List Bytes) → length (joined (cut ls).front) + bytes_in (cut ls).pieces ≡ length (joined ls)
+all_bytes ls = sym (joined_length (cut ls).front (flat (cut ls).pieces)) ∙ ap (λ (x : List Bytes). length (joined x)) (cut_whole ls)
+
+pub whole_bytes : (s : Bytes) → length (joined (header_lines s)) + bytes_in (cut (lines s)).pieces ≡ length s
 unfolding header_lines
 whole_bytes s =
     sym (joined_length (cut (lines s)).front (flat (cut (lines s)).pieces))
     ∙ ap (λ (x : List Bytes). length (joined x)) (cut_whole (lines s)) ∙ ap length (joined_lines s)
 
-front_some : (ps : List Piece) (f g : List Bytes) → 0 < length ps → front_by ps f g ≡ f
+pub front_some : (ps : List Piece) (f g : List Bytes) → 0 < length ps → front_by ps f g ≡ f
 front_some [] f g h = absurd (omega arith)
 front_some (p ∷ ps) f g h = refl
 
@@ -184,7 +187,7 @@ module _ (a m n b : Bytes) (wa : Whole a) (ha : 0 < length (cut (lines a)).piece
   same_latin : latin_of (a ++ (m ++ b)) ≡ latin_of (a ++ (n ++ b))
   same_latin = local_latin a m b wa ha r ∙ sym (local_latin a n b wa ha q)
 
-  says_same : (x y : Section) → x.lines ≡ y.lines → SaysSame (a ++ (m ++ b)) x (a ++ (n ++ b)) y
+  pub says_same : (x y : Section) → x.lines ≡ y.lines → SaysSame (a ++ (m ++ b)) x (a ++ (n ++ b)) y
   unfolding content_of
   says_same x y e = record { lines = e; outcome = rw (same_latin, e); entries = rw (same_latin, e); records = rw (same_latin, e); content = rw (same_latin, e) }
 
