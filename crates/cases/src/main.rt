@@ -1,7 +1,7 @@
 // For each file that an argument names: its name, its listing, and what writing, filling and stripping make of it.
 #![tactic(auto)]
 
-mod writing;
+mod printed_forms;
 
 use std::alloc::Global;
 use std::io::{BufWriter, Read, Write};
@@ -11,7 +11,7 @@ use std::{env, fs, io};
 fn show_file<R: Read + Drop, W: Write>(alloc: Global, file: R, out: &mut W) -> io::Result<()> {
     let s = listing::read_front(alloc, file)?;
     listing::print_listing(out, s.as_slice())?;
-    writing::print_forms(out, s.as_slice())
+    printed_forms::print_forms(out, s.as_slice())
 }
 
 // A file that cannot be opened is told on standard error, after what was printed before it.

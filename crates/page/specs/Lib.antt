@@ -32,3 +32,11 @@ pub mod Arranged
 pub mod Padded
 pub mod Connected
 pub mod Dated
+pub mod Lexical
+pub mod Clauses
+pub mod Parts
+pub mod CallCases
+pub mod Called
+pub mod Limited
+pub mod Spelt
+pub mod Tabled

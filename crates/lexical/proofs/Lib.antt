@@ -1,0 +1,9 @@
+pub mod Members
+pub mod Months
+pub mod Trims
+pub mod Lines
+pub mod Commands
+pub mod Splits
+pub mod Dates
+pub mod Clauses
+pub mod Parts
