@@ -20,7 +20,7 @@ use Rattle.page.specs.Places.{line_of}
 use Rattle.page.specs.Model.{model_of}
 use Rattle.page.specs.Form.{doubled}
 use Rattle.page.specs.Rules.{times, SoundHeader}
-use Rattle.page.specs.Answers.{refuse-if, headed}
+use Rattle.page.specs.Answers.{refuse_if, headed}
 use Rattle.page.specs.File.{too_long, found, header_refusal}
 use Rattle.page.specs.Reading.{header_of}
 use Rattle.page.specs.declared.Finding.{Finding}
@@ -94,7 +94,7 @@ unfolding header_refusal
 header_open s h = by (header_settled (header_lines s))
   where
     no_verdict : (head_of (header_lines s)).verdict ≡ 0
-    no_verdict = (earlier_none (refuse-if (too_long s) 1) (found (head_of (header_lines s))) h).1
+    no_verdict = (earlier_none (refuse_if (too_long s) 1) (found (head_of (header_lines s))) h).1
 
     by : (head_of (header_lines s) ≡ record { verdict = 0; line = 0 }) ⊎ ((n : ℕ) × (head_of (header_lines s) ≡ record { verdict = 2; line = n })) → SoundHeader (header_lines s)
     by (inl e) = (header_exactly (header_lines s)).0 e

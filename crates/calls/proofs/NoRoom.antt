@@ -8,7 +8,7 @@ use lib.Dec.{eqb, ltb}
 use lib.ListN.{length}
 use borrow.Author.Tests.{eqb-true}
 use Rattle.page.specs.Bytes.{Bytes, pick}
-use Rattle.page.specs.Answers.{refusal, earlier, refuse-if}
+use Rattle.page.specs.Answers.{refusal, earlier, refuse_if}
 use Rattle.page.specs.File.{limit, file_refusal}
 use Rattle.page.specs.Reading.{section_at}
 use Rattle.page.specs.Writing.{put_refusal, put_of, write_form, write_of, strip_form, strip_of}
@@ -23,16 +23,16 @@ use Rattle.calls.proofs.PromisesRoom.{TooLong, file_never}
 use Rattle.calls.proofs.PromisesHanding.{text_never, table_never}
 
 -- 21 is asked last: it is given exactly if nothing refuses before it, and there is no room
-pub last_exactly : {A : Type 0} {b : Bool} (r : Refusal) → ¬ (r.number ≡ 21) → Decides A b → earlier r (refuse-if b 21) ≡ refusal 21 0 0 ↔ ((r.number ≡ 0) × A)
-unfolding earlier refuse-if
+pub last_exactly : {A : Type 0} {b : Bool} (r : Refusal) → ¬ (r.number ≡ 21) → Decides A b → earlier r (refuse_if b 21) ≡ refusal 21 0 0 ↔ ((r.number ≡ 0) × A)
+unfolding earlier refuse_if
 last_exactly {A} {b} r never d = (into (eqb r.number 0) refl d, λ h. back h.0 h.1 d)
   where
-    into : (x : Bool) → eqb r.number 0 ≡ x → {q : Bool} → Decides A q → pick x (refuse-if q 21) r ≡ refusal 21 0 0 → (r.number ≡ 0) × A
+    into : (x : Bool) → eqb r.number 0 ≡ x → {q : Bool} → Decides A q → pick x (refuse_if q 21) r ≡ refusal 21 0 0 → (r.number ≡ 0) × A
     into true x (holds h) e = (eqb-true r.number 0 x, h)
     into true x (fails n) e = let z : ◌≡◌ {A = ℕ} 0 21 = ap (λ (q : Refusal). q.number) e in absurd (let w : ⊥ = omega arith in w)
     into false x d e = absurd (never (ap (λ (q : Refusal). q.number) e))
 
-    back : r.number ≡ 0 → A → {q : Bool} → Decides A q → pick (eqb r.number 0) (refuse-if q 21) r ≡ refusal 21 0 0
+    back : r.number ≡ 0 → A → {q : Bool} → Decides A q → pick (eqb r.number 0) (refuse_if q 21) r ≡ refusal 21 0 0
     back z a (holds h) = rw z
     back z a (fails n) = absurd (n a)
 

@@ -15,7 +15,7 @@ use Rattle.page.specs.Marks.{owner_of}
 use Rattle.page.specs.Records.{waits}
 use Rattle.page.specs.Places.{Standing, stands, record_at, this_or}
 use Rattle.page.specs.Rules.{times}
-use Rattle.page.specs.Answers.{refusal, sound, earlier, refuse-if, listed, got, handed}
+use Rattle.page.specs.Answers.{refusal, sound, earlier, refuse_if, listed, got, handed}
 use Rattle.page.specs.File.{too_long, header_refusal}
 use Rattle.page.specs.Reading.{verdict_of, later_field, field_at, valued, value_in}
 use Rattle.page.specs.Handing.{cell_of, record_cells, cells_in}
@@ -51,11 +51,11 @@ module _ (i j : ℕ) where
   unfolding earlier
   same_earlier x y = alike (SameRefusal i j) x (λ z. y) x
 
-  pub same_if : {p q : Bool} (v : ℕ) → p ≡ q → SameRefusal i j (refuse-if p v) (refuse-if q v)
-  unfolding refuse-if
+  pub same_if : {p q : Bool} (v : ℕ) → p ≡ q → SameRefusal i j (refuse_if p v) (refuse_if q v)
+  unfolding refuse_if
   same_if {p} {q} v e = rw e (by q)
     where
-      by : (q : Bool) → SameRefusal i j (refuse-if q v) (refuse-if q v)
+      by : (q : Bool) → SameRefusal i j (refuse_if q v) (refuse_if q v)
       by true = of_none
       by false = of_none
 

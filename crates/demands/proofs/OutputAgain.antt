@@ -6,7 +6,7 @@ use lib.ListN.{length, take, drop}
 use lib.Seq.{drop-append_seam}
 use borrow.Author.Tests.{le-ltb}
 use Rattle.page.specs.Bytes.{Bytes, unpadded}
-use Rattle.page.specs.Answers.{sound, earlier, refuse-if, written}
+use Rattle.page.specs.Answers.{sound, earlier, refuse_if, written}
 use Rattle.page.specs.File.{limit, file_refusal}
 use Rattle.page.specs.Writing.{put_refusal, put_of, put_after, write_form, write_of, write_after, strip_form, strip_of, strip_after, fill_refusal, fill_form, fill_of, fill_after}
 use Rattle.page.specs.declared.Refusal.{Refusal}
@@ -21,7 +21,7 @@ use Rattle.demands.proofs.FillBack.{fill_accepted, fill_written}
 -- a form that is its own form again, put once more
 
 fits_put : (form out : Bytes) → length form ≤ length out → length form ≤ limit → put_of sound form (length out) ≡ W.Length (length form)
-unfolding put_of put_refusal written earlier refuse-if
+unfolding put_of put_refusal written earlier refuse_if
 fits_put form out f k = rw (le-ltb (length out) (length form) f, le-ltb limit (length form) k)
 
 put_unchanged : (r q : Refusal) (form out room : Bytes) (n : ℕ) → Done r form out n → q ≡ sound → (again : Bytes) → again ≡ form → n ≤ length room →

@@ -10,3 +10,4 @@ pub mod Files
 pub mod Witnesses
 pub mod Completions
 pub mod Numbers
+pub mod TrailerBegins
