@@ -63,7 +63,7 @@ def write(path, old, new):
 def declared(top):
     found = set()
     for p in files(top, ".antt"):
-        if os.path.basename(p) in ANSWERS:
+        if "/proofs/" in p and os.path.basename(p) in ANSWERS:
             continue
         text = re.sub(r"--.*", "", read(p))
         found |= {m[1] for m in DECLARED.finditer(text)}

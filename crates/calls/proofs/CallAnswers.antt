@@ -7,7 +7,7 @@ use native.Mathlib.Omega.{arith}
 use lib.Dec.{eqb}
 use borrow.Author.Tests.{ne_eqb}
 use Rattle.page.specs.Bytes.{pick}
-use Rattle.page.specs.Answers.{checked, headed, listed, got, written, paper-written, handed, paper-handed}
+use Rattle.page.specs.Answers.{checked, headed, listed, got, written, paper_written, handed, paper_handed}
 use Rattle.page.specs.declared.Refusal.{Refusal}
 use Rattle.page.specs.declared.Row.{Row}
 use Rattle.page.specs.declared.Header.{Header}
@@ -96,8 +96,8 @@ handed_written r t = by (eqb r.number 0)
     by true = refl
     by false = refl
 
-pub handed_number : (w : Handed) → paper-handed w ≡ paper-written (as_written w)
-unfolding paper-handed paper-written
+pub handed_number : (w : Handed) → paper_handed w ≡ paper_written (as_written w)
+unfolding paper_handed paper_written
 handed_number (Ha.Is x) = refl
 handed_number (Ha.Refused r) = refl
 

@@ -15,7 +15,7 @@ use Rattle.page.specs.Header.{head_of}
 use Rattle.page.specs.Head.{latin_of}
 use Rattle.page.specs.Section.{outcome, refused}
 use Rattle.page.specs.Records.{table_index}
-use Rattle.page.specs.Answers.{refusal, sound, earlier, refuse-if}
+use Rattle.page.specs.Answers.{refusal, sound, earlier, refuse_if}
 use Rattle.page.specs.File.{limit, too_long, found, any, row_given, row_of, header_refusal, file_refusal}
 use Rattle.page.specs.Reading.{outside, section_at, row_at, find_refusal, section_of, list_refusal, list_of, verdict_of, value_refusal, value_at, value_of}
 use Rattle.page.specs.Handing.{text_refusal, own_text, text_owner, copied, text_out, cells_of, table_refusal, cells_refusal, table_of}
@@ -60,34 +60,34 @@ file_other s v (inr l) z e = told_other file_numbers (file_told s) z l e
 
 -- 1: "file over 16,777,216 bytes"
 pub header_1 : (s : Bytes) → header_refusal s ≡ refusal 1 0 0 ↔ (limit < length s)
-unfolding header_refusal too_long earlier refuse-if
+unfolding header_refusal too_long earlier refuse_if
 header_1 s = (by (below limit (length s)), back (below limit (length s)))
   where
     other : (f : Finding) → (f ≡ record { verdict = 0; line = 0 }) ⊎ ((n : ℕ) × (f ≡ record { verdict = 2; line = n })) → found f ≡ refusal 1 0 0 → ⊥
     other f (inl h) e = let k : f.verdict ≡ 0 = ap (λ (q : Finding). q.verdict) h in let m : f.verdict ≡ 1 = ap (λ (q : Refusal). q.number) e in omega arith
     other f (inr h) e = let k : f.verdict ≡ 2 = ap (λ (q : Finding). q.verdict) h.1 in let m : f.verdict ≡ 1 = ap (λ (q : Refusal). q.number) e in omega arith
 
-    by : {b : Bool} → Decides (limit < length s) b → earlier (refuse-if b 1) (found (head_of (header_lines s))) ≡ refusal 1 0 0 → limit < length s
+    by : {b : Bool} → Decides (limit < length s) b → earlier (refuse_if b 1) (found (head_of (header_lines s))) ≡ refusal 1 0 0 → limit < length s
     by (holds h) e = h
     by (fails h) e = absurd (other (head_of (header_lines s)) (header_settled (header_lines s)) e)
 
-    back : {b : Bool} → Decides (limit < length s) b → limit < length s → earlier (refuse-if b 1) (found (head_of (header_lines s))) ≡ refusal 1 0 0
+    back : {b : Bool} → Decides (limit < length s) b → limit < length s → earlier (refuse_if b 1) (found (head_of (header_lines s))) ≡ refusal 1 0 0
     back (holds h) l = refl
     back (fails h) l = absurd (h l)
 
 -- 2: "header breaks a rule", at its line
 pub header_2 : (s : Bytes) (n : ℕ) → header_refusal s ≡ refusal 2 0 n ↔ ((length s ≤ limit) × HeaderFault (header_lines s) n)
-unfolding header_refusal too_long earlier refuse-if
+unfolding header_refusal too_long earlier refuse_if
 header_2 s n = (by (ltb limit (length s)) refl, λ h. back (ltb limit (length s)) refl h)
   where
     finding : (f : Finding) → found f ≡ refusal 2 0 n → f ≡ record { verdict = 2; line = n }
     finding f e = ap (λ (q : Refusal). record { verdict = q.number; line = q.line }) e
 
-    by : (b : Bool) → ltb limit (length s) ≡ b → earlier (refuse-if b 1) (found (head_of (header_lines s))) ≡ refusal 2 0 n → (length s ≤ limit) × HeaderFault (header_lines s) n
+    by : (b : Bool) → ltb limit (length s) ≡ b → earlier (refuse_if b 1) (found (head_of (header_lines s))) ≡ refusal 2 0 n → (length s ≤ limit) × HeaderFault (header_lines s) n
     by true h e = let k : ◌≡◌ {A = ℕ} 1 2 = ap (λ (q : Refusal). q.number) e in absurd (let w : ⊥ = omega arith in w)
     by false h e = (ltb-false limit (length s) h, (header_refused_exactly (header_lines s) n).0 (finding (head_of (header_lines s)) e))
 
-    back : (b : Bool) → ltb limit (length s) ≡ b → (length s ≤ limit) × HeaderFault (header_lines s) n → earlier (refuse-if b 1) (found (head_of (header_lines s))) ≡ refusal 2 0 n
+    back : (b : Bool) → ltb limit (length s) ≡ b → (length s ≤ limit) × HeaderFault (header_lines s) n → earlier (refuse_if b 1) (found (head_of (header_lines s))) ≡ refusal 2 0 n
     back true h x = absurd (let w : ⊥ = omega (arith, ltb-true limit (length s) h, x) in w)
     back false h x = ap found ((header_refused_exactly (header_lines s) n).1 x.1)
 
@@ -104,15 +104,15 @@ after_header s b x z l = (λ e. into ((earlier_exactly (header_refusal s) b x z)
     into (inr h) = h
 
 -- one question alone
-if_exactly : {A : Type 0} {b : Bool} (v : ℕ) → ¬ (v ≡ 0) → Decides A b → refuse-if b v ≡ refusal v 0 0 ↔ A
-unfolding refuse-if
+if_exactly : {A : Type 0} {b : Bool} (v : ℕ) → ¬ (v ≡ 0) → Decides A b → refuse_if b v ≡ refusal v 0 0 ↔ A
+unfolding refuse_if
 if_exactly v z (holds a) = (λ e. a, λ x. refl)
 if_exactly v z (fails n) = (λ e. absurd (z (sym (ap (λ (q : Refusal). q.number) e))), λ x. absurd (n x))
 
 find_24 : (s : Bytes) (i : ℕ) → find_refusal s i ≡ refusal 24 0 0 ↔ (Open s × Outside i (length (sections s)))
 unfolding find_refusal any
 find_24 s i =
-    via (after_header s (refuse-if (outside i (length (sections s))) 24) (refusal 24 0 0) (some_number 24 (omega arith)) refl)
+    via (after_header s (refuse_if (outside i (length (sections s))) 24) (refusal 24 0 0) (some_number 24 (omega arith)) refl)
     (second (if_exactly 24 (some_number 24 (omega arith)) (outside_d i (length (sections s)))))
 
 -- `section`: 24, "no such section"
@@ -126,7 +126,7 @@ unfolding list_of list_refusal any
 list_21 s room =
     via (checked_exactly (earlier (list_refusal s room) (file_refusal s)) (refusal 21 0 0) (some_number 21 (omega arith)))
     (via (λ e. into ((earlier_exactly (list_refusal s room) (file_refusal s) (refusal 21 0 0) (some_number 21 (omega arith))).0 e), λ e. (earlier_exactly (list_refusal s room) (file_refusal s) (refusal 21 0 0) (some_number 21 (omega arith))).1 (inl e))
-    (via (after_header s (refuse-if (ltb room (length (sections s))) 21) (refusal 21 0 0) (some_number 21 (omega arith)) refl) (second (if_exactly 21 (some_number 21 (omega arith)) (below room (length (sections s)))))))
+    (via (after_header s (refuse_if (ltb room (length (sections s))) 21) (refusal 21 0 0) (some_number 21 (omega arith)) refl) (second (if_exactly 21 (some_number 21 (omega arith)) (below room (length (sections s)))))))
   where
     into : (list_refusal s room ≡ refusal 21 0 0) ⊎ (((list_refusal s room).number ≡ 0) × (file_refusal s ≡ refusal 21 0 0)) → list_refusal s room ≡ refusal 21 0 0
     into (inl e) = e
@@ -138,15 +138,15 @@ pub none_exactly : (a b : Refusal) → (earlier a b).number ≡ 0 ↔ ((a.number
 unfolding earlier
 none_exactly a b = (earlier_none a b, λ h. rw h.0 h.1)
 
-pub if_none : {A : Type 0} {b : Bool} (v : ℕ) → ¬ (v ≡ 0) → Decides A b → (refuse-if b v).number ≡ 0 ↔ (¬ A)
-unfolding refuse-if
+pub if_none : {A : Type 0} {b : Bool} (v : ℕ) → ¬ (v ≡ 0) → Decides A b → (refuse_if b v).number ≡ 0 ↔ (¬ A)
+unfolding refuse_if
 if_none v z (holds a) = (λ e. absurd (z e), λ n. absurd (n a))
 if_none v z (fails n) = (λ e. n, λ m. refl)
 
 find_open : (s : Bytes) (i : ℕ) → (find_refusal s i).number ≡ 0 ↔ (Open s × Within i (length (sections s)))
 unfolding find_refusal
 find_open s i =
-    via (none_exactly (header_refusal s) (refuse-if (outside i (length (sections s))) 24))
+    via (none_exactly (header_refusal s) (refuse_if (outside i (length (sections s))) 24))
     (second (via (if_none 24 (some_number 24 (omega arith)) (outside_d i (length (sections s)))) (within_not i (length (sections s)), not_within i (length (sections s)))))
 
 pub verdict_open : (s : Bytes) (i : ℕ) → (verdict_of i (row_at s i)).number ≡ 0 ↔ (row_at s i).verdict ≡ 0
@@ -184,10 +184,10 @@ abbrev pub SectionRefused : Bytes → ℕ → ℕ → ℕ → ℕ → Type 0
 SectionRefused s i v j n = (Open s × Within i (length (sections s))) × ((j ≡ i) × ((k : ℕ) × Refused (latin_of s) (section_at s i).lines k v n))
 
 find_else : (s : Bytes) (i : ℕ) (x : Refusal) → ¬ (x.number ≡ 0) → gives header_numbers x.number ≡ false → ¬ (x.number ≡ 24) → ¬ (find_refusal s i ≡ x)
-unfolding find_refusal refuse-if
-find_else s i x z l other e = by (outside i (length (sections s))) ((after_header s (refuse-if (outside i (length (sections s))) 24) x z l).0 e).1
+unfolding find_refusal refuse_if
+find_else s i x z l other e = by (outside i (length (sections s))) ((after_header s (refuse_if (outside i (length (sections s))) 24) x z l).0 e).1
   where
-    by : (b : Bool) → refuse-if b 24 ≡ x → ⊥
+    by : (b : Bool) → refuse_if b 24 ≡ x → ⊥
     by true e = other (sym (ap (λ (q : Refusal). q.number) e))
     by false e = z (sym (ap (λ (q : Refusal). q.number) e))
 
@@ -280,14 +280,14 @@ value_refused_24 s i r f = (λ e. first ((earlier_exactly (find_refusal s i) _ (
         other_number section_numbers 24 24 (refused_ranged (latin_of s) (section_at s i).lines h.1.0 24 0 h.1.1) refl refl
 
     then : (verdict_of i (row_at s i) ≡ refusal 24 0 0)
-        ⊎ (((verdict_of i (row_at s i)).number ≡ 0) × (refuse-if (outside r (row_at s i).records || outside f (width (table_index (section_at s i).lines))) 24 ≡ refusal 24 0 0)) →
+        ⊎ (((verdict_of i (row_at s i)).number ≡ 0) × (refuse_if (outside r (row_at s i).records || outside f (width (table_index (section_at s i).lines))) 24 ≡ refusal 24 0 0)) →
         ((row_at s i).verdict ≡ 0) × NoValue s i r f
     then (inl e) = absurd (verdict_other e)
     then (inr e) = ((verdict_open s i).0 e.0, (if_exactly 24 z (no_value_d s i r f)).0 e.1)
 
     first : (find_refusal s i ≡ refusal 24 0 0)
         ⊎ (((find_refusal s i).number ≡ 0)
-        × (earlier (verdict_of i (row_at s i)) (refuse-if (outside r (row_at s i).records || outside f (width (table_index (section_at s i).lines))) 24) ≡ refusal 24 0 0)) →
+        × (earlier (verdict_of i (row_at s i)) (refuse_if (outside r (row_at s i).records || outside f (width (table_index (section_at s i).lines))) 24) ≡ refusal 24 0 0)) →
         Nowhere s i r f
     first (inl e) = inl ((find_24 s i).0 e)
     first (inr e) = inr ((find_open s i).0 e.0, then ((earlier_exactly (verdict_of i (row_at s i)) _ (refusal 24 0 0) z).0 e.1))
@@ -307,8 +307,8 @@ pub value_24 : (s : Bytes) (i r f : ℕ) → value_of s i r f ≡ G.Refused (ref
 unfolding value_of
 value_24 s i r f = via (got_exactly (value_refusal s i r f) (refusal 24 0 0) (some_number 24 (omega arith)) (value_at (section_at s i) r f)) (value_refused_24 s i r f)
 
-pub if_number : (b : Bool) (u v : ℕ) → ¬ (v ≡ 0) → ¬ (u ≡ v) → (x : Refusal) → refuse-if b u ≡ x → ¬ (x.number ≡ v)
-unfolding refuse-if
+pub if_number : (b : Bool) (u v : ℕ) → ¬ (v ≡ 0) → ¬ (u ≡ v) → (x : Refusal) → refuse_if b u ≡ x → ¬ (x.number ≡ v)
+unfolding refuse_if
 if_number true u v z w x e h = w (ap (λ (q : Refusal). q.number) e ∙ h)
 if_number false u v z w x e h = z (sym (ap (λ (q : Refusal). q.number) e ∙ h))
 
@@ -318,7 +318,7 @@ unfolding value_of value_refusal any
 value_verdict s i r f v j n g =
     let z : ¬ (v ≡ 0) = other_number section_numbers v 0 g refl in
     via (got_exactly (value_refusal s i r f) (refusal v j n) z (value_at (section_at s i) r f))
-    (after_verdict s i (refuse-if (outside r (row_at s i).records || outside f (width (table_index (section_at s i).lines))) 24) v j n g
+    (after_verdict s i (refuse_if (outside r (row_at s i).records || outside f (width (table_index (section_at s i).lines))) 24) v j n g
     (if_number (outside r (row_at s i).records || outside f (width (table_index (section_at s i).lines))) 24 v z (λ e. other_number section_numbers v 24 g refl (sym e))))
 
 -- `text`: 11, "not a text", after all that refuses a value; any other refusal but 21 is the value's
@@ -330,7 +330,7 @@ IsText s i f = (column_at (table_index (section_at s i).lines) (f - 1)).text ≡
 value_other : (s : Bytes) (i r f : ℕ) → ¬ (value_refusal s i r f ≡ refusal 11 0 0)
 unfolding value_refusal any
 value_other s i r f e =
-    let h = (after_verdict s i (refuse-if (outside r (row_at s i).records || outside f (width (table_index (section_at s i).lines))) 24) 11 0 0 refl
+    let h = (after_verdict s i (refuse_if (outside r (row_at s i).records || outside f (width (table_index (section_at s i).lines))) 24) 11 0 0 refl
     (if_number (outside r (row_at s i).records || outside f (width (table_index (section_at s i).lines))) 24 11 (some_number 11 (omega arith)) (λ (e : 24 ≡ 11). omega arith))).0 e in
     omega (arith, h.0.1, h.1.0)
 
@@ -344,23 +344,23 @@ text_11 s i r f room =
     z : ¬ ((refusal 11 0 0).number ≡ 0)
     z e = omega arith
 
-    outer : earlier (text_refusal s i r f) (refuse-if (ltb room (length (own_text s i r f)) || ltb limit (length (own_text s i r f))) 21) ≡ refusal 11 0 0 → text_refusal s i r f ≡ refusal 11 0 0
+    outer : earlier (text_refusal s i r f) (refuse_if (ltb room (length (own_text s i r f)) || ltb limit (length (own_text s i r f))) 21) ≡ refusal 11 0 0 → text_refusal s i r f ≡ refusal 11 0 0
     outer e = by ((earlier_exactly (text_refusal s i r f) _ (refusal 11 0 0) z).0 e)
       where
         by : (text_refusal s i r f ≡ refusal 11 0 0)
-            ⊎ (((text_refusal s i r f).number ≡ 0) × (refuse-if (ltb room (length (own_text s i r f)) || ltb limit (length (own_text s i r f))) 21 ≡ refusal 11 0 0)) →
+            ⊎ (((text_refusal s i r f).number ≡ 0) × (refuse_if (ltb room (length (own_text s i r f)) || ltb limit (length (own_text s i r f))) 21 ≡ refusal 11 0 0)) →
             text_refusal s i r f ≡ refusal 11 0 0
         by (inl h) = h
         by (inr h) = absurd (if_number (ltb room (length (own_text s i r f)) || ltb limit (length (own_text s i r f))) 21 11 z (λ (e : 21 ≡ 11). omega arith) (refusal 11 0 0) h.1 refl)
 
-    inner : text_refusal s i r f ≡ refusal 11 0 0 → earlier (text_refusal s i r f) (refuse-if (ltb room (length (own_text s i r f)) || ltb limit (length (own_text s i r f))) 21) ≡ refusal 11 0 0
+    inner : text_refusal s i r f ≡ refusal 11 0 0 → earlier (text_refusal s i r f) (refuse_if (ltb room (length (own_text s i r f)) || ltb limit (length (own_text s i r f))) 21) ≡ refusal 11 0 0
     inner e = (earlier_exactly (text_refusal s i r f) _ (refusal 11 0 0) z).1 (inl e)
 
     value_first : text_refusal s i r f ≡ refusal 11 0 0 → Given s i r f × (¬ IsText s i f)
     value_first e = by ((earlier_exactly (value_refusal s i r f) _ (refusal 11 0 0) z).0 e)
       where
         by : (value_refusal s i r f ≡ refusal 11 0 0)
-            ⊎ (((value_refusal s i r f).number ≡ 0) × (refuse-if (not (column_at (table_index (section_at s i).lines) (f - 1)).text) 11 ≡ refusal 11 0 0)) → Given s i r f × (¬ IsText s i f)
+            ⊎ (((value_refusal s i r f).number ≡ 0) × (refuse_if (not (column_at (table_index (section_at s i).lines) (f - 1)).text) 11 ≡ refusal 11 0 0)) → Given s i r f × (¬ IsText s i f)
         by (inl h) = absurd (value_other s i r f h)
         by (inr h) = ((value_given s i r f).0 h.0, (if_exactly 11 z (turned (is_d (column_at (table_index (section_at s i).lines) (f - 1)).text))).0 h.1)
 
@@ -370,11 +370,11 @@ text_11 s i r f room =
         (inr ((value_given s i r f).1 h.0, (if_exactly 11 z (turned (is_d (column_at (table_index (section_at s i).lines) (f - 1)).text))).1 h.1))
 
 -- what is asked first decides, unless the answer is the later question's
-pub first_alone : (a : Refusal) (b : Bool) (u : ℕ) (x : Refusal) → ¬ (x.number ≡ 0) → ¬ (x ≡ refusal u 0 0) → earlier a (refuse-if b u) ≡ x ↔ a ≡ x
-unfolding refuse-if
-first_alone a b u x z other = (λ e. into b ((earlier_exactly a (refuse-if b u) x z).0 e), λ e. (earlier_exactly a (refuse-if b u) x z).1 (inl e))
+pub first_alone : (a : Refusal) (b : Bool) (u : ℕ) (x : Refusal) → ¬ (x.number ≡ 0) → ¬ (x ≡ refusal u 0 0) → earlier a (refuse_if b u) ≡ x ↔ a ≡ x
+unfolding refuse_if
+first_alone a b u x z other = (λ e. into b ((earlier_exactly a (refuse_if b u) x z).0 e), λ e. (earlier_exactly a (refuse_if b u) x z).1 (inl e))
   where
-    into : (b : Bool) → (a ≡ x) ⊎ ((a.number ≡ 0) × (refuse-if b u ≡ x)) → a ≡ x
+    into : (b : Bool) → (a ≡ x) ⊎ ((a.number ≡ 0) × (refuse_if b u ≡ x)) → a ≡ x
     into b (inl e) = e
     into true (inr e) = absurd (other (sym e.1))
     into false (inr e) = absurd (z (sym (ap (λ (q : Refusal). q.number) e.1)))
@@ -414,7 +414,7 @@ table_24 s i room =
 
 -- a section's numbers: its own verdict, with its place
 pub table_verdict : (s : Bytes) (i room v j n : ℕ) → OneOf section_numbers v → table_of s i room ≡ W.Refused (refusal v j n) ↔ SectionRefused s i v j n
-unfolding table_refusal refuse-if any
+unfolding table_refusal refuse_if any
 table_verdict s i room v j n g =
     via (table_first s i room (refusal v j n) z full)
     (via (λ e. into e, λ e. out e) (after_verdict s i sound v j n g (λ x e h. z (sym (ap (λ (q : Refusal). q.number) e ∙ h)))))

@@ -13,7 +13,7 @@ use Rattle.page.specs.Tables.{width}
 use Rattle.page.specs.Cut.{sections, header_lines}
 use Rattle.page.specs.Head.{header_values, latin_of}
 use Rattle.page.specs.Records.{table_index}
-use Rattle.page.specs.Answers.{refusal, earlier, refuse-if}
+use Rattle.page.specs.Answers.{refusal, earlier, refuse_if}
 use Rattle.page.specs.File.{limit, found, any, header_refusal, section_refusal, file_refusal}
 use Rattle.page.specs.Reading.{outside, section_at, row_at, header_of, find_refusal, section_of, list_refusal, list_of, verdict_of, value_refusal, value_at, value_of}
 use Rattle.page.specs.Handing.{text_out, table_refusal, table_of}
@@ -49,8 +49,8 @@ module _ (s : Bytes) (x : Refusal) (early : OneOf header_numbers x.number) where
   unfolding any
   numbered = other 0 refl
 
-  big_if : (b : Bool) (u : ℕ) → gives header_numbers u ≡ false → Big (refuse-if b u)
-  unfolding refuse-if
+  big_if : (b : Bool) (u : ℕ) → gives header_numbers u ≡ false → Big (refuse_if b u)
+  unfolding refuse_if
   big_if true u l e = other u l (sym (ap (λ (q : Refusal). q.number) e))
   big_if false u l e = numbered (sym (ap (λ (q : Refusal). q.number) e))
 
@@ -126,7 +126,7 @@ module _ (s : Bytes) (x : Refusal) (early : OneOf header_numbers x.number) where
       via (checked_exactly (earlier (list_refusal s room) (file_refusal s)) x numbered)
       (λ e. by ((earlier_exactly (list_refusal s room) (file_refusal s) x numbered).0 e), λ e. (earlier_exactly (list_refusal s room) (file_refusal s) x numbered).1 (inl (begun.1 e)))
     where
-      begun : earlier (header_refusal s) (refuse-if (ltb room (length (sections s))) 21) ≡ x ↔ header_refusal s ≡ x
+      begun : earlier (header_refusal s) (refuse_if (ltb room (length (sections s))) 21) ≡ x ↔ header_refusal s ≡ x
       begun = further_big (header_refusal s) _ itself (big_if (ltb room (length (sections s))) 21 refl)
 
       by : (list_refusal s room ≡ x) ⊎ (((list_refusal s room).number ≡ 0) × (file_refusal s ≡ x)) → header_refusal s ≡ x
@@ -143,7 +143,7 @@ list_verdict s room x g =
     z : ¬ (x.number ≡ 0)
     z = other_number later_numbers x.number 0 g refl
 
-    few : (refuse-if (ltb room (length (sections s))) 21).number ≡ 0 → length (sections s) ≤ room
+    few : (refuse_if (ltb room (length (sections s))) 21).number ≡ 0 → length (sections s) ≤ room
     few e = under (length (sections s)) room ((if_none 21 (some_number 21 (omega arith)) (below room (length (sections s)))).0 e)
       where
         under : (a b : ℕ) → ¬ (b < a) → a ≤ b
@@ -153,7 +153,7 @@ list_verdict s room x g =
             by true h = absurd (n (ltb-true b a h))
             by false h = ltb-false b a h
 
-    enough : length (sections s) ≤ room → (refuse-if (ltb room (length (sections s))) 21).number ≡ 0
+    enough : length (sections s) ≤ room → (refuse_if (ltb room (length (sections s))) 21).number ≡ 0
     enough h = (if_none 21 (some_number 21 (omega arith)) (below room (length (sections s)))).1 (λ (l : room < length (sections s)). omega arith)
 
     opens : file_refusal s ≡ x → (header_refusal s).number ≡ 0
@@ -166,9 +166,9 @@ list_verdict s room x g =
             absurd (told_other header_numbers (inr h) z (apart later_numbers header_numbers x.number refl g) k)
 
     into : (list_refusal s room ≡ x) ⊎ (((list_refusal s room).number ≡ 0) × (file_refusal s ≡ x)) → (length (sections s) ≤ room) × (file_refusal s ≡ x)
-    into (inl e) = absurd (first ((after_header s (refuse-if (ltb room (length (sections s))) 21) x z (apart later_numbers header_numbers x.number refl g)).0 e).1)
+    into (inl e) = absurd (first ((after_header s (refuse_if (ltb room (length (sections s))) 21) x z (apart later_numbers header_numbers x.number refl g)).0 e).1)
       where
-        first : refuse-if (ltb room (length (sections s))) 21 ≡ x → ⊥
+        first : refuse_if (ltb room (length (sections s))) 21 ≡ x → ⊥
         first e = if_number (ltb room (length (sections s))) 21 x.number z (λ (k : 21 ≡ x.number). other_number later_numbers x.number 21 g refl (sym k)) x e refl
     into (inr h) = (few ((none_exactly (header_refusal s) _).0 h.0).1, h.1)
 

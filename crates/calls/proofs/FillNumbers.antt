@@ -16,7 +16,7 @@ use Rattle.page.specs.Cut.{sections}
 use Rattle.page.specs.Head.{latin_of}
 use Rattle.page.specs.Records.{Datum, number, missing, words, table_index}
 use Rattle.page.specs.Model.{model_of, datum_at}
-use Rattle.page.specs.Answers.{refusal, sound, earlier, refuse-if}
+use Rattle.page.specs.Answers.{refusal, sound, earlier, refuse_if}
 use Rattle.page.specs.File.{limit, any, file_refusal}
 use Rattle.page.specs.Reading.{section_at, row_at}
 use Rattle.page.specs.Writing.{put_refusal, put_of, empty_datum, fill_place, fill_refusal, fill_form, fill_of}
@@ -43,8 +43,8 @@ earlier_again a b c = by (eqb a.number 0) refl
     by true h = refl
     by false h = rw h
 
-last_alone : (b : Bool) (v : ℕ) → ¬ (v ≡ 0) → earlier (refuse-if b v) sound ≡ refuse-if b v
-unfolding earlier refuse-if
+last_alone : (b : Bool) (v : ℕ) → ¬ (v ≡ 0) → earlier (refuse_if b v) sound ≡ refuse_if b v
+unfolding earlier refuse_if
 last_alone true v z = rw (ne_eqb v 0 z)
 last_alone false v z = refl
 

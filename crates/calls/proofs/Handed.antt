@@ -23,7 +23,7 @@ use Rattle.page.specs.Places.{Standing, field_span, stands, record_at, this_or}
 use Rattle.page.specs.Model.{Content, content_of, model_of, datum_at}
 use Rattle.page.specs.File.{row_given, row_of}
 use Rattle.page.specs.Form.{doubled}
-use Rattle.page.specs.Answers.{refuse-if, got, written}
+use Rattle.page.specs.Answers.{refuse_if, got, written}
 use Rattle.page.specs.Reading.{no_section, section_at, row_at, later_field, field_at, valued, value_in, record_of, value_refusal, value_at, value_of}
 use Rattle.page.specs.Writing.{put_refusal, put_of}
 use Rattle.page.specs.Handing.{text_refusal, place_of, own_text, text_owner, copied, text_out}
@@ -325,8 +325,8 @@ module _ (s : Bytes) (i r f : ℕ) (g : Given s i r f) where
 
 -- the same of the calls' answers
 
-if_text : (b : Bool) → (refuse-if (not b) 11).number ≡ 0 → b ≡ true
-unfolding refuse-if
+if_text : (b : Bool) → (refuse_if (not b) 11).number ≡ 0 → b ≡ true
+unfolding refuse_if
 if_text true e = refl
 if_text false e = absurd (let z : ⊥ = omega arith in z)
 

@@ -9,7 +9,7 @@ use lib.Dec.{eqb, ltb}
 use lib.ListN.{length, drop, length-append, length-drop}
 use borrow.Author.Tests.{lt-ltb, ltb-false, eqb-true}
 use Rattle.page.specs.Bytes.{Bytes, pick, unpadded}
-use Rattle.page.specs.Answers.{refusal, earlier, refuse-if, checked, headed, listed, got, written}
+use Rattle.page.specs.Answers.{refusal, earlier, refuse_if, checked, headed, listed, got, written}
 use Rattle.page.specs.File.{limit, too_long, header_refusal, file_refusal, check_of}
 use Rattle.page.specs.Reading.{header_of, find_refusal, section_of, list_refusal, list_of, rows_after, value_refusal, value_of}
 use Rattle.page.specs.Writing.{put_refusal, put_of, put_after, write_form, write_of, write_after, strip_form, strip_of, strip_after, fill_refusal, fill_form, fill_of, fill_after}
@@ -96,11 +96,11 @@ pub record Done (r : Refusal) (form out : Bytes) (n : ℕ) : Type 0 where
   pub as_long : length (put_after r form out) ≡ length out
 
 pub done_put : (r : Refusal) (form out : Bytes) (n : ℕ) → put_of r form (length out) ≡ W.Length n → Done r form out n
-unfolding put_of put_after put_refusal written earlier refuse-if
+unfolding put_of put_after put_refusal written earlier refuse_if
 done_put r form out n e = by (eqb r.number 0) (ltb (length out) (length form) || ltb limit (length form)) refl refl e
   where
     by : (a b : Bool) → eqb r.number 0 ≡ a → (ltb (length out) (length form) || ltb limit (length form)) ≡ b →
-        written (pick a (refuse-if b 21) r) (length form) ≡ W.Length n → Done r form out n
+        written (pick a (refuse_if b 21) r) (length form) ≡ W.Length n → Done r form out n
     by true true h k e = absurd (false≢true (cc))
     by true false h k e =
         let z = neither (ltb (length out) (length form)) (ltb limit (length form)) k in
@@ -127,7 +127,7 @@ module _ (s : Bytes) (long : limit < length s) where
   over = lt-ltb limit (length s) long
 
   long_header : header_refusal s ≡ refusal 1 0 0
-  unfolding header_refusal earlier refuse-if
+  unfolding header_refusal earlier refuse_if
   long_header = rw over
 
   long_file : file_refusal s ≡ refusal 1 0 0

@@ -14,7 +14,7 @@ use Rattle.page.specs.Cut.{sections}
 use Rattle.page.specs.Head.{latin_of}
 use Rattle.page.specs.Section.{outcome}
 use Rattle.page.specs.Records.{table_index}
-use Rattle.page.specs.Answers.{refusal, earlier, refuse-if, written, paper-written, handed, paper-handed}
+use Rattle.page.specs.Answers.{refusal, earlier, refuse_if, written, paper_written, handed, paper_handed}
 use Rattle.page.specs.File.{limit, row_given, row_of, header_refusal, any}
 use Rattle.page.specs.Reading.{outside, section_at, row_at, find_refusal, verdict_of, value_refusal}
 use Rattle.page.specs.Writing.{put_refusal, put_of}
@@ -74,11 +74,11 @@ pub record TableDone (s : Bytes) (i : ℕ) (cells : List ℕ) (n : ℕ) : Type 0
   pub as_long : length (cells_after s i cells) ≡ length cells
 
 pub table_done : (s : Bytes) (i : ℕ) (cells : List ℕ) (n : ℕ) → table_of s i (length cells) ≡ W.Length n → TableDone s i cells n
-unfolding table_of cells_after cells_refusal written earlier refuse-if
+unfolding table_of cells_after cells_refusal written earlier refuse_if
 table_done s i cells n e = by (eqb (table_refusal s i).number 0) (ltb (length cells) (length (cells_of (section_at s i)))) refl refl e
   where
     by : (a b : Bool) → eqb (table_refusal s i).number 0 ≡ a → ltb (length cells) (length (cells_of (section_at s i))) ≡ b →
-        written (pick a (refuse-if b 21) (table_refusal s i)) (length (cells_of (section_at s i))) ≡ W.Length n → TableDone s i cells n
+        written (pick a (refuse_if b 21) (table_refusal s i)) (length (cells_of (section_at s i))) ≡ W.Length n → TableDone s i cells n
     by true true h k e = absurd (false≢true (cc))
     by true false h k e =
         let f : length (cells_of (section_at s i)) ≤ length cells = ltb-false (length cells) (length (cells_of (section_at s i))) k in
@@ -140,20 +140,20 @@ text_never s i j f =
     (if_never (not (column_at (table_index (section_at s i).lines) (f - 1)).text) 11 (λ (z : 11 ≡ 21). omega arith))
 
 -- 21: nothing else refuses, and the text is longer than the room (or than a file may be)
-pub text_room : (s : Bytes) (i j f room : ℕ) → (paper-handed (text_out s i j f room)).number ≡ 21 ↔ (((text_refusal s i j f).number ≡ 0) × TooLong (own_text s i j f) room)
+pub text_room : (s : Bytes) (i j f room : ℕ) → (paper_handed (text_out s i j f room)).number ≡ 21 ↔ (((text_refusal s i j f).number ≡ 0) × TooLong (own_text s i j f) room)
 text_room s i j f room = rw (handed_number (text_out s i j f room), text_put s i j f room) (room_exactly (text_refusal s i j f) (text_never s i j f) (own_text s i j f) room)
 
-table_number : (s : Bytes) (i room : ℕ) → (paper-written (table_of s i room)).number ≡ pick (eqb (table_refusal s i).number 0) (pick (ltb room (length (cells_of (section_at s i)))) 21 0) (table_refusal s i).number
-unfolding table_of cells_refusal earlier refuse-if
+table_number : (s : Bytes) (i room : ℕ) → (paper_written (table_of s i room)).number ≡ pick (eqb (table_refusal s i).number 0) (pick (ltb room (length (cells_of (section_at s i)))) 21 0) (table_refusal s i).number
+unfolding table_of cells_refusal earlier refuse_if
 table_number s i room = answer_number (cells_refusal s i room) (length (cells_of (section_at s i))) ∙ by (eqb (table_refusal s i).number 0) (ltb room (length (cells_of (section_at s i))))
   where
-    by : (a b : Bool) → (pick a (refuse-if b 21) (table_refusal s i)).number ≡ pick a (pick b 21 0) (table_refusal s i).number
+    by : (a b : Bool) → (pick a (refuse_if b 21) (table_refusal s i)).number ≡ pick a (pick b 21 0) (table_refusal s i).number
     by true true = refl
     by true false = refl
     by false b = refl
 
 -- 21: nothing else refuses, and the values are more than the room
-pub table_room : (s : Bytes) (i room : ℕ) → (paper-written (table_of s i room)).number ≡ 21 ↔ (((table_refusal s i).number ≡ 0) × (room < length (cells_of (section_at s i))))
+pub table_room : (s : Bytes) (i room : ℕ) → (paper_written (table_of s i room)).number ≡ 21 ↔ (((table_refusal s i).number ≡ 0) × (room < length (cells_of (section_at s i))))
 table_room s i room = (λ e. into (eqb (table_refusal s i).number 0) refl (ltb room (length (cells_of (section_at s i)))) refl (sym (table_number s i room) ∙ e), back)
   where
     into : (a : Bool) → eqb (table_refusal s i).number 0 ≡ a → (b : Bool) → ltb room (length (cells_of (section_at s i))) ≡ b →
@@ -163,5 +163,5 @@ table_room s i room = (λ e. into (eqb (table_refusal s i).number 0) refl (ltb r
     into true x false y e = let z : ◌≡◌ {A = ℕ} 0 21 = rw (x, y) at e in absurd (let w : ⊥ = omega arith in w)
     into false x b y e = let z : (table_refusal s i).number ≡ 21 = rw x at e in absurd (table_never s i z)
 
-    back : ((table_refusal s i).number ≡ 0) × (room < length (cells_of (section_at s i))) → (paper-written (table_of s i room)).number ≡ 21
+    back : ((table_refusal s i).number ≡ 0) × (room < length (cells_of (section_at s i))) → (paper_written (table_of s i room)).number ≡ 21
     back h = table_number s i room ∙ rw (h.0, lt-ltb room (length (cells_of (section_at s i))) h.1)

@@ -14,7 +14,7 @@ use Rattle.page.specs.Header.{head_of}
 use Rattle.page.specs.Head.{latin_of}
 use Rattle.page.specs.Section.{outcome}
 use Rattle.page.specs.Trailer.{eof_ok, all_blank, trailer_finding, trailer_of}
-use Rattle.page.specs.Answers.{refusal, earlier, refuse-if, checked, paper-checked}
+use Rattle.page.specs.Answers.{refusal, earlier, refuse_if, checked, paper_checked}
 use Rattle.page.specs.File.{too_long, found, header_refusal, row_given, row_of, rows_of, first_unsound, any, first_again, by_primary, by_second, Filed, repeats, lost, first_record, filed_of, record_refusal, section_refusal, file_refusal}
 use Rattle.page.specs.Reading.{list_refusal, list_of, rows_after}
 use Rattle.page.specs.Refusals.{section_numbers, header_numbers, later_numbers, file_numbers, OneOf, SoundOr}
@@ -94,11 +94,11 @@ file_ranged s h =
 
 -- the header gives 0, 1 or 2
 pub header_told : (s : Bytes) → SoundOr header_numbers (header_refusal s).number
-unfolding header_refusal earlier refuse-if any
+unfolding header_refusal earlier refuse_if any
 header_told s = by (too_long s) (header_settled (header_lines s))
   where
     by : (b : Bool) → (head_of (header_lines s) ≡ record { verdict = 0; line = 0 }) ⊎ ((n : ℕ) × (head_of (header_lines s) ≡ record { verdict = 2; line = n })) →
-        SoundOr header_numbers (earlier (refuse-if b 1) (found (head_of (header_lines s)))).number
+        SoundOr header_numbers (earlier (refuse_if b 1) (found (head_of (header_lines s)))).number
     by true h = inr refl
     by false (inl e) = inl (ap (λ (f : Finding). f.verdict) e)
     by false (inr e) = inr (rw e.1)
@@ -126,29 +126,29 @@ abbrev pub NoRows : ℕ → Type 0
 NoRows n = OneOf row_less n
 
 list_told : (s : Bytes) (room : ℕ) → SoundOr row_less (list_refusal s room).number
-unfolding list_refusal refuse-if any
-list_told s room = earlier_ranged row_less (header_refusal s) (refuse-if (ltb room (length (sections s))) 21) (first (header_told s)) (second (ltb room (length (sections s))))
+unfolding list_refusal refuse_if any
+list_told s room = earlier_ranged row_less (header_refusal s) (refuse_if (ltb room (length (sections s))) 21) (first (header_told s)) (second (ltb room (length (sections s))))
   where
     first : SoundOr header_numbers (header_refusal s).number → SoundOr row_less (header_refusal s).number
     first (inl e) = inl e
     first (inr g) = inr (within [] header_numbers (21 ∷ []) (header_refusal s).number g)
 
-    second : (b : Bool) → SoundOr row_less (refuse-if b 21).number
+    second : (b : Bool) → SoundOr row_less (refuse_if b 21).number
     second true = inr refl
     second false = inl refl
 
 -- the paper's number of the answer
-answer_number : (r : Refusal) → (paper-checked (checked r)).number ≡ r.number
-unfolding paper-checked checked
+answer_number : (r : Refusal) → (paper_checked (checked r)).number ≡ r.number
+unfolding paper_checked checked
 answer_number r = by (eqb r.number 0) refl
   where
-    by : (b : Bool) → eqb r.number 0 ≡ b → (paper-checked (checked r)).number ≡ r.number
+    by : (b : Bool) → eqb r.number 0 ≡ b → (paper_checked (checked r)).number ≡ r.number
     by true e = rw e (sym (eqb-true r.number 0 e))
     by false e = rw e
 
 module _ (s : Bytes) (rows : List Row) where
   abbrev the_answer : ℕ
-  the_answer = (paper-checked (list_of s (length rows))).number
+  the_answer = (paper_checked (list_of s (length rows))).number
 
   number_is : the_answer ≡ (earlier (list_refusal s (length rows)) (file_refusal s)).number
   unfolding list_of
@@ -165,7 +165,7 @@ module _ (s : Bytes) (rows : List Row) where
   open_ranged : (list_refusal s (length rows)).number ≡ 0 → SoundOr later_numbers the_answer
   unfolding list_refusal
   open_ranged e =
-      let h = earlier_none (header_refusal s) (refuse-if (ltb (length rows) (length (sections s))) 21) e in
+      let h = earlier_none (header_refusal s) (refuse_if (ltb (length rows) (length (sections s))) 21) e in
       rw (open_is e) (file_ranged s h.0)
 
   not_zero : (n : ℕ) → NoRows n → ¬ (n ≡ 0)

@@ -8,7 +8,7 @@ use native.Mathlib.Omega.{arith}
 use lib.Dec.{eqb, ltb}
 use borrow.Author.Tests.{eqb-true, eqb-false, ne_eqb, ltb-true, ltb-false}
 use Rattle.page.specs.Bytes.{pick}
-use Rattle.page.specs.Answers.{refusal, earlier, refuse-if}
+use Rattle.page.specs.Answers.{refusal, earlier, refuse_if}
 use Rattle.page.specs.File.{any}
 use Rattle.page.specs.Reading.{outside}
 use Rattle.page.specs.Rules.{Every, none_left, one_more}
@@ -35,16 +35,16 @@ earlier_exactly a b x z = (into (eqb a.number 0) refl, back)
     back (inr e) = rw e.0 e.1
 
 turn_into : (v : ℕ) → ¬ (v ≡ 0) → {qs : List Question} → Numbered qs → first_refusal qs ≡ refusal v 0 0 → Turn v qs
-unfolding first_refusal refuse-if earlier
+unfolding first_refusal refuse_if earlier
 turn_into v z none_left e = absurd (z (sym (ap (λ (r : Refusal). r.number) e)))
 turn_into v z (one_more {x = q} {xs = qs} m n) e = by q.refuses q.number m e (turn_into v z n)
   where
-    by : (b : Bool) (w : ℕ) → ¬ (w ≡ 0) → earlier (refuse-if b w) (first_refusal qs) ≡ refusal v 0 0 → (first_refusal qs ≡ refusal v 0 0 → Turn v qs) → Turn v (ask b w ∷ qs)
+    by : (b : Bool) (w : ℕ) → ¬ (w ≡ 0) → earlier (refuse_if b w) (first_refusal qs) ≡ refusal v 0 0 → (first_refusal qs ≡ refusal v 0 0 → Turn v qs) → Turn v (ask b w ∷ qs)
     by true w m e further = let k : w ≡ v = ap (λ (r : Refusal). r.number) (rw (ne_eqb w 0 m) at e) in rw k now
     by false w m e further = next (further e)
 
 turn_back : (v : ℕ) → ¬ (v ≡ 0) → {qs : List Question} → Turn v qs → first_refusal qs ≡ refusal v 0 0
-unfolding first_refusal refuse-if earlier
+unfolding first_refusal refuse_if earlier
 turn_back v z now = rw (ne_eqb v 0 z)
 turn_back v z (next t) = turn_back v z t
 

@@ -9,7 +9,7 @@ use Rattle.page.specs.Model.{model_of, datum_at}
 use Rattle.page.specs.File.{limit}
 use Rattle.page.specs.Reading.{section_at}
 use Rattle.page.specs.Writing.{empty_datum, fill_place, fill_form}
-use Rattle.page.specs.Answers.{sound, earlier, refuse-if}
+use Rattle.page.specs.Answers.{sound, earlier, refuse_if}
 use Rattle.page.specs.declared.Refusal.{Refusal}
 
 -- a question: whether it refuses, and with which number
@@ -23,7 +23,7 @@ ask b v = record { refuses = b; number = v }
 -- asked one after another
 unfoldable pub first_refusal : List Question → Refusal
 first_refusal [] = sound
-first_refusal (q ∷ qs) = earlier (refuse-if q.refuses q.number) (first_refusal qs)
+first_refusal (q ∷ qs) = earlier (refuse_if q.refuses q.number) (first_refusal qs)
 
 -- number v's turn: a question of that number refuses, and none before it does
 pub data Turn (v : ℕ) : List Question → Type 0 where

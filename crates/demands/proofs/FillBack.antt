@@ -14,7 +14,7 @@ use Rattle.page.specs.Cut.{sections}
 use Rattle.page.specs.Head.{head_values, latin_of}
 use Rattle.page.specs.Records.{Datum, words, Record, table_index}
 use Rattle.page.specs.Model.{Content, Model, content_of, model_of, change, fill_record, fill_content, fill_model, changed, kept, datum_at}
-use Rattle.page.specs.Answers.{sound, refuse-if}
+use Rattle.page.specs.Answers.{sound, refuse_if}
 use Rattle.page.specs.File.{limit, row_given, row_of, file_refusal}
 use Rattle.page.specs.Reading.{no_section, outside, section_at, row_at}
 use Rattle.page.specs.Form.{form_of}
@@ -37,8 +37,8 @@ use Rattle.page.proofs.TestLaws.{and_left, and_right, neither}
 use Rattle.laws.proofs.Earlier.{earlier_none}
 
 -- what a refusal that does not refuse says
-open_if : (b : Bool) (v : ℕ) → ¬ (v ≡ 0) → (refuse-if b v).number ≡ 0 → b ≡ false
-unfolding refuse-if
+open_if : (b : Bool) (v : ℕ) → ¬ (v ≡ 0) → (refuse_if b v).number ≡ 0 → b ≡ false
+unfolding refuse_if
 open_if true v n h = absurd (n h)
 open_if false v n h = refl
 
@@ -164,11 +164,11 @@ module _ (s : Bytes) (i r f : ℕ) (sent : Bytes) (h : (fill_refusal s i r f (un
   unfolding fill_refusal
   all_open =
       let a = earlier_none (file_refusal s) _ h in
-      let b = earlier_none (refuse-if (fill_place s i r f) 24) _ a.1 in
-      let c = earlier_none (refuse-if (not (column_at the_table (f - 1)).fillable) 23) _ b.1 in
-      let d = earlier_none (refuse-if (not (empty_datum (datum_at i r f (model_of s)))) 22) _ c.1 in
-      let e = earlier_none (refuse-if (eqb (length t) 0) 11) _ d.1 in
-      let g = earlier_none (refuse-if (not (all (allowed (latin_of s)) t)) 4) (refuse-if (ltb 40 (length t)) 13) e.1 in
+      let b = earlier_none (refuse_if (fill_place s i r f) 24) _ a.1 in
+      let c = earlier_none (refuse_if (not (column_at the_table (f - 1)).fillable) 23) _ b.1 in
+      let d = earlier_none (refuse_if (not (empty_datum (datum_at i r f (model_of s)))) 22) _ c.1 in
+      let e = earlier_none (refuse_if (eqb (length t) 0) 11) _ d.1 in
+      let g = earlier_none (refuse_if (not (all (allowed (latin_of s)) t)) 4) (refuse_if (ltb 40 (length t)) 13) e.1 in
       record {
         file = a.0;
         place = open_if (fill_place s i r f) 24 (λ (z : 24 ≡ 0). omega arith) b.0;

@@ -15,7 +15,7 @@ use Rattle.page.specs.Cut.{sections}
 use Rattle.page.specs.Head.{latin_of}
 use Rattle.page.specs.Records.{Datum, table_index}
 use Rattle.page.specs.Model.{model_of, datum_at}
-use Rattle.page.specs.Answers.{refusal, earlier, refuse-if}
+use Rattle.page.specs.Answers.{refusal, earlier, refuse_if}
 use Rattle.page.specs.File.{header_refusal, row_given, row_of, file_refusal}
 use Rattle.page.specs.Form.{doubled}
 use Rattle.page.specs.Reading.{no_section, outside, section_at, row_at, find_refusal, verdict_of, value_refusal, value_at}
@@ -77,8 +77,8 @@ past a b e = rw e
 
 -- the questions after the place's, one after another
 asked : (c e n a l : Bool) → refusal (pick c (pick e (pick n 11 (pick a (pick l 13 0) 4)) 22) 23) 0 0
-    ≡ earlier (refuse-if (not c) 23) (earlier (refuse-if (not e) 22) (earlier (refuse-if n 11) (earlier (refuse-if (not a) 4) (refuse-if l 13))))
-unfolding earlier refuse-if
+    ≡ earlier (refuse_if (not c) 23) (earlier (refuse_if (not e) 22) (earlier (refuse_if n 11) (earlier (refuse_if (not a) 4) (refuse_if l 13))))
+unfolding earlier refuse_if
 asked false e n a l = refl
 asked true false n a l = refl
 asked true true true a l = refl
@@ -97,7 +97,7 @@ module _ (s : Bytes) (i r f : ℕ) (t : Bytes) where
     unfolding file_refusal
     opens = (earlier_none (header_refusal s) _ h).0
 
-    find_is : find_refusal s i ≡ refuse-if (outside i (length (sections s))) 24
+    find_is : find_refusal s i ≡ refuse_if (outside i (length (sections s))) 24
     unfolding find_refusal earlier
     find_is = rw opens
 
@@ -108,16 +108,16 @@ module _ (s : Bytes) (i r f : ℕ) (t : Bytes) where
         (every_at no_section (sections s) (i - 1) (accepted_sections s h) (omega arith)).verdict
 
     -- 24, of the section, the record or the field
-    place_is : value_refusal s i r f ≡ refuse-if (fill_place s i r f) 24
-    unfolding value_refusal fill_place verdict_of earlier refuse-if
+    place_is : value_refusal s i r f ≡ refuse_if (fill_place s i r f) 24
+    unfolding value_refusal fill_place verdict_of earlier refuse_if
     place_is = by (outside i (length (sections s))) refl
       where
-        by : (b : Bool) → outside i (length (sections s)) ≡ b → value_refusal s i r f ≡ refuse-if (fill_place s i r f) 24
+        by : (b : Bool) → outside i (length (sections s)) ≡ b → value_refusal s i r f ≡ refuse_if (fill_place s i r f) 24
         by true e = rw (find_is, e)
         by false e = rw (find_is, e, row_sound e)
 
     pub fill_nowhere : (x : Refusal) → x ≡ value_refusal s i r f → (x.number ≡ 0 → ⊥) → x ≡ fill_refusal s i r f t
-    unfolding fill_refusal earlier refuse-if
+    unfolding fill_refusal earlier refuse_if
     fill_nowhere x e n = by (fill_place s i r f) refl
       where
         by : (b : Bool) → fill_place s i r f ≡ b → x ≡ fill_refusal s i r f t
@@ -130,6 +130,6 @@ module _ (s : Bytes) (i r f : ℕ) (t : Bytes) where
     fill_there found v e k q =
         let c = (column_at (table_index (section_at s i).lines) (f - 1)).fillable in
         let d = empty_datum (datum_at i r f (model_of s)) in
-        let p : (refuse-if (fill_place s i r f) 24).number ≡ 0 = sym (ap (λ (y : Refusal). y.number) place_is) ∙ found in
+        let p : (refuse_if (fill_place s i r f) 24).number ≡ 0 = sym (ap (λ (y : Refusal). y.number) place_is) ∙ found in
         rw (q, empty_is s i r f found v e)
-        (asked c d (eqb (length t) 0) (all (allowed (latin_of s)) t) (ltb 40 (length t)) ∙ (past (refuse-if (fill_place s i r f) 24) _ p ∙ past (file_refusal s) _ h))
+        (asked c d (eqb (length t) 0) (all (allowed (latin_of s)) t) (ltb 40 (length t)) ∙ (past (refuse_if (fill_place s i r f) 24) _ p ∙ past (file_refusal s) _ h))

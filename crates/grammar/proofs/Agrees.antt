@@ -13,7 +13,7 @@ use lib.Dec.{eqb, leb}
 use lib.ListN.{length}
 use Rattle.page.specs.Bytes.{Bytes, bytes, pick}
 use Rattle.page.specs.Lines.{content, blank, command, rest, clean, Tbl, Atr, Frm, Rec, End, Com}
-use Rattle.page.specs.Fields.{fields, number_of}
+use Rattle.page.specs.Fields.{number_of}
 use Rattle.page.specs.Dates.{real_day}
 use Rattle.page.specs.Tables.{Named, Rule, rule_number, table_at, rules, width}
 use Rattle.page.specs.Order.{Order, order_of, arranged, standing, by_column}

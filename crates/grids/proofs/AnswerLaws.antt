@@ -14,7 +14,7 @@ use Rattle.page.specs.Fields.{fields}
 use Rattle.page.specs.Tables.{WIDEST, width}
 use Rattle.page.specs.Records.{table_index, atr_in}
 use Rattle.page.specs.Rules.{times}
-use Rattle.page.specs.Answers.{refusal, sound, earlier, refuse-if, written}
+use Rattle.page.specs.Answers.{refusal, sound, earlier, refuse_if, written}
 use Rattle.page.specs.File.{limit, row_given, row_of}
 use Rattle.page.specs.Head.{latin_of}
 use Rattle.page.specs.Reading.{section_at, row_at, find_refusal, verdict_of}
@@ -86,7 +86,7 @@ module _ (s : Bytes) (i at : ℕ) (b : Begins s i at) (x : Row) (q : x ≡ row_f
     verdict_from : (row_from s at).verdict ≡ 0
     verdict_from = rw q at v
 
-    pub table_sound : (room : ℕ) → cells_refusal s i room ≡ refuse-if (ltb room (length (cells_of (section_at s i)))) 21
+    pub table_sound : (room : ℕ) → cells_refusal s i room ≡ refuse_if (ltb room (length (cells_of (section_at s i)))) 21
     unfolding cells_refusal table_refusal verdict_of earlier
     table_sound room = rw (b.found, row_here, v)
 

@@ -17,7 +17,7 @@ use Rattle.page.specs.Head.{latin_of}
 use Rattle.page.specs.Section.{Wording, words_of, record_text, field_of, field_number, rec_verdict, outcome}
 use Rattle.page.specs.Records.{table_index, order_in}
 use Rattle.page.specs.Places.{Standing, field_span}
-use Rattle.page.specs.Answers.{refusal, earlier, refuse-if, got, handed}
+use Rattle.page.specs.Answers.{refusal, earlier, refuse_if, got, handed}
 use Rattle.page.specs.Writing.{put_refusal, put_after}
 use Rattle.page.specs.File.{limit, header_refusal, row_given, row_of}
 use Rattle.page.specs.Reading.{no_section, outside, section_at, row_at, find_refusal, verdict_of, value_refusal, later_field, field_at, valued, value_in, record_of, value_at}
@@ -69,8 +69,8 @@ got_refused r x v e = by (eqb r.number 0) refl e
     by true q e = absurd (let z : ◌≡◌ {A = ℕ} 0 1 = cc in omega arith)
     by false q e = let y : x ≡ r = cc in (rw y (eqb-false r.number 0 q), y)
 
-refuse_none : (a : Bool) (v : ℕ) → (v ≡ 0 → ⊥) → (refuse-if a v).number ≡ 0 → a ≡ false
-unfolding refuse-if
+refuse_none : (a : Bool) (v : ℕ) → (v ≡ 0 → ⊥) → (refuse_if a v).number ≡ 0 → a ≡ false
+unfolding refuse_if
 refuse_none true v n e = absurd (n e)
 refuse_none false v n e = refl
 
@@ -99,7 +99,7 @@ pub record Sound (s : Bytes) (i : ℕ) : Type 0 where
 pub sound_of : (s : Bytes) (i : ℕ) → (find_refusal s i).number ≡ 0 → (row_at s i).verdict ≡ 0 → Sound s i
 unfolding find_refusal section_at row_at row_of row_given
 sound_of s i f v =
-    let a = earlier_none (header_refusal s) (refuse-if (outside i (length (sections s))) 24) f in
+    let a = earlier_none (header_refusal s) (refuse_if (outside i (length (sections s))) 24) f in
     let o = inside i (length (sections s)) (refuse_none (outside i (length (sections s))) 24 (λ (e : ◌≡◌ {A = ℕ} 24 0). omega arith) a.1) in
     let k : i - 1 < length (sections s) = omega arith in
     record {
@@ -160,8 +160,8 @@ unfolding value_refusal row_at row_of row_given record_of
 there_of s i r f e =
     let t = table_index (section_at s i).lines in
     let n = (row_at s i).records in
-    let a = earlier_none (find_refusal s i) (earlier (verdict_of i (row_at s i)) (refuse-if (outside r n || outside f (width t)) 24)) e in
-    let b = earlier_none (verdict_of i (row_at s i)) (refuse-if (outside r n || outside f (width t)) 24) a.1 in
+    let a = earlier_none (find_refusal s i) (earlier (verdict_of i (row_at s i)) (refuse_if (outside r n || outside f (width t)) 24)) e in
+    let b = earlier_none (verdict_of i (row_at s i)) (refuse_if (outside r n || outside f (width t)) 24) a.1 in
     let o = neither (outside r n) (outside f (width t)) (refuse_none (outside r n || outside f (width t)) 24 (λ (z : ◌≡◌ {A = ℕ} 24 0). omega arith) b.1) in
     let j = inside r n o.0 in
     let k = inside f (width t) o.1 in
@@ -201,7 +201,7 @@ module _ (s : Bytes) (i r f : ℕ) (found : (value_refusal s i r f).number ≡ 0
   unfolding place_of
   field_right h = passed_right t (order_in (section_at s i).lines) st.mark (fields st.rest) h.ordered h.passed (f - 1) h.field
 
-  refusal_is : text_refusal s i r f ≡ refuse-if (not c.text) 11
+  refusal_is : text_refusal s i r f ≡ refuse_if (not c.text) 11
   unfolding text_refusal earlier
   refusal_is = rw found
 
@@ -213,14 +213,14 @@ module _ (s : Bytes) (i r f : ℕ) (found : (value_refusal s i r f).number ≡ 0
 
   gave_none : c.text ≡ false → (l m : Bytes) (w : Handed) → w ≡ Ha.Refused (refusal 11 0 0) → m ≡ l
       → (w ≡ text_out s i r f (length l)) × (m ≡ text_after s i r f l)
-  unfolding text_out text_after refuse-if
+  unfolding text_out text_after refuse_if
   gave_none q l m w e n =
       let y = refused_text (text_owner s i r f) (refusal 11 0 0) (own_text s i r f) l (λ (e : ◌≡◌ {A = ℕ} 11 0). omega arith) in
       (rw (refusal_is, q) (e ∙ y.0), rw (refusal_is, q) (n ∙ y.1))
 
   gave_by : There s i r f → {g : Field} → Read c (get_or (fields st.rest) p []) g → field_number g ≡ 0 → (l m : Bytes) (w : Handed)
       → Gave s (handed_as g) l m w → (w ≡ text_out s i r f (length l)) × (m ≡ text_after s i r f l)
-  unfolding text_out text_after own_text record_text refuse-if field_number
+  unfolding text_out text_after own_text record_text refuse_if field_number
   gave_by h (a_text y q e) z l m w x =
       let u : own_text s i r f ≡ y.own = rw e in
       let v = words_own s st p y h.lain h.short (has_field h) e in

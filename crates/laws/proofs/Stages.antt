@@ -8,7 +8,7 @@ use Rattle.page.specs.Bytes.{Bytes}
 use Rattle.page.specs.Cut.{header_lines}
 use Rattle.page.specs.Header.{head_of}
 use Rattle.page.specs.Trailer.{trailer_of}
-use Rattle.page.specs.Answers.{refusal, sound, earlier, refuse-if}
+use Rattle.page.specs.Answers.{refusal, sound, earlier, refuse_if}
 use Rattle.page.specs.File.{limit, too_long, header_refusal, rows_of, first_unsound, first_again, by_primary, by_second, repeats, lost, first_record, filed_of, record_refusal, section_refusal, file_refusal}
 use Rattle.page.specs.declared.Finding.{Finding}
 use Rattle.page.specs.declared.Refusal.{Refusal}
@@ -18,22 +18,22 @@ finding v n = record { verdict = v; line = n }
 
 module _ (s : Bytes) where
   pub long_gives : limit < length s → file_refusal s ≡ refusal 1 0 0
-  unfolding file_refusal header_refusal too_long earlier refuse-if
+  unfolding file_refusal header_refusal too_long earlier refuse_if
   long_gives h = rw (lt-ltb limit (length s) h)
 
   module _ (short : length s ≤ limit) where
     pub header_gives : (n : ℕ) → head_of (header_lines s) ≡ finding 2 n → file_refusal s ≡ refusal 2 0 n
-    unfolding file_refusal header_refusal too_long earlier refuse-if
+    unfolding file_refusal header_refusal too_long earlier refuse_if
     header_gives n e = rw (le-ltb limit (length s) short, e)
 
     module _ (head : head_of (header_lines s) ≡ finding 0 0) where
       pub trailer_gives : (n : ℕ) → trailer_of s ≡ finding 3 n → file_refusal s ≡ refusal 3 0 n
-      unfolding file_refusal header_refusal too_long earlier refuse-if
+      unfolding file_refusal header_refusal too_long earlier refuse_if
       trailer_gives n e = rw (le-ltb limit (length s) short, head, e)
 
       module _ (trail : trailer_of s ≡ finding 0 0) where
         rest_gives : file_refusal s ≡ section_refusal s
-        unfolding file_refusal header_refusal too_long earlier refuse-if
+        unfolding file_refusal header_refusal too_long earlier refuse_if
         rest_gives = rw (le-ltb limit (length s) short, head, trail)
 
         pub unsound_gives : (v i n : ℕ) → ¬ (v ≡ 0) → first_unsound 1 (rows_of s) ≡ refusal v i n → file_refusal s ≡ refusal v i n

@@ -16,7 +16,7 @@ use Rattle.page.specs.Tables.{WIDEST, width}
 use Rattle.page.specs.Section.{outcome}
 use Rattle.page.specs.Records.{table_index, atr_in, order_in}
 use Rattle.page.specs.Places.{record_at}
-use Rattle.page.specs.Answers.{earlier, refuse-if, got, refusal}
+use Rattle.page.specs.Answers.{earlier, refuse_if, got, refusal}
 use Rattle.page.specs.File.{row_given, row_of}
 use Rattle.page.specs.Head.{latin_of}
 use Rattle.page.specs.Reading.{outside, row_at, find_refusal, verdict_of, value_refusal, value_at, record_of, value_in, value_of}
@@ -94,19 +94,19 @@ module _ (s : Bytes) (i at r f : ℕ) (x : Row) (q : x ≡ row_from s at) where
   value_unsound n = simp (sym q, ne_eqb x.verdict 0 n)
 
   module _ (z : x.verdict ≡ 0) where
-    value_sound : refusal_from s i at r f ≡ refuse-if (outside r x.records || outside f (width (table_index (section_from s at).lines))) 24
+    value_sound : refusal_from s i at r f ≡ refuse_if (outside r x.records || outside f (width (table_index (section_from s at).lines))) 24
     unfolding refusal_from verdict_of earlier
     value_sound = rw (sym q, z)
 
     pub value_outside : (y : Refusal) → y ≡ refusal 24 0 0 → (outside r x.records || outside f (width (table_index (section_from s at).lines))) ≡ true
         → G.Refused y ≡ value_from s i at r f
-    unfolding value_from refuse-if got
+    unfolding value_from refuse_if got
     value_outside y e b = rw (e, value_sound, b)
 
     pub value_inside : (v : Value) → outside r x.records ≡ false → outside f (width (table_index (section_from s at).lines)) ≡ false
         → v ≡ value_in (table_index (section_from s at).lines) (order_in (section_from s at).lines) (record_at (r - 1) 0 at (section_from s at).lines) f
         → G.Is v ≡ value_from s i at r f
-    unfolding value_from refuse-if got value_at record_of section_from
+    unfolding value_from refuse_if got value_at record_of section_from
     value_inside v a b e = rw (e, value_sound, a, b)
 
 -- a number that stands among n

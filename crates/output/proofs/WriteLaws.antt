@@ -9,7 +9,7 @@ use borrow.Author.Tests.{eq-eqb, ne_eqb, ltb-false}
 use lib.Dec.{eqb, ltb}
 use lib.ListN.{length, drop}
 use Rattle.page.specs.Bytes.{Bytes, pick}
-use Rattle.page.specs.Answers.{earlier, refuse-if, written}
+use Rattle.page.specs.Answers.{earlier, refuse_if, written}
 use Rattle.page.specs.File.{limit}
 use Rattle.page.specs.Writing.{put_refusal, put_of, put_after}
 use Rattle.page.specs.declared.Refusal.{Refusal}
@@ -43,14 +43,14 @@ unfolding put_refusal earlier
 refused r form l h = stands r r form l (rw (ne_eqb r.number 0 h)) h
 
 -- what is not refused has room
-has_room : (a b : Bool) → (refuse-if (a || b) 21).number ≡ 0 → a ≡ false
-unfolding refuse-if
+has_room : (a b : Bool) → (refuse_if (a || b) 21).number ≡ 0 → a ≡ false
+unfolding refuse_if
 has_room true b e = absurd (omega arith)
 has_room false b e = refl
 
 -- Measured over no room, with l behind it, the form needs n; q says whether there is room.
 module _ (r q : Refusal) (form l : Bytes) {e : Bytes} {n : ℕ} (none : r.number ≡ 0) (measured : Put [] 0 form e n)
-    (room : q ≡ refuse-if (ltb (length (e ++ l)) n || ltb limit n) 21) where
+    (room : q ≡ refuse_if (ltb (length (e ++ l)) n || ltb limit n) 21) where
   in_the_end : put_refusal r form (length l) ≡ q
   unfolding put_refusal earlier
   in_the_end =

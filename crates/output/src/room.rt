@@ -1,13 +1,13 @@
 // Room for a form in lent output.
 ghost use Rattle.std.specs.Prelude.{◌≡◌, ◌||◌, ltb};
-ghost use Rattle.page.specs.Answers.{refuse-if};
+ghost use Rattle.page.specs.Answers.{refuse_if};
 ghost use Rattle.page.specs.File.{limit};
 
 use page::Refusal;
 
 // "21 exactly if the form is longer than the lent output or than 16,777,216 bytes"
 pub fn refuse_room(need: usize, room: usize) -> Refusal
-    ensures { result ≡ refuse-if (ltb room need || ltb limit need) 21 }
+    ensures { result ≡ refuse_if (ltb room need || ltb limit need) 21 }
 {
     if room < need {
         return Refusal {

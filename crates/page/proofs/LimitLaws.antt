@@ -7,11 +7,11 @@ use borrow.Author.Tests.{ltb-false}
 use lib.Dec.{ltb}
 use lib.ListN.{length}
 use Rattle.page.specs.Bytes.{Bytes}
-use Rattle.page.specs.Answers.{earlier, refuse-if}
+use Rattle.page.specs.Answers.{earlier, refuse_if}
 use Rattle.page.specs.File.{limit, too_long, header_refusal}
 
 pub header_short : (s : Bytes) → (header_refusal s).number ≡ 0 → length s ≤ limit
-unfolding header_refusal earlier refuse-if too_long
+unfolding header_refusal earlier refuse_if too_long
 header_short s h = by (ltb limit (length s)) refl
   where
     by : (b : Bool) → ltb limit (length s) ≡ b → length s ≤ limit

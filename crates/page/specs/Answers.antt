@@ -31,49 +31,49 @@ unfoldable pub earlier : Refusal → Refusal → Refusal
 earlier a b = pick (eqb a.number 0) b a
 
 -- "refuses with this number and no place if"
-unfoldable pub refuse-if : Bool → ℕ → Refusal
-refuse-if true v = refusal v 0 0
-refuse-if false v = sound
+unfoldable pub refuse_if : Bool → ℕ → Refusal
+refuse_if true v = refusal v 0 0
+refuse_if false v = sound
 
 -- from the paper's numbers to each enum, and back
 unfoldable pub checked : Refusal → Checked
 checked r = pick (eqb r.number 0) C.Sound (C.Refused r)
 
-unfoldable pub paper-checked : Checked → Refusal
-paper-checked C.Sound = sound
-paper-checked (C.Refused r) = r
+unfoldable pub paper_checked : Checked → Refusal
+paper_checked C.Sound = sound
+paper_checked (C.Refused r) = r
 
 unfoldable pub headed : Refusal → Header → Headed
 headed r h = pick (eqb r.number 0) (H.Is h) (H.Refused r)
 
-unfoldable pub paper-headed : Headed → Refusal
-paper-headed (H.Is h) = sound
-paper-headed (H.Refused r) = r
+unfoldable pub paper_headed : Headed → Refusal
+paper_headed (H.Is h) = sound
+paper_headed (H.Refused r) = r
 
 unfoldable pub listed : Refusal → Row → Listed
 listed r x = pick (eqb r.number 0) (L.Is x) (L.Refused r)
 
-unfoldable pub paper-listed : Listed → Refusal
-paper-listed (L.Is x) = sound
-paper-listed (L.Refused r) = r
+unfoldable pub paper_listed : Listed → Refusal
+paper_listed (L.Is x) = sound
+paper_listed (L.Refused r) = r
 
 unfoldable pub got : Refusal → Value → Got
 got r v = pick (eqb r.number 0) (G.Is v) (G.Refused r)
 
-unfoldable pub paper-got : Got → Refusal
-paper-got (G.Is v) = sound
-paper-got (G.Refused r) = r
+unfoldable pub paper_got : Got → Refusal
+paper_got (G.Is v) = sound
+paper_got (G.Refused r) = r
 
 unfoldable pub written : Refusal → ℕ → Written
 written r n = pick (eqb r.number 0) (W.Length n) (W.Refused r)
 
-unfoldable pub paper-written : Written → Refusal
-paper-written (W.Length n) = sound
-paper-written (W.Refused r) = r
+unfoldable pub paper_written : Written → Refusal
+paper_written (W.Length n) = sound
+paper_written (W.Refused r) = r
 
 unfoldable pub handed : Refusal → Copied → Handed
 handed r x = pick (eqb r.number 0) (Ha.Is x) (Ha.Refused r)
 
-unfoldable pub paper-handed : Handed → Refusal
-paper-handed (Ha.Is x) = sound
-paper-handed (Ha.Refused r) = r
+unfoldable pub paper_handed : Handed → Refusal
+paper_handed (Ha.Is x) = sound
+paper_handed (Ha.Refused r) = r

@@ -9,7 +9,7 @@ use Rattle.page.specs.Head.{latin_of}
 use Rattle.page.specs.Section.{outcome}
 use Rattle.page.specs.Records.{Datum, number, missing, words, Record, Entry, entries_of, table_index}
 use Rattle.page.specs.Trailer.{trailer_of}
-use Rattle.page.specs.Answers.{refusal, sound, earlier, refuse-if, checked}
+use Rattle.page.specs.Answers.{refusal, sound, earlier, refuse_if, checked}
 use Rattle.page.specs.declared.Column.{Column}
 use Rattle.page.specs.declared.Finding.{Finding}
 use Rattle.page.specs.declared.Outcome.{Outcome}
@@ -30,7 +30,7 @@ found f = refusal f.verdict 0 f.line
 
 -- 1, then 2
 unfoldable pub header_refusal : Bytes → Refusal
-header_refusal s = earlier (refuse-if (too_long s) 1) (found (head_of (header_lines s)))
+header_refusal s = earlier (refuse_if (too_long s) 1) (found (head_of (header_lines s)))
 
 -- "one row a section with table number, place, length, record count and verdict"
 unfoldable pub row_given : Section → Outcome → Row

@@ -10,7 +10,7 @@ use Rattle.page.specs.Cut.{Section}
 use Rattle.page.specs.Section.{record_text}
 use Rattle.page.specs.Records.{own_bytes, waits, table_index, order_in}
 use Rattle.page.specs.Places.{Standing, stands}
-use Rattle.page.specs.Answers.{earlier, refuse-if, written, handed}
+use Rattle.page.specs.Answers.{earlier, refuse_if, written, handed}
 use Rattle.page.specs.Reading.{section_at, row_at, find_refusal, verdict_of, value_refusal, record_of, value_in}
 use Rattle.page.specs.Writing.{put_refusal, put_after}
 use Rattle.page.specs.declared.Owner.TheVariants as O
@@ -25,7 +25,7 @@ use Rattle.page.specs.declared.Handed.{Handed}
 -- a text's own bytes, doubled quotes undone: refused as reading its value is, then 11 if it is a number, then 21
 unfoldable pub text_refusal : Bytes → ℕ → ℕ → ℕ → Refusal
 text_refusal s i r f =
-    earlier (value_refusal s i r f) (refuse-if (not (column_at (table_index (section_at s i).lines) (f - 1)).text) 11)
+    earlier (value_refusal s i r f) (refuse_if (not (column_at (table_index (section_at s i).lines) (f - 1)).text) 11)
 
 -- where column f (from 1) of a section stands, from 0
 unfoldable pub place_of : Bytes → ℕ → ℕ → ℕ
@@ -78,7 +78,7 @@ unfoldable pub table_refusal : Bytes → ℕ → Refusal
 table_refusal s i = earlier (find_refusal s i) (verdict_of i (row_at s i))
 
 unfoldable pub cells_refusal : Bytes → ℕ → ℕ → Refusal
-cells_refusal s i room = earlier (table_refusal s i) (refuse-if (ltb room (length (cells_of (section_at s i)))) 21)
+cells_refusal s i room = earlier (table_refusal s i) (refuse_if (ltb room (length (cells_of (section_at s i)))) 21)
 
 unfoldable pub table_of : Bytes → ℕ → ℕ → Written
 table_of s i room = written (cells_refusal s i room) (length (cells_of (section_at s i)))

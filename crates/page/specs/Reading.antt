@@ -10,7 +10,7 @@ use Rattle.page.specs.Marks.{owner_of}
 use Rattle.page.specs.Section.{field_of}
 use Rattle.page.specs.Records.{table_index, order_in}
 use Rattle.page.specs.Places.{Standing, field_span, record_at}
-use Rattle.page.specs.Answers.{refusal, sound, earlier, refuse-if, checked, headed, listed, got}
+use Rattle.page.specs.Answers.{refusal, sound, earlier, refuse_if, checked, headed, listed, got}
 use Rattle.page.specs.File.{header_refusal, row_of, rows_of, file_refusal}
 use Rattle.page.specs.declared.Column.{Column}
 use Rattle.page.specs.declared.Field.{Field}
@@ -44,7 +44,7 @@ row_at s i = row_of (latin_of s) (section_at s i)
 
 -- "the first of 1, 2, 24 for the section"
 unfoldable pub find_refusal : Bytes → ℕ → Refusal
-find_refusal s i = earlier (header_refusal s) (refuse-if (outside i (length (sections s))) 24)
+find_refusal s i = earlier (header_refusal s) (refuse_if (outside i (length (sections s))) 24)
 
 -- one row by value
 unfoldable pub section_of : Bytes → ℕ → Listed
@@ -52,7 +52,7 @@ section_of s i = listed (find_refusal s i) (row_at s i)
 
 -- "Too few rows is 21, after 1 and 2."
 unfoldable pub list_refusal : Bytes → ℕ → Refusal
-list_refusal s room = earlier (header_refusal s) (refuse-if (ltb room (length (sections s))) 21)
+list_refusal s room = earlier (header_refusal s) (refuse_if (ltb room (length (sections s))) 21)
 
 -- "Listing is refused by 1, 2 and 21 only and then writes no row; other verdicts go into the rows and the file's answer."
 unfoldable pub list_of : Bytes → ℕ → Checked
@@ -71,7 +71,7 @@ unfoldable pub value_refusal : Bytes → ℕ → ℕ → ℕ → Refusal
 value_refusal s i r f =
     earlier (find_refusal s i)
     (earlier (verdict_of i (row_at s i))
-    (refuse-if (outside r (row_at s i).records || outside f (width (table_index (section_at s i).lines))) 24))
+    (refuse_if (outside r (row_at s i).records || outside f (width (table_index (section_at s i).lines))) 24))
 
 -- a field that stands k bytes later
 abbrev pub later_field : ℕ → Field → Field

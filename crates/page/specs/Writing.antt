@@ -6,7 +6,7 @@ use Rattle.page.specs.Tables.{column_at, width}
 use Rattle.page.specs.Cut.{sections}
 use Rattle.page.specs.Head.{latin_of}
 use Rattle.page.specs.Records.{Datum, number, missing, words, table_index}
-use Rattle.page.specs.Answers.{earlier, refuse-if, written}
+use Rattle.page.specs.Answers.{earlier, refuse_if, written}
 use Rattle.page.specs.File.{limit, file_refusal}
 use Rattle.page.specs.Reading.{outside, section_at, row_at}
 use Rattle.page.specs.Model.{model_of, Changes, nothing, strip, fill, changed, kept, datum_at}
@@ -20,7 +20,7 @@ use Rattle.page.specs.declared.Written.{Written}
 
 -- "21 exactly if the form is longer than the lent output or than 16,777,216 bytes"
 unfoldable pub put_refusal : Refusal → Bytes → ℕ → Refusal
-put_refusal r form room = earlier r (refuse-if (ltb room (length form) || ltb limit (length form)) 21)
+put_refusal r form room = earlier r (refuse_if (ltb room (length form) || ltb limit (length form)) 21)
 
 -- "On success the form's length is given, and the bytes after the form keep their values."
 unfoldable pub put_of : Refusal → Bytes → ℕ → Written
@@ -74,11 +74,11 @@ fill_place s i r f =
 unfoldable pub fill_refusal : Bytes → ℕ → ℕ → ℕ → Bytes → Refusal
 fill_refusal s i r f t =
     earlier (file_refusal s)
-    (earlier (refuse-if (fill_place s i r f) 24)
-    (earlier (refuse-if (not (column_at (table_index (section_at s i).lines) (f - 1)).fillable) 23)
-    (earlier (refuse-if (not (empty_datum (datum_at i r f (model_of s)))) 22)
-    (earlier (refuse-if (eqb (length t) 0) 11)
-    (earlier (refuse-if (not (all (allowed (latin_of s)) t)) 4) (refuse-if (ltb 40 (length t)) 13))))))
+    (earlier (refuse_if (fill_place s i r f) 24)
+    (earlier (refuse_if (not (column_at (table_index (section_at s i).lines) (f - 1)).fillable) 23)
+    (earlier (refuse_if (not (empty_datum (datum_at i r f (model_of s)))) 22)
+    (earlier (refuse_if (eqb (length t) 0) 11)
+    (earlier (refuse_if (not (all (allowed (latin_of s)) t)) 4) (refuse_if (ltb 40 (length t)) 13))))))
 
 unfoldable pub fill_form : Bytes → ℕ → ℕ → ℕ → Bytes → Bytes
 fill_form s i r f t = form_by (plan (fill i r f t)) s

@@ -11,8 +11,6 @@ use Rattle.page.specs.Lines.{lines, joined}
 use Rattle.page.specs.Cut.{Piece, a_table, a_trailer, Cut, Section, cut, placed, placed_piece, piece_lines, header_lines, sections}
 use Rattle.page.specs.Head.{latin_of}
 use Rattle.page.specs.File.{row_of, rows_of, row_given}
-use Rattle.page.specs.Section.{outcome}
-use Rattle.page.specs.Records.{entries}
 use Rattle.page.specs.Model.{content_of}
 use Rattle.page.specs.Reading.{no_section, section_at, row_at}
 use Rattle.page.proofs.LineLaws.{Whole, lines_append, joined_lines, joined_length}

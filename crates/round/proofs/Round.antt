@@ -17,7 +17,7 @@ use Rattle.page.specs.Section.{outcome}
 use Rattle.page.specs.Records.{records_of, table_index}
 use Rattle.page.specs.Trailer.{trailer_of}
 use Rattle.page.specs.Model.{content_of, model_of, changed, kept}
-use Rattle.page.specs.Answers.{refusal, sound, earlier, refuse-if}
+use Rattle.page.specs.Answers.{refusal, sound, earlier, refuse_if}
 use Rattle.page.specs.File.{limit, too_long, found, header_refusal, row_given, row_of, rows_of, first_unsound, first_again, filed_of, record_refusal, section_refusal, file_refusal}
 use Rattle.page.specs.Form.{form_of}
 use Rattle.page.specs.Writing.{form_by, write_form}
@@ -87,7 +87,7 @@ module _ (s : Bytes) (h : (file_refusal s).number ≡ 0) where
 
   head_zero : (head_of (header_lines s)).verdict ≡ 0
   unfolding header_refusal
-  head_zero = (earlier_none (refuse-if (too_long s) 1) (found (head_of (header_lines s))) the_parts.0).1
+  head_zero = (earlier_none (refuse_if (too_long s) 1) (found (head_of (header_lines s))) the_parts.0).1
 
   head_sound : SoundHeader (header_lines s)
   head_sound = by (header_settled (header_lines s))

@@ -14,7 +14,7 @@ use Rattle.page.specs.Head.{latin_of}
 use Rattle.page.specs.Records.{Record, records_of, table_index}
 use Rattle.page.specs.Model.{Content, Model, content_of, model_of}
 use Rattle.page.specs.Trailer.{eof_ok, all_blank, trailer_finding, trailer_of}
-use Rattle.page.specs.Answers.{sound, earlier, refuse-if}
+use Rattle.page.specs.Answers.{sound, earlier, refuse_if}
 use Rattle.page.specs.File.{limit, too_long, header_refusal, file_refusal}
 use Rattle.page.specs.Form.{line, line_end, separated, datum_text, decimal, marks, record_form, records_form, table_head, content_form, tables_form, head_form, form_of}
 use Rattle.page.specs.Rules.{Every, none_left, one_more}
@@ -142,7 +142,7 @@ module _ (ends : LineEnd) (m : Model) (s : SoundModel m) (short : length (form_o
       rw (trailer_form ends m s, e.clean, e.split, number_decimal (length m.tables) n, count_back, eq-eqb (length m.tables) (length m.tables) refl)
 
   header_sound : header_refusal (form_of ends m) ≡ sound
-  unfolding header_refusal too_long earlier refuse-if
+  unfolding header_refusal too_long earlier refuse_if
   header_sound = rw (le-ltb limit (length (form_of ends m)) short, header_form ends m s, header_back ends m.head s.head)
 
   -- and is accepted

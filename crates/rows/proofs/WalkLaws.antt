@@ -13,7 +13,7 @@ use lib.Seq.{length-take-le, take-suc, take-length, drop-cons, drop-drop, set_at
 use Rattle.page.specs.Bytes.{Bytes, pick}
 use Rattle.page.specs.Cut.{Section, sections}
 use Rattle.page.specs.Head.{latin_of}
-use Rattle.page.specs.Answers.{refusal, sound, earlier, refuse-if}
+use Rattle.page.specs.Answers.{refusal, sound, earlier, refuse_if}
 use Rattle.page.specs.File.{header_refusal, row_of, rows_of, first_unsound}
 use Rattle.page.specs.Reading.{no_section, list_refusal, rows_after}
 use Rattle.page.specs.declared.Row.{Row}
@@ -98,11 +98,11 @@ step_section s k h =
 
 -- listing that is not refused has room
 
-room_in : (r : Refusal) (n room : ℕ) → eqb (earlier r (refuse-if (ltb room n) 21)).number 0 ≡ true → n ≤ room
-unfolding earlier refuse-if
+room_in : (r : Refusal) (n room : ℕ) → eqb (earlier r (refuse_if (ltb room n) 21)).number 0 ≡ true → n ≤ room
+unfolding earlier refuse_if
 room_in r n room h = ltb-false room n (by (eqb r.number 0) (ltb room n) refl h)
   where
-    by : (a b : Bool) → eqb r.number 0 ≡ a → eqb (pick a (refuse-if b 21) r).number 0 ≡ true → b ≡ false
+    by : (a b : Bool) → eqb r.number 0 ≡ a → eqb (pick a (refuse_if b 21) r).number 0 ≡ true → b ≡ false
     by true true x y = cc
     by true false x y = refl
     by false b x y = cc

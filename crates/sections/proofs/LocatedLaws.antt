@@ -8,7 +8,7 @@ use lib.ListN.{length}
 use borrow.Author.Tests.{lt-ltb, le-ltb, eq-eqb, ne_eqb}
 use Rattle.page.specs.Bytes.{Bytes}
 use Rattle.page.specs.Cut.{sections}
-use Rattle.page.specs.Answers.{refusal, earlier, refuse-if}
+use Rattle.page.specs.Answers.{refusal, earlier, refuse_if}
 use Rattle.page.specs.File.{header_refusal}
 use Rattle.page.specs.Reading.{outside, section_at, find_refusal}
 use Rattle.page.specs.declared.Refusal.{Refusal}
@@ -27,13 +27,13 @@ module _ (s : Bytes) (i : ℕ) where
 
   module _ (x : Refusal) (e : x ≡ header_refusal s) (z : x.number ≡ 0) where
     pub refused_none : outside i (length (sections s)) ≡ true → (y : Refusal) → y ≡ refusal 24 0 0 → (L.Refused y ≡ located s i) × Locates s i (L.Refused y)
-    unfolding located find_refusal earlier refuse-if
+    unfolding located find_refusal earlier refuse_if
     refused_none o y q =
         let b : eqb (header_refusal s).number 0 ≡ true = rw e at (eq-eqb x.number 0 z) in
         (rw (b, o, q), (rw q (λ (w : ◌≡◌ {A = ℕ} 24 0). omega arith), rw (b, o, q)))
 
     pub located_at : (at : ℕ) → (i ≡ 0 → ⊥) → at < length s → Reached s (i - 1) at → (L.At at ≡ located s i) × Locates s i (L.At at)
-    unfolding located find_refusal earlier refuse-if outside section_at section_from
+    unfolding located find_refusal earlier refuse_if outside section_at section_from
     located_at at n h r =
         let b : eqb (header_refusal s).number 0 ≡ true = rw e at (eq-eqb x.number 0 z) in
         let y = reach_here s (i - 1) at r.within r.settled r.left h in

@@ -7,7 +7,7 @@ use lib.ListN.{length}
 use Rattle.page.specs.Bytes.{Bytes}
 use Rattle.page.specs.Cut.{sections}
 use Rattle.page.specs.Head.{latin_of}
-use Rattle.page.specs.Answers.{refusal, earlier, refuse-if}
+use Rattle.page.specs.Answers.{refusal, earlier, refuse_if}
 use Rattle.page.specs.File.{header_refusal}
 use Rattle.page.specs.Reading.{list_refusal}
 use Rattle.page.specs.declared.Refusal.{Refusal}
@@ -23,10 +23,10 @@ module _ (s : Bytes) (room : ℕ) (r : Refusal) (q : r ≡ header_refusal s) whe
   module _ (z : r.number ≡ 0) (n : ℕ) (k : n ≡ length (sections s)) where
     -- "Too few rows is 21"
     pub start_small : room < n → refused (refusal 21 0 0) ≡ start_of s room
-    unfolding start_of accepts list_refusal earlier refuse-if
+    unfolding start_of accepts list_refusal earlier refuse_if
     start_small h = rw (sym q, z, sym k, lt-ltb room n h)
 
     pub start_all : n ≤ room → (at : ℕ) → at ≡ first_place s (sections_from s 0) → (latin : Bool) → latin ≡ latin_of s
         → record { refusal = refusal 0 0 0; count = n; at = at; latin = latin } ≡ start_of s room
-    unfolding start_of accepts list_refusal earlier refuse-if at_of
+    unfolding start_of accepts list_refusal earlier refuse_if at_of
     start_all h at a latin l = rw (sym q, z, sym k, le-ltb room n h, a, sections_all s, l)

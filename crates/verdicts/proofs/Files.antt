@@ -17,7 +17,7 @@ use Rattle.page.specs.Header.{head_of}
 use Rattle.page.specs.Head.{latin_of}
 use Rattle.page.specs.Section.{refused}
 use Rattle.page.specs.Trailer.{trailer_finding, trailer_of}
-use Rattle.page.specs.Answers.{refusal, sound, checked, paper-checked}
+use Rattle.page.specs.Answers.{refusal, sound, checked, paper_checked}
 use Rattle.page.specs.File.{limit, rows_of, first_unsound, first_again, any, by_primary, by_second, Filed, repeats, lost, first_record, filed_of, file_refusal, check_of}
 use Rattle.page.specs.Model.{Content, model_of}
 use Rattle.page.specs.Refusals.{Refused}
@@ -301,10 +301,10 @@ check_refused s v i n = (λ e. (refuses_file_exactly s v i n).0 (into (eqb (file
     back f = let x = refused_gives s v i n f in rw (x.0, ne_eqb v 0 x.1)
 
 -- the enum and the paper's numbers say the same
-pub check_paper : (s : Bytes) → paper-checked (check_of s) ≡ file_refusal s
-unfolding check_of checked paper-checked
+pub check_paper : (s : Bytes) → paper_checked (check_of s) ≡ file_refusal s
+unfolding check_of checked paper_checked
 check_paper s = by (file_settled s)
   where
-    by : Settled s → paper-checked (checked (file_refusal s)) ≡ file_refusal s
+    by : Settled s → paper_checked (checked (file_refusal s)) ≡ file_refusal s
     by (inl x) = rw (sound_gives s x.0 x.1)
     by (inr x) = let y = refused_gives s x.0 x.1 x.2 x.3 in rw (y.0, ne_eqb x.0 0 y.1)

@@ -13,7 +13,7 @@ use Rattle.page.specs.Cut.{sections}
 use Rattle.page.specs.Head.{latin_of}
 use Rattle.page.specs.Records.{table_index}
 use Rattle.page.specs.Model.{model_of, datum_at, fill}
-use Rattle.page.specs.Answers.{earlier, refuse-if}
+use Rattle.page.specs.Answers.{earlier, refuse_if}
 use Rattle.page.specs.Reading.{outside, section_at, row_at}
 use Rattle.page.specs.File.{file_refusal}
 use Rattle.page.specs.Form.{form_of}
@@ -29,8 +29,8 @@ use Rattle.writing.proofs.FormLaws.{wrote_by}
 use Rattle.page.proofs.TestLaws.{neither}
 use Rattle.laws.proofs.Earlier.{earlier_none}
 
-unrefused : (b : Bool) (v : ℕ) → (refuse-if b (suc v)).number ≡ 0 → b ≡ false
-unfolding refuse-if
+unrefused : (b : Bool) (v : ℕ) → (refuse_if b (suc v)).number ≡ 0 → b ≡ false
+unfolding refuse_if
 unrefused true v e = absurd (omega arith)
 unrefused false v e = refl
 
@@ -40,22 +40,22 @@ named i n e = let z = eqb-false i 0 (neither (eqb i 0) (ltb n i) e).0 in omega a
 
 module _ (s : Bytes) (i r f : ℕ) (t : Bytes) where
   abbrev last : Refusal
-  last = refuse-if (ltb 40 (length t)) 13
+  last = refuse_if (ltb 40 (length t)) 13
 
   abbrev clean : Refusal
-  clean = earlier (refuse-if (not (all (allowed (latin_of s)) t)) 4) last
+  clean = earlier (refuse_if (not (all (allowed (latin_of s)) t)) 4) last
 
   abbrev some : Refusal
-  some = earlier (refuse-if (eqb (length t) 0) 11) clean
+  some = earlier (refuse_if (eqb (length t) 0) 11) clean
 
   abbrev free : Refusal
-  free = earlier (refuse-if (not (empty_datum (datum_at i r f (model_of s)))) 22) some
+  free = earlier (refuse_if (not (empty_datum (datum_at i r f (model_of s)))) 22) some
 
   abbrev suited : Refusal
-  suited = earlier (refuse-if (not (column_at (table_index (section_at s i).lines) (f - 1)).fillable) 23) free
+  suited = earlier (refuse_if (not (column_at (table_index (section_at s i).lines) (f - 1)).fillable) 23) free
 
   abbrev placed : Refusal
-  placed = earlier (refuse-if (fill_place s i r f) 24) suited
+  placed = earlier (refuse_if (fill_place s i r f) 24) suited
 
   pub record Fillable : Type 0 where
     pub file : (file_refusal s).number ≡ 0
@@ -68,11 +68,11 @@ module _ (s : Bytes) (i r f : ℕ) (t : Bytes) where
   unfolding fill_refusal fill_place
   fillable h =
       let a = earlier_none (file_refusal s) placed h in
-      let b = earlier_none (refuse-if (fill_place s i r f) 24) suited a.1 in
-      let c = earlier_none (refuse-if (not (column_at (table_index (section_at s i).lines) (f - 1)).fillable) 23) free b.1 in
-      let d = earlier_none (refuse-if (not (empty_datum (datum_at i r f (model_of s)))) 22) some c.1 in
-      let e = earlier_none (refuse-if (eqb (length t) 0) 11) clean d.1 in
-      let g = earlier_none (refuse-if (not (all (allowed (latin_of s)) t)) 4) last e.1 in
+      let b = earlier_none (refuse_if (fill_place s i r f) 24) suited a.1 in
+      let c = earlier_none (refuse_if (not (column_at (table_index (section_at s i).lines) (f - 1)).fillable) 23) free b.1 in
+      let d = earlier_none (refuse_if (not (empty_datum (datum_at i r f (model_of s)))) 22) some c.1 in
+      let e = earlier_none (refuse_if (eqb (length t) 0) 11) clean d.1 in
+      let g = earlier_none (refuse_if (not (all (allowed (latin_of s)) t)) 4) last e.1 in
       let x = outside i (length (sections s)) in
       let y = outside r (row_at s i).records in
       let z = outside f (width (table_index (section_at s i).lines)) in

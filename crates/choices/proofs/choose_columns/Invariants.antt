@@ -1,5 +1,5 @@
 use mathlib.Core.Path.{◌≡◌}
-use Prim.Native.Nat.{◌-◌, ◌≤◌}
+use Prim.Native.Nat.{◌≤◌}
 use Rattle.page.specs.Tables.{width}
 use Rattle.arrangement.specs.Orders.{held}
 use Rattle.choices.proofs.ChoiceLaws.{kinds_from, slots_from}

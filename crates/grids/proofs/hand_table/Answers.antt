@@ -1,6 +1,6 @@
 use lib.Seq.{length-take-le}
 use Rattle.page.specs.Tables.{WIDEST, width}
-use Rattle.page.specs.Answers.{refusal, sound, refuse-if}
+use Rattle.page.specs.Answers.{refusal, sound, refuse_if}
 use Rattle.page.specs.Reading.{section_at}
 use Rattle.page.specs.Handing.{cells_of, cells_refusal}
 use Rattle.page.proofs.TableLaws.{width_le}
@@ -40,7 +40,7 @@ overflow_mul-row c =
     omega arith
 
 pub returns-then-cells-row : goal.returns-then-cells-row
-unfolding refuse-if
+unfolding refuse_if
 returns-then-cells-row c =
     let a = c.args in
     let s = a.file.now in
@@ -56,7 +56,7 @@ returns-then-cells-row c =
     let i = end_within s a.section a.at b x.result q v t.result e t.ensures refl in
     let f : cells_refusal s a.section (length a.cells.now) ≡ refusal 21 0 0 =
     table_sound s a.section a.at b x.result q v (length a.cells.now)
-    ∙ ap (λ (y : Bool). refuse-if y 21) (lt-ltb (length a.cells.now) (length (cells_of (section_at s a.section))) (omega (arith, m, c.if-cells-row.true))) in
+    ∙ ap (λ (y : Bool). refuse_if y 21) (lt-ltb (length a.cells.now) (length (cells_of (section_at s a.section))) (omega (arith, m, c.if-cells-row.true))) in
     rw c.refuse_with.ensures (table_refused s a.section a.cells.now (refusal 21 0 0) f (λ (z : ◌≡◌ {A = ℕ} 21 0). omega arith))
 
 pub overflow_add-e : goal.overflow_add-e
@@ -154,7 +154,7 @@ pub shape_of-cells : goal.shape_of-cells
 shape_of-cells c = put_same c.put_records.ensures
 
 pub returns : goal.returns
-unfolding refuse-if
+unfolding refuse_if
 returns c =
     let a = c.args in
     let s = a.file.now in
@@ -173,5 +173,5 @@ returns c =
     let h : length (cells_of (section_at s a.section)) ≤ length a.cells.now = omega (arith, m, c.if-cells-row.false) in
     let f : cells_refusal s a.section (length a.cells.now) ≡ sound =
     table_sound s a.section a.at b x.result q v (length a.cells.now)
-    ∙ ap (λ (y : Bool). refuse-if y 21) (le-ltb (length a.cells.now) (length (cells_of (section_at s a.section))) h) in
+    ∙ ap (λ (y : Bool). refuse_if y 21) (le-ltb (length a.cells.now) (length (cells_of (section_at s a.section))) h) in
     table_given s a.section a.cells.now f h _ _ (put_as d c.put_records.ensures)

@@ -1,6 +1,5 @@
 use Rattle.doubling.proofs.TextLaws.{undoubled_second, undoubled_first, undoubled_end, undoubled_length}
 use Rattle.output.proofs.PutLaws.{begin, left_is, next_by, at_end, same}
-use Prim.Native.Nat.{◌-◌}
 use mathlib.Core.Bool.{false}
 use native.Mathlib.Omega.{arith}
 use Rattle.doubling.proofs.own.put_own.Goals as goal

@@ -12,28 +12,24 @@ any-text = record { text = true; day = false; lo = 0; hi = 18446744073709551615;
 pub slice_bounds-pack_own-count : goal.slice_bounds-pack_own-count
 slice_bounds-pack_own-count c = let a = c.args in
     let x = c.read_field-x in
-    
     let t = text_told a.w.now a.at c.requires any-text refl (search rules) x.result.field x.ensures.1 c.in-Text.sp c.in-Text.is in
     search rules
 
 pub slice_bounds-pack_own-start : goal.slice_bounds-pack_own-start
 slice_bounds-pack_own-start c = let a = c.args in
     let x = c.read_field-x in
-    
     let t = text_told a.w.now a.at c.requires any-text refl (search rules) x.result.field x.ensures.1 c.in-Text.sp c.in-Text.is in
     search rules
 
 pub slice_bounds-pack_own-end : goal.slice_bounds-pack_own-end
 slice_bounds-pack_own-end c = let a = c.args in
     let x = c.read_field-x in
-    
     let t = text_told a.w.now a.at c.requires any-text refl (search rules) x.result.field x.ensures.1 c.in-Text.sp c.in-Text.is in
     search rules
 
 pub returns-in-Text : goal.returns-in-Text
 returns-in-Text c = let a = c.args in
     let x = c.read_field-x in
-    
     let t = text_told a.w.now a.at c.requires any-text refl (search rules) x.result.field x.ensures.1 c.in-Text.sp c.in-Text.is in
     (x.ensures.0, c.pack_own.ensures ∙ ap packed t.2)
 

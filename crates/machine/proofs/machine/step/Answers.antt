@@ -13,7 +13,6 @@ pub returns-in-Atr : goal.returns-in-Atr
 unfolding step
 returns-in-Atr c =
     let a = c.args in
-    
     let w = sym c.content_of-c.ensures in (
       rw (c.in-Atr.is, w) c.step_content.ensures,
       λ q e. carry_atr a.latin c.in-Atr.t a.p q a.o c.arrange-a.result.order a.l.now c.in-Atr.is (rw (w, sym c.rest_of.ensures) c.arrange-a.ensures.1) (rw (c.in-Atr.is, w) (sym c.step_content.ensures ∙ e)),

@@ -1,4 +1,3 @@
-use Prim.Native.Nat.{◌-◌}
 use native.Mathlib.Omega.{arith}
 use lib.ListN.{drop_of_length-le, length-drop}
 use Rattle.output.proofs.PutLaws.{begin, next_by, at_end, first_of, same, put_stored}

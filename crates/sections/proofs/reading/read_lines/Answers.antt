@@ -71,7 +71,6 @@ loop-c-preserved c =
     let r = c.skip_records-r in
     let y = r.ensures in
     let x = c.step-m.ensures in
-    
     let t = handed c.args.s.now c.skip_records-r.result.at c.line-l.result c.if-s-at.false c.line-l.ensures in
     let k = x.1 _ c.in-Go.is in (
       omega arith,

@@ -18,8 +18,7 @@ pub returns-in-Rows : goal.returns-in-Rows
 unfolding records_in Carries
 returns-in-Rows c =
     let a = c.args in
-    let r = c.pass_records-r in
-    (
+    let r = c.pass_records-r in (
       r.ensures.0,
       r.ensures.1,
       omega (arith, rows_count _ _ _ _ a.o.now c.in-Rows.is),
