@@ -8,6 +8,17 @@ use std::io::{BufWriter, Read, Write};
 use std::rt::Files;
 use std::{env, fs, io};
 
+// The longest name of a file. A longer one is no name, and is told as none.
+const LONGEST: usize = 4096;
+
+fn name_in(argument: &str) -> &str {
+    if argument.len() <= LONGEST {
+        argument
+    } else {
+        ""
+    }
+}
+
 fn show_file<R: Read + Drop, W: Write>(alloc: Global, file: R, out: &mut W) -> io::Result<()> {
     let s = listing::read_front(alloc, file)?;
     listing::print_listing(out, s.as_slice())?;
@@ -33,7 +44,7 @@ fn show_argument<R: Files + Eprint + AllocGlobal, W: Write>(
 fn main(rt: HostRuntime) -> io::Result<()> {
     let mut out = BufWriter::new(rt.alloc(), io::writer(&rt))?;
     for path in env::args(&rt)?.skip(1) {
-        show_argument(&rt, path.as_str(), &mut out)?;
+        show_argument(&rt, name_in(path.as_str()), &mut out)?;
     }
     out.flush()
 }
