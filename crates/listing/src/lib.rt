@@ -36,17 +36,15 @@ fn print_row<W: Write>(out: &mut W, i: usize, row: Row) -> io::Result<()> {
     end_line(out)
 }
 
-// A section has a byte at least, so there are no more of them than bytes.
 fn print_sections<W: Write>(out: &mut W, s: &[u8]) -> io::Result<()> {
     let latin = headers::read_charset(s);
+    let mut i: usize = 1;
     let mut at = cut::find_section(s, 0);
-    for i in 1..=s.len() {
-        if s.len() <= at {
-            break;
-        }
+    while at < s.len() {
         print_row(out, i, sections::read_section(s, at, latin))?;
         let e = cut::section_end(s, at);
         at = cut::find_section(s, e);
+        i += 1;
     }
     Ok(())
 }
