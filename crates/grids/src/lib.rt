@@ -89,8 +89,6 @@ pub fn table(file: &[u8], section: usize, cells: &mut [u64]) -> Result<usize, Re
     ensures { (result ≡ table_of file.now section (length cells.old))
         × (cells.new ≡ cells_after file.now section cells.old) }
 {
-    match sections::locate(file, section) {
-        Ok(at) => hand_table(file, section, at, cells),
-        Err(x) => Err(x),
-    }
+    let at = sections::locate(file, section)?;
+    hand_table(file, section, at, cells)
 }
