@@ -1,3 +1,4 @@
 pub mod CursorLaws
 pub mod RunLaws
 pub mod IterLaws
+pub mod ChainLaws
