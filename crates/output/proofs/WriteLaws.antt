@@ -2,12 +2,13 @@
 -- says of lent output, whatever the form. Assumes nothing.
 use mathlib.Core.Path.{◌≡◌, refl, ap, ◌∙◌}
 use mathlib.Core.Bool.{Bool, true, false, ◌||◌}
-use mathlib.Core.List.{[], ◌++◌}
-use Prim.Native.Nat.{ℕ, ◌≤◌}
+use mathlib.Core.List.{◌++◌}
+use Prim.Native.Nat.{ℕ, ◌≤◌, ◌<◌, ◌+◌, ◌^◌}
 use native.Mathlib.Omega.{arith}
-use borrow.Author.Tests.{eq-eqb, ne_eqb, ltb-false}
+use borrow.Author.Tests.{eq-eqb, ne_eqb}
 use lib.Dec.{eqb, ltb}
 use lib.ListN.{length, drop}
+use Rattle.std.proofs.lemmas.Bool.Decides.{nat_tests}
 use Rattle.page.specs.Bytes.{Bytes, pick}
 use Rattle.page.specs.Answers.{earlier, refuse_if, written}
 use Rattle.page.specs.File.{limit}
@@ -15,8 +16,9 @@ use Rattle.page.specs.Writing.{put_refusal, put_of, put_after}
 use Rattle.page.specs.declared.Refusal.{Refusal}
 use Rattle.page.specs.declared.Written.{Written}
 use Rattle.page.specs.declared.Written.TheVariants as W
-use Rattle.output.specs.Put.{Put, Wrote}
-use Rattle.output.proofs.PutLaws.{counted, put_room}
+use Rattle.output.specs.Put.{Put, Puts, Wrote}
+use Rattle.output.specs.declared.bytes.Output.{Output}
+use Rattle.output.proofs.PutLaws.{put_room}
 
 -- the form at the front of what stood there, where it fits
 pub put_front : {form m : Bytes} {r : ℕ} (l : Bytes) → Put l 0 form m r → r ≤ length l → m ≡ form ++ drop (length form) l
@@ -43,37 +45,45 @@ unfolding put_refusal earlier
 refused r form l h = stands r r form l (rw (ne_eqb r.number 0 h)) h
 
 -- what is not refused has room
-has_room : (a b : Bool) → (refuse_if (a || b) 21).number ≡ 0 → a ≡ false
+has_room : (a b : Bool) → (refuse_if (a || b) 21).number ≡ 0 → (a ≡ false) × (b ≡ false)
 unfolding refuse_if
 has_room true b e = absurd (omega arith)
-has_room false b e = refl
+has_room false true e = absurd (omega arith)
+has_room false false e = (refl, refl)
 
--- Measured over no room, with l behind it, the form needs n; q says whether there is room.
-module _ (r q : Refusal) (form l : Bytes) {e : Bytes} {n : ℕ} (none : r.number ≡ 0) (measured : Put [] 0 form e n)
-    (room : q ≡ refuse_if (ltb (length (e ++ l)) n || ltb limit n) 21) where
+-- a form that no number of the machine measures is longer than any that is written
+same_room : (l n m : ℕ) → (n < 2 ^ 64 → m ≡ n) → (2 ^ 64 ≤ n → 2 ^ 64 ≤ m + 1) → (ltb l m || ltb limit m) ≡ (ltb l n || ltb limit n)
+same_room l n m a b = grind (arith, nat_tests)
+
+-- Measured over no room the form needs what stands in b; q says whether there is room in l.
+module _ (r q : Refusal) (form l : Bytes) {a b : Output} (none : r.number ≡ 0) (begins : a.at ≡ 0) (measured : Puts a form b)
+    (room : q ≡ refuse_if (ltb (length l) b.at || ltb limit b.at) 21) where
+  measures : length form < 2 ^ 64 → b.at ≡ length form
+  measures h = omega (arith, (measured.within (omega arith)).next)
+
+  overflows : 2 ^ 64 ≤ length form → 2 ^ 64 ≤ b.at + 1
+  overflows h = measured.past (omega arith)
+
   in_the_end : put_refusal r form (length l) ≡ q
   unfolding put_refusal earlier
   in_the_end =
-      let a : e ≡ [] = (counted measured).0 in
-      let b : n ≡ length form = (counted measured).1 in
-      rw (eq-eqb r.number 0 none, room, a, b)
+      rw (eq-eqb r.number 0 none, room, same_room (length l) (length form) b.at measures overflows)
 
-  pub no_room : (q.number ≡ 0 → ⊥) → Wrote r form l (e ++ l) (W.Refused q)
-  no_room h =
-      let a : e ++ l ≡ l = ap (λ (x : Bytes). x ++ l) (counted measured).0 in
-      rw a (stands r q form l in_the_end h)
+  pub no_room : (q.number ≡ 0 → ⊥) → Wrote r form l l (W.Refused q)
+  no_room h = stands r q form l in_the_end h
 
-  long_enough : q.number ≡ 0 → length form ≤ length l
-  long_enough h =
-      let a : ltb (length (e ++ l)) n ≡ false = has_room (ltb (length (e ++ l)) n) (ltb limit n) (rw room at h) in
-      let b : length (e ++ l) ≡ length l = ap (λ (x : Bytes). length (x ++ l)) (counted measured).0 in
-      omega (arith, ltb-false (length (e ++ l)) n a, (counted measured).1)
+  fitting : q.number ≡ 0 → (length form < 2 ^ 64) × (length form ≤ length l)
+  fitting h =
+      let e = has_room (ltb (length l) b.at) (ltb limit b.at) (rw room at h) in
+      grind (arith, nat_tests, measures, overflows, e.0, e.1)
 
-  pub fits : q.number ≡ 0 → {m : Bytes} {k : ℕ} → Put (e ++ l) 0 form m k → Wrote r form l m (W.Length k)
+  -- m is what was lent, as d leaves it
+  pub fits : q.number ≡ 0 → {c d : Output} {m : Bytes} → c.at ≡ 0 → c.room.now ≡ l → Puts c form d → m ≡ d.room.now
+      → Wrote r form l m (W.Length d.at)
   unfolding written
-  fits h {m} {k} p =
-      let a : e ≡ [] = (counted measured).0 in
-      let w : Put l 0 form m k = rw a at p in
-      let x : k ≡ length form = omega (arith, w.next) in
+  fits h {c} {d} {m} starts lent p e =
+      let w : Put c.room.now c.at form d.room.now d.at = p.within (omega (arith, fitting h)) in
+      let k : d.at ≡ length form = omega (arith, w.next) in
+      let v : Put l 0 form m d.at = rw (starts, lent, ← e) at w in
       let y : eqb q.number 0 ≡ _ = eq-eqb q.number 0 h in
-      by_refusal r q form l in_the_end (W.Length k) m (rw (y, x)) (rw y (put_front l w (omega (arith, long_enough h))))
+      by_refusal r q form l in_the_end (W.Length d.at) m (rw (y, k)) (rw y (put_front l v (omega (arith, fitting h))))
