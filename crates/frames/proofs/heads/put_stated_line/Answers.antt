@@ -1,5 +1,5 @@
+use Rattle.output.proofs.OutputLaws.{put_as, put_none}
 use Rattle.frames.proofs.LineLaws.{stated_none, stated_at}
-use Rattle.output.proofs.PutLaws.{put_as, put_none}
 use Rattle.frames.proofs.heads.put_stated_line.Goals as goal
 
 pub returns-in-Absent : goal.returns-in-Absent
