@@ -4,7 +4,7 @@ ghost use Rattle.output.specs.Put.{Puts, Wrote};
 ghost use Rattle.doubling.specs.Raw.{undoubled};
 
 use output::{Output, refuse_room};
-use page::{Refusal, Written};
+use page::Refusal;
 
 // Of what stands between its quotes in the file.
 pub fn put_own(out: &mut Output<'_>, raw: &[u8])
@@ -22,22 +22,19 @@ pub fn put_own(out: &mut Output<'_>, raw: &[u8])
 }
 
 // The same into the front of `out`, whole or not at all.
-pub fn hand_own(out: &mut [u8], refusal: Refusal, raw: &[u8]) -> Written
+pub fn hand_own(out: &mut [u8], refusal: Refusal, raw: &[u8]) -> Result<usize, Refusal>
     ensures { Wrote refusal (undoubled false raw.now) out.old out.new result }
 {
     if refusal.number != 0 {
-        return Written::Refused(refusal);
+        return Err(refusal);
     }
     let mut measured = Output {
         room: &mut [],
         at: 0,
     };
     put_own(&mut measured, raw);
-    let room = refuse_room(measured.at, out.len());
-    if room.number != 0 {
-        return Written::Refused(room);
-    }
+    refuse_room(measured.at, out.len())?;
     let mut written = Output { room: out, at: 0 };
     put_own(&mut written, raw);
-    Written::Length(written.at)
+    Ok(written.at)
 }

@@ -6,7 +6,7 @@ use crate::written_lines::{put_line, put_text_line};
 use decimals::{put_date, put_time};
 use doubling::put_raw_part;
 use output::Output;
-use page::{Header, LineEnd, Stated};
+use page::{Header, LineEnd, Span};
 
 fn put_src_line(out: &mut Output<'_>, ends: LineEnd, file: &[u8], header: Header)
     ensures { Puts out.old (src_line ends file.now header.source header.date header.time) out.new }
@@ -32,12 +32,11 @@ fn put_chs_line(out: &mut Output<'_>, ends: LineEnd, latin: bool)
     }
 }
 
-fn put_stated_line(out: &mut Output<'_>, ends: LineEnd, word: &[u8], file: &[u8], stated: Stated)
+fn put_stated_line(out: &mut Output<'_>, ends: LineEnd, word: &[u8], file: &[u8], stated: Option<Span>)
     ensures { Puts out.old (stated_line ends word.now file.now stated) out.new }
 {
-    match stated {
-        Stated::Absent => {}
-        Stated::At(place) => put_text_line(out, ends, word, file, place),
+    if let Some(place) = stated {
+        put_text_line(out, ends, word, file, place);
     }
 }
 
