@@ -32,7 +32,13 @@ fn put_chs_line(out: &mut Output<'_>, ends: LineEnd, latin: bool)
     }
 }
 
-fn put_stated_line(out: &mut Output<'_>, ends: LineEnd, word: &[u8], file: &[u8], stated: Option<Span>)
+fn put_stated_line(
+    out: &mut Output<'_>,
+    ends: LineEnd,
+    word: &[u8],
+    file: &[u8],
+    stated: Option<Span>,
+)
     ensures { Puts out.old (stated_line ends word.now file.now stated) out.new }
 {
     if let Some(place) = stated {
