@@ -1,9 +1,12 @@
+use Rattle.page.specs.Bytes.{bytes}
 use Rattle.decimals.proofs.DecimalLaws.{format_char, format_num}
-use Rattle.output.proofs.PutLaws.{put_as}
+use Rattle.output.proofs.OutputLaws.{put_as}
 use Rattle.decimals.proofs.numbers.put_format.Goals as goal
 
-pub returns-then-column : goal.returns-then-column
-returns-then-column c = put_as (format_char _ c.if-column.true) c.put_char.ensures
+pub returns-then-text : goal.returns-then-text
+unfolding bytes
+returns-then-text c x t n = put_as (format_char x _ _ t n c.if-text.true) c.put_sized.ensures
 
-pub returns : goal.returns
-returns c = put_as (format_num _ c.if-column.false) c.put_num.ensures
+pub returns-else-text : goal.returns-else-text
+unfolding bytes
+returns-else-text c x t n = put_as (format_num x _ _ t n c.if-text.false) c.put_sized-else-text.ensures
