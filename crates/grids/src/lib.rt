@@ -13,7 +13,7 @@ use cells::put_values;
 use lines::Cursor;
 use page::{Refusal, Written};
 use sections::Located;
-use tables::{HIGHS, KINDS, LOWS, MARKS, WIDEST, find_width};
+use tables::{WIDEST, find_width};
 
 // The records of the lines from a place on, in the order o.
 fn put_records(cells: &mut [u64], s: &[u8], from: usize, t: usize, o: &[u8; WIDEST]) -> usize
@@ -23,10 +23,6 @@ fn put_records(cells: &mut [u64], s: &[u8], from: usize, t: usize, o: &[u8; WIDE
         × (length (cells_in t (held t o.now) 0 from (lines (drop from s.now))) ≤ length cells.old) }
     ensures { Put cells.old 0 (cells_in t (held t o.now) 0 from (lines (drop from s.now))) cells.new result }
 {
-    let kinds = KINDS;
-    let marks = MARKS;
-    let lows = LOWS;
-    let highs = HIGHS;
     let mut c = Cursor { at: from };
     let mut m: u64 = 0;
     let mut i: usize = 0;
@@ -39,19 +35,7 @@ fn put_records(cells: &mut [u64], s: &[u8], from: usize, t: usize, o: &[u8; WIDE
             let p = places::place_fields(s, at, e, m);
             let a = p.from;
             let b = p.to;
-            i = put_values(
-                cells,
-                i,
-                &s[a..b],
-                a,
-                p.mark,
-                t,
-                o,
-                &kinds,
-                &marks,
-                &lows,
-                &highs,
-            );
+            i = put_values(cells, i, &s[a..b], a, p.mark, t, o);
             m = 0;
         } else {
             m = places::wait_on(&s[at..e], m);

@@ -7,11 +7,10 @@ ghost use Rattle.page.specs.Lines.{lines};
 ghost use Rattle.page.specs.Section.{content_step, step, run};
 ghost use Rattle.page.specs.declared.Phase.TheVariants as P;
 ghost use Rattle.page.specs.declared.Step.TheVariants as S;
-ghost use Rattle.tables.specs.Arrays as rows;
 ghost use Rattle.arrangement.specs.Orders.{held, Stands};
 
 use lines::Cursor;
-use tables::{COLUMNS, WIDEST};
+use tables::WIDEST;
 
 // Where the first line stands that was not passed, how many were, and the mark that waits there.
 #[derive(Clone, Copy)]
@@ -33,18 +32,8 @@ fn is_plain(c: &[u8]) -> bool
 }
 
 // Whether any other content is a record's, and that passes.
-fn passes_other(
-    c: &[u8],
-    t: usize,
-    o: &[u8; WIDEST],
-    m: u64,
-    latin: bool,
-    kinds: &[u8; COLUMNS],
-    marks: &[u8; COLUMNS],
-    lows: &[u8; COLUMNS],
-    highs: &[u32; COLUMNS],
-) -> bool
-    requires { Stands t o.now × (kinds.now ≡ rows.kinds) × (marks.now ≡ rows.marks) × (lows.now ≡ rows.lows) × (highs.now ≡ rows.highs) }
+fn passes_other(c: &[u8], t: usize, o: &[u8; WIDEST], m: u64, latin: bool) -> bool
+    requires { Stands t o.now }
     ensures { result ≡ true → (n : ℕ) → content_step latin (P.Rows t m n) (held t o.now) c.now ≡ S.Go (P.Rows t 0 (n + 1)) }
 {
     if commands::command_of(c) != commands::REC {
@@ -54,29 +43,19 @@ fn passes_other(
     if !lines::all_allowed(&c[..i], latin) {
         return false;
     }
-    judging::passes(lines::rest_of(c), t, o, m, latin, kinds, marks, lows, highs)
+    judging::passes(lines::rest_of(c), t, o, m, latin)
 }
 
 // Whether a line is a record that passes.
-fn passes_line(
-    l: &[u8],
-    t: usize,
-    o: &[u8; WIDEST],
-    m: u64,
-    latin: bool,
-    kinds: &[u8; COLUMNS],
-    marks: &[u8; COLUMNS],
-    lows: &[u8; COLUMNS],
-    highs: &[u32; COLUMNS],
-) -> bool
-    requires { Stands t o.now × (kinds.now ≡ rows.kinds) × (marks.now ≡ rows.marks) × (lows.now ≡ rows.lows) × (highs.now ≡ rows.highs) }
+fn passes_line(l: &[u8], t: usize, o: &[u8; WIDEST], m: u64, latin: bool) -> bool
+    requires { Stands t o.now }
     ensures { result ≡ true → (n : ℕ) → step latin (P.Rows t m n) (held t o.now) l.now ≡ S.Go (P.Rows t 0 (n + 1)) }
 {
     let c = lines::content_of(l);
     if is_plain(c) {
-        return judging::passes(&c[4..], t, o, m, latin, kinds, marks, lows, highs);
+        return judging::passes(&c[4..], t, o, m, latin);
     }
-    passes_other(c, t, o, m, latin, kinds, marks, lows, highs)
+    passes_other(c, t, o, m, latin)
 }
 
 // From a place on, where a mark of field m waits.
@@ -87,12 +66,8 @@ pub fn pass_records(
     o: &[u8; WIDEST],
     m: u64,
     latin: bool,
-    kinds: &[u8; COLUMNS],
-    marks: &[u8; COLUMNS],
-    lows: &[u8; COLUMNS],
-    highs: &[u32; COLUMNS],
 ) -> Passed
-    requires { (from ≤ length s.now) × Stands t o.now × (kinds.now ≡ rows.kinds) × (marks.now ≡ rows.marks) × (lows.now ≡ rows.lows) × (highs.now ≡ rows.highs) }
+    requires { (from ≤ length s.now) × Stands t o.now }
     ensures { (from + result.count ≤ result.at) × (result.at ≤ length s.now)
         × ((n k : ℕ) → run latin (P.Rows t m n) (held t o.now) k (lines (drop from s.now))
         ≡ run latin (P.Rows t result.mark (n + result.count)) (held t o.now) (k + result.count) (lines (drop result.at s.now))) }
@@ -104,7 +79,7 @@ pub fn pass_records(
         let at = c.at;
         let l = c.line(s);
         let e = l.span.to;
-        if !passes_line(&s[at..e], t, o, mark, latin, kinds, marks, lows, highs) {
+        if !passes_line(&s[at..e], t, o, mark, latin) {
             return Passed {
                 at: at,
                 count: n,

@@ -11,7 +11,7 @@ use cut::section_end;
 use lines::Cursor;
 use machine::step;
 use page::{Outcome, Phase, Row, Step};
-use tables::{HIGHS, KINDS, LOWS, MARKS, find_number};
+use tables::find_number;
 
 // "Table number is 0 if the `tbl` line fails."
 fn table_in(p: Phase) -> u32
@@ -55,20 +55,16 @@ fn finish(p: Phase, n: usize) -> Outcome
     }
 }
 
-// "A section gives its first failing line": s is the section's bytes. The rows of all columns are asked for once.
+// "A section gives its first failing line": s is the section's bytes.
 pub fn read_lines(s: &[u8], latin: bool) -> Outcome
     ensures { result ≡ outcome latin (lines s.now) }
 {
-    let kinds = KINDS;
-    let marks = MARKS;
-    let lows = LOWS;
-    let highs = HIGHS;
     let mut c = Cursor { at: 0 };
     let mut n: usize = 0;
     let mut p = Phase::Tbl;
     let mut o = list_columns();
     while c.at < s.len() {
-        let r = skip_records(s, c.at, p, &o, latin, &kinds, &marks, &lows, &highs);
+        let r = skip_records(s, c.at, p, &o, latin);
         let at = r.at;
         n += r.count;
         p = r.phase;
