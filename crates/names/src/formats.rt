@@ -3,7 +3,7 @@ ghost use Rattle.std.specs.Prelude.{◌≡◌};
 ghost use Rattle.page.specs.Bytes.{until};
 ghost use Rattle.page.specs.Section.{no_digit, size_ok, formed, format_ok};
 
-use digits::{Magnitude, is_digit, read_digits};
+use digits::{is_digit, read_digits};
 
 // How many digits stand at the front.
 fn count_digits(w: &[u8]) -> usize
@@ -21,8 +21,8 @@ fn is_size(w: &[u8]) -> bool
     ensures { result ≡ size_ok w.now }
 {
     match read_digits(w) {
-        Magnitude::Is(v) => w[0] != 48 && v <= 255,
-        Magnitude::Nothing => false,
+        Some(v) => w[0] != 48 && v <= 255,
+        None => false,
     }
 }
 

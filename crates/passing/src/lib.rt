@@ -2,11 +2,10 @@
 // one passes.
 #![tactic(auto)]
 
-ghost use Rattle.std.specs.Prelude.{◌≡◌, true, ℕ, ◌+◌, ◌≤◌, length, drop, get_or};
+ghost use Rattle.std.specs.Prelude.{◌≡◌, true, ℕ, ◌+◌, ◌≤◌, length, drop, get_or, Ok};
 ghost use Rattle.page.specs.Lines.{lines};
 ghost use Rattle.page.specs.Section.{content_step, step, run};
 ghost use Rattle.page.specs.declared.Phase.TheVariants as P;
-ghost use Rattle.page.specs.declared.Step.TheVariants as S;
 ghost use Rattle.arrangement.specs.Orders.{held, Stands};
 
 use lines::Cursor;
@@ -34,7 +33,7 @@ fn is_plain(c: &[u8]) -> bool
 // Whether any other content is a record's, and that passes.
 fn passes_other(c: &[u8], t: usize, o: &[u8; WIDEST], m: u64, latin: bool) -> bool
     requires { Stands t o.now }
-    ensures { result ≡ true → (n : ℕ) → content_step latin (P.Rows t m n) (held t o.now) c.now ≡ S.Go (P.Rows t 0 (n + 1)) }
+    ensures { result ≡ true → (n : ℕ) → content_step latin (P.Rows t m n) (held t o.now) c.now ≡ Ok (P.Rows t 0 (n + 1)) }
 {
     if commands::command_of(c) != commands::REC {
         return false;
@@ -49,7 +48,7 @@ fn passes_other(c: &[u8], t: usize, o: &[u8; WIDEST], m: u64, latin: bool) -> bo
 // Whether a line is a record that passes.
 fn passes_line(l: &[u8], t: usize, o: &[u8; WIDEST], m: u64, latin: bool) -> bool
     requires { Stands t o.now }
-    ensures { result ≡ true → (n : ℕ) → step latin (P.Rows t m n) (held t o.now) l.now ≡ S.Go (P.Rows t 0 (n + 1)) }
+    ensures { result ≡ true → (n : ℕ) → step latin (P.Rows t m n) (held t o.now) l.now ≡ Ok (P.Rows t 0 (n + 1)) }
 {
     let c = lines::content_of(l);
     if is_plain(c) {
