@@ -16,16 +16,6 @@ pub struct Skipped {
     pub phase: Phase,
 }
 
-fn skip_none(at: usize, p: Phase) -> Skipped
-    ensures { (result.at ≡ at) × (result.count ≡ 0) × (result.phase ≡ p) }
-{
-    Skipped {
-        at: at,
-        count: 0,
-        phase: p,
-    }
-}
-
 pub fn skip_records(s: &[u8], at: usize, p: Phase, o: &[u8; WIDEST], latin: bool) -> Skipped
     requires { (at ≤ length s.now) × (records_in p ≤ at) × Carries p o.now }
     ensures { (at + result.count ≤ result.at) × (result.at ≤ length s.now) × (records_in result.phase ≤ records_in p + result.count)
@@ -35,12 +25,15 @@ pub fn skip_records(s: &[u8], at: usize, p: Phase, o: &[u8; WIDEST], latin: bool
 {
     if let Phase::Rows(t, m, k) = p {
         let r = pass_records(s, at, t, o, m, latin);
-        let count = r.count;
         return Skipped {
             at: r.at,
-            count: count,
-            phase: Phase::Rows(t, r.mark, k + count),
+            count: r.count,
+            phase: Phase::Rows(t, r.mark, k + r.count),
         };
     }
-    skip_none(at, p)
+    Skipped {
+        at,
+        count: 0,
+        phase: p,
+    }
 }
