@@ -41,10 +41,7 @@ fn put_value(cells: &mut [u64], o: usize, v: Value) -> usize
     match v {
         Value::Number(n) => put_three(cells, o, 0, n, 0),
         Value::Missing => put_three(cells, o, 3, 0, 0),
-        Value::Words(x) => {
-            let owner = x.owner;
-            put_three(cells, o, number_owner(owner), x.from as u64, x.to as u64)
-        }
+        Value::Words(x) => put_three(cells, o, number_owner(x.owner), x.from as u64, x.to as u64),
     }
 }
 
@@ -63,18 +60,12 @@ pub fn put_values(
         × (from + length (record_cells t (held t o.now) (record { at = at; rest = w.now; mark = m }) 1 (width t)) ≤ length cells.old) }
     ensures { Put cells.old from (record_cells t (held t o.now) (record { at = at; rest = w.now; mark = m }) 1 (width t)) cells.new result }
 {
-    let n = find_width(t);
     let starts = find_starts(w, t);
     let mut i = from;
-    let mut c = 0;
-    while c < n {
+    for c in 0..find_width(t) {
         let p = find_place(o, t, c);
-        i = put_value(
-            cells,
-            i,
-            read_value(w, at, m, p, starts[p], find_column(t, c)),
-        );
-        c += 1;
+        let value = read_value(w, at, m, p, starts[p], find_column(t, c));
+        i = put_value(cells, i, value);
     }
     i
 }
