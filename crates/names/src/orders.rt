@@ -7,7 +7,7 @@ ghost use Rattle.page.specs.Records.{atr_in};
 ghost use Rattle.names.specs.Told.{column_named, Arranges, Told};
 
 use arrangement::list_columns;
-use lines::Cursor;
+use lines::lines_of;
 use tables::{WIDEST, find_name, find_width};
 
 // The column that a field names; past the last, if it names none. Column k is tried first: most files have document 01's own order.
@@ -59,16 +59,11 @@ pub fn arrange(w: &[u8], t: usize) -> Option<[u8; WIDEST]>
 fn find_names(s: &[u8]) -> &[u8]
     ensures { result.now ≡ atr_in (lines s.now) }
 {
-    let mut c = Cursor { at: 0 };
-    while c.at < s.len() {
-        let at = c.at;
-        let l = c.line(s);
-        let e = l.span.to;
-        let x = lines::content_of(&s[at..e]);
-        if commands::command_of(x) == commands::ATR {
-            return lines::rest_of(x);
+    for line in lines_of(s) {
+        let c = lines::content_of(line.bytes);
+        if commands::command_of(c) == commands::ATR {
+            return lines::rest_of(c);
         }
-        c = l.next;
     }
     &s[..0]
 }
