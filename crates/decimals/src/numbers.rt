@@ -1,11 +1,10 @@
 // "Numbers without leading zeros", and what is made of numbers.
 ghost use Rattle.std.specs.Prelude.{◌≡◌, ◌∷◌, ◌++◌, ◌+◌, ◌%◌};
 ghost use Rattle.page.specs.Form.{decimal_in, decimal, padded, date_text, time_text, format_text};
-ghost use Rattle.page.specs.declared.Column.{Column};
 ghost use Rattle.output.specs.Put.{Puts};
 
 use output::Output;
-use page::{Date, Time};
+use page::{Column, Date, Time};
 
 // The last digit.
 fn digit_of(n: u64) -> u8
@@ -76,13 +75,13 @@ fn put_sized(out: &mut Output<'_>, kind: &[u8], size: u64, end: &[u8])
     out.put_bytes(end);
 }
 
-// "formats with the sizes above": of a column its kind and its size are told, and nothing else.
-pub fn put_format(out: &mut Output<'_>, text: bool, size: u64)
-    ensures { (c : Column) → c.text ≡ text → c.size ≡ size → Puts out.old (format_text c) out.new }
+// "formats with the sizes above"
+pub fn put_format(out: &mut Output<'_>, column: Column)
+    ensures { Puts out.old (format_text column) out.new }
 {
-    if text {
-        put_sized(out, b"char[", size, b"]");
+    if column.text {
+        put_sized(out, b"char[", column.size, b"]");
     } else {
-        put_sized(out, b"num[", size, b".0]");
+        put_sized(out, b"num[", column.size, b".0]");
     }
 }

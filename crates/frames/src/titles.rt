@@ -1,8 +1,6 @@
 // The lines that begin a section, from the fixed tables.
-ghost use Rattle.page.specs.Bytes.{bytes};
 ghost use Rattle.page.specs.Tables.{table_at};
 ghost use Rattle.page.specs.Form.{table_head};
-ghost use Rattle.words.specs.Words.{word};
 ghost use Rattle.output.specs.Put.{Puts};
 ghost use Rattle.frames.specs.Lines.{line_with};
 ghost use Rattle.frames.specs.Titles.{tbl_line, title_at, titles};
@@ -10,32 +8,24 @@ ghost use Rattle.frames.specs.Titles.{tbl_line, title_at, titles};
 use decimals::put_format;
 use output::Output;
 use page::LineEnd;
-use tables::{NAMES, find_size, find_width, is_text};
-use words::{find_word, look_name, look_title};
-
-fn put_word(out: &mut Output<'_>, n: usize)
-    ensures { Puts out.old (bytes (word n)) out.new }
-{
-    let place = find_word(n);
-    out.put_bytes(&NAMES[place.from..place.to]);
-}
+use tables::{find_column, find_name, find_title, find_width};
 
 fn put_tbl_line(out: &mut Output<'_>, ends: LineEnd, t: usize)
     ensures { Puts out.old (tbl_line ends t) out.new }
 {
     out.put_bytes(b"tbl; ");
-    put_word(out, look_title(t));
+    out.put_bytes(find_title(t));
     out.put_line_end(ends);
 }
 
-// What is said of a column: its format, or its name. "formats with the sizes above": of a column this asks for kind and size alone.
+// What is said of a column: its format, "with the sizes above", or its name.
 fn put_title(out: &mut Output<'_>, t: usize, k: usize, formats: bool)
     ensures { Puts out.old (title_at formats t k) out.new }
 {
     if formats {
-        put_format(out, is_text(t, k), find_size(t, k));
+        put_format(out, find_column(t, k));
     } else {
-        put_word(out, look_name(t, k));
+        out.put_bytes(find_name(t, k));
     }
 }
 

@@ -1,12 +1,13 @@
+use mathlib.Core.Path.{refl}
 use Rattle.page.specs.Bytes.{bytes}
 use Rattle.decimals.proofs.DecimalLaws.{format_char, format_num}
 use Rattle.output.proofs.OutputLaws.{put_as}
 use Rattle.decimals.proofs.numbers.put_format.Goals as goal
 
-pub returns-then-text : goal.returns-then-text
+pub returns-then-column-text : goal.returns-then-column-text
 unfolding bytes
-returns-then-text c x t n = put_as (format_char x _ _ t n c.if-text.true) c.put_sized.ensures
+returns-then-column-text c = put_as (format_char c.args.column _ _ refl refl c.if-column-text.true) c.put_sized.ensures
 
-pub returns-else-text : goal.returns-else-text
+pub returns-else-column-text : goal.returns-else-column-text
 unfolding bytes
-returns-else-text c x t n = put_as (format_num x _ _ t n c.if-text.false) c.put_sized-else-text.ensures
+returns-else-column-text c = put_as (format_num c.args.column _ _ refl refl c.if-column-text.false) c.put_sized-else-column-text.ensures

@@ -6,4 +6,4 @@ use Rattle.frames.proofs.titles.put_tbl_line.Goals as goal
 pub returns : goal.returns
 unfolding bytes
 returns c =
-    put_as (tbl_is _ _ _ c.look_title.ensures) (puts c.put_bytes.ensures (puts c.put_word.ensures c.put_line_end.ensures))
+    put_as (tbl_is _ _ _ c.find_title.ensures) (puts c.put_bytes.ensures (puts c.put_bytes-2.ensures c.put_line_end.ensures))
