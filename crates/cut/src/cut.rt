@@ -4,7 +4,7 @@ ghost use Rattle.page.specs.Lines.{lines, joined};
 ghost use Rattle.page.specs.Cut.{begins_table, begins_end, header_lines, trailer_lines, sections};
 ghost use Rattle.page.proofs.CutLaws.{sections_from};
 
-use lines::Cursor;
+use lines::{Cursor, lines_from};
 
 fn begins_part(l: &[u8]) -> bool
     ensures { result ≡ (begins_table l.now || begins_end l.now) }
@@ -39,14 +39,9 @@ fn count_from(s: &[u8], at: usize, n: usize) -> usize
     requires { (at ≤ length s.now) × (n ≤ at) }
     ensures { result ≡ n + length (sections_from s.now at) }
 {
-    let mut c = Cursor { at: at };
     let mut n = n;
-    while c.at < s.len() {
-        let at = c.at;
-        let l = c.line(s);
-        let e = l.span.to;
-        c = l.next;
-        if commands::begins_table(&s[at..e]) {
+    for line in lines_from(s, at) {
+        if commands::begins_table(line.bytes) {
             n += 1;
         }
     }

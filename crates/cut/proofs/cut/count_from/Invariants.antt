@@ -1,13 +1,8 @@
-use mathlib.Core.Path.{◌≡◌}
-use Prim.Native.Nat.{◌+◌, ◌-◌, ◌≤◌}
-use lib.ListN.{length}
+use Rattle.std.proofs.Common.{◌≡◌, ◌+◌, ◌≤◌, length}
 use Rattle.page.proofs.CutLaws.{sections_from}
 use Rattle.cut.proofs.cut.count_from.Given as goal
 
-abbrev pub invariant-loop-c : goal.invariant-loop-c
-invariant-loop-c l =
-    (l.c.at ≤ length l.s) × (l.n ≤ l.c.at) × (l.n + length (sections_from l.s l.c.at) ≡ l.n-2 + length (sections_from l.s l.at))
-
-abbrev pub decreases-loop-c : goal.decreases-loop-c
-decreases-loop-c l =
-    length l.s - l.c.at
+abbrev pub invariant-loop-line : goal.invariant-loop-line
+invariant-loop-line l =
+    let at = l.line-iterator.at in
+    (l.line-iterator.bytes.now ≡ l.s) × (at ≤ length l.s) × (l.n ≤ at) × (l.n + length (sections_from l.s at) ≡ l.n-2 + length (sections_from l.s l.at))

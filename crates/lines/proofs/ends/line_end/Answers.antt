@@ -1,7 +1,7 @@
 use native.Mathlib.Omega.{arith}
 use borrow.Author.Rules.{rules}
 use Rattle.page.proofs.LineLaws.{size_more, size_hit, size_end}
-use Rattle.lines.proofs.cursor.line_end.Goals as goal
+use Rattle.lines.proofs.ends.line_end.Goals as goal
 
 pub loop-i-init : goal.loop-i-init
 loop-i-init c = (c.skip_blocks-i.ensures.within, c.skip_blocks-i.ensures.size)

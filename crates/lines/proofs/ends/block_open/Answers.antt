@@ -1,7 +1,7 @@
 use mathlib.Core.Path.{sym}
 use Rattle.lines.specs.Lines.{no_lf}
 use Rattle.lines.proofs.RunLaws.{all_block}
-use Rattle.lines.proofs.cursor.block_open.Goals as goal
+use Rattle.lines.proofs.ends.block_open.Goals as goal
 
 pub returns : goal.returns
 returns c =

@@ -1,7 +1,7 @@
 use Prim.Native.Nat.{◌-◌}
 use lib.ListN.{length}
 use Rattle.lines.specs.Lines.{Onward}
-use Rattle.lines.proofs.cursor.skip_blocks.Given as goal
+use Rattle.lines.proofs.ends.skip_blocks.Given as goal
 
 abbrev pub invariant-loop-i : goal.invariant-loop-i
 invariant-loop-i l = Onward l.s l.at l.i

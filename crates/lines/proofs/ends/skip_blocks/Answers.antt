@@ -2,7 +2,7 @@ use mathlib.Core.Path.{sym, ◌∙◌}
 use borrow.Author.Tests.{not-false}
 use borrow.Author.Rules.{rules}
 use Rattle.lines.proofs.RunLaws.{onward_from, onward_more}
-use Rattle.lines.proofs.cursor.skip_blocks.Goals as goal
+use Rattle.lines.proofs.ends.skip_blocks.Goals as goal
 
 pub loop-i-init : goal.loop-i-init
 loop-i-init c = onward_from _ _ (search rules)

@@ -2,7 +2,7 @@ use mathlib.Core.Path.{sym}
 use borrow.Author.Rules.{rules}
 use Rattle.lines.specs.Lines.{no_lf}
 use Rattle.lines.proofs.RunLaws.{all_four}
-use Rattle.lines.proofs.cursor.four_open.Goals as goal
+use Rattle.lines.proofs.ends.four_open.Goals as goal
 
 pub returns : goal.returns
 returns c =
