@@ -1,7 +1,7 @@
 -- That a field is a text, by its size, and that a line has a first field. Assumes nothing.
+use Rattle.std.specs.Prelude.{None, Some, Option}
 use mathlib.Core.Path.{◌≡◌, refl, ap, sym, ◌∙◌}
 use mathlib.Core.Bool.{true, false}
-use mathlib.Core.Option.{Option, none, some}
 use Prim.Native.Nat.{ℕ, ◌+◌, ◌<◌}
 use native.Mathlib.Omega.{arith}
 use Rattle.page.specs.Bytes.{Bytes}
@@ -10,19 +10,18 @@ use Rattle.page.specs.Fields.{field_size, fields}
 use Rattle.page.specs.Header.{is_text}
 use Rattle.page.proofs.FieldLaws.{from_all, from_more}
 use Rattle.quoted.specs.Sizes.{size_of}
-use Rattle.quoted.specs.declared.texts.Size.TheVariants as S
 
-pub text_some : (o : Option Bytes) (n : ℕ) → size_of o ≡ S.Is n → is_text o ≡ true
+pub text_some : (o : Option Bytes) (n : ℕ) → size_of o ≡ Some n → is_text o ≡ true
 unfolding size_of
-text_some none n e =
+text_some None n e =
     let z : ◌≡◌ {A = ℕ} 0 1 = cc in
     absurd (omega arith)
-text_some (some t) n e = refl
+text_some (Some t) n e = refl
 
-pub text_none : (o : Option Bytes) → size_of o ≡ S.Nothing → is_text o ≡ false
+pub text_none : (o : Option Bytes) → size_of o ≡ None → is_text o ≡ false
 unfolding size_of
-text_none none e = refl
-text_none (some t) e =
+text_none None e = refl
+text_none (Some t) e =
     let z : ◌≡◌ {A = ℕ} 0 1 = cc in
     absurd (omega arith)
 

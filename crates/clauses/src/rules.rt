@@ -8,14 +8,13 @@ use crate::names::{form_named, is_ascii_name, is_latin_name};
 use commands::{CHS, SRC, count_fields, field_at};
 use dates::{is_date, is_time};
 use lines::equal;
-use quoted::Size;
 
 fn is_text(f: &[u8]) -> bool
     ensures { result ≡ is_text (text_of f.now) }
 {
     match quoted::text_size(f) {
-        Size::Is(n) => true,
-        Size::Nothing => false,
+        Some(n) => true,
+        None => false,
     }
 }
 

@@ -22,14 +22,11 @@ pub fn find_nth(s: &[u8], k: usize) -> usize
     ensures { Reached s.now k result }
 {
     let mut at = find_section(s, 0);
-    let mut j: usize = 0;
-    while j < k {
+    for _ in 0..k {
         if s.len() <= at {
             return at;
         }
-        let e = section_end(s, at);
-        at = find_section(s, e);
-        j += 1;
+        at = find_section(s, section_end(s, at));
     }
     at
 }

@@ -5,13 +5,6 @@ ghost use Rattle.digits.specs.Magnitudes.{magnitude_of};
 
 use page::Number;
 
-// What 1 to 18 digits are worth.
-#[derive(Clone, Copy)]
-pub enum Magnitude {
-    Is(u64),
-    Nothing,
-}
-
 pub fn is_digit(b: u8) -> bool
     ensures { result ≡ digit b }
 {
@@ -24,26 +17,26 @@ pub fn widen(b: u8) -> u64
     b as u64
 }
 
-pub fn read_digits(ds: &[u8]) -> Magnitude
+pub fn read_digits(ds: &[u8]) -> Option<u64>
     ensures { result ≡ magnitude_of ds.now }
 {
     if ds.len() == 0 {
-        return Magnitude::Nothing;
+        return None;
     }
     if 18 < ds.len() {
-        return Magnitude::Nothing;
+        return None;
     }
     let mut v: u64 = 0;
     let mut i = 0;
     while i < ds.len() {
         let b = ds[i];
         if !is_digit(b) {
-            return Magnitude::Nothing;
+            return None;
         }
         v = v * 10 + (widen(b) - 48);
         i += 1;
     }
-    Magnitude::Is(v)
+    Some(v)
 }
 
 // `-0` is 0.
@@ -65,13 +58,13 @@ pub fn read_number(f: &[u8]) -> Number
     }
     if f[0] == 45 {
         match read_digits(&f[1..]) {
-            Magnitude::Is(v) => negate(v),
-            Magnitude::Nothing => Number::Nothing,
+            Some(v) => negate(v),
+            None => Number::Nothing,
         }
     } else {
         match read_digits(f) {
-            Magnitude::Is(v) => Number::Plus(v),
-            Magnitude::Nothing => Number::Nothing,
+            Some(v) => Number::Plus(v),
+            None => Number::Nothing,
         }
     }
 }

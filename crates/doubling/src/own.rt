@@ -5,7 +5,7 @@ ghost use Rattle.output.specs.Put.{Put, Wrote};
 ghost use Rattle.doubling.specs.Raw.{undoubled};
 
 use output::{put_byte, refuse_room};
-use page::{Refusal, Written};
+use page::Refusal;
 
 // Of what stands between its quotes in the file.
 pub fn put_own(out: &mut [u8], at: usize, raw: &[u8]) -> usize
@@ -29,17 +29,17 @@ pub fn put_own(out: &mut [u8], at: usize, raw: &[u8]) -> usize
 }
 
 // The same into the front of `out`, whole or not at all.
-pub fn hand_own(out: &mut [u8], refusal: Refusal, raw: &[u8]) -> Written
+pub fn hand_own(out: &mut [u8], refusal: Refusal, raw: &[u8]) -> Result<usize, Refusal>
     requires { length raw.now ≤ limit }
     ensures { Wrote refusal (undoubled false raw.now) out.old out.new result }
 {
     if refusal.number != 0 {
-        return Written::Refused(refusal);
+        return Err(refusal);
     }
     let need = put_own(&mut out[..0], 0, raw);
     let room = refuse_room(need, out.len());
     if room.number != 0 {
-        return Written::Refused(room);
+        return Err(room);
     }
-    Written::Length(put_own(out, 0, raw))
+    Ok(put_own(out, 0, raw))
 }

@@ -1,6 +1,6 @@
 // A field of a record, read as its column asks: a text with its span, a number with its value, a missing number, or a refusal with its
 // number.
-ghost use Rattle.std.specs.Prelude.{◌≡◌, Bool, true, false, ◌+◌, ◌-◌, ◌≤◌, length, take, drop};
+ghost use Rattle.std.specs.Prelude.{◌≡◌, Bool, true, false, ◌+◌, ◌-◌, ◌≤◌, length, take, drop, Some};
 ghost use Rattle.page.specs.Bytes.{all};
 ghost use Rattle.page.specs.Lines.{allowed};
 ghost use Rattle.page.specs.Fields.{field_size, text_of};
@@ -8,13 +8,12 @@ ghost use Rattle.page.specs.Section.{words_of, text_field, field_of, amount};
 ghost use Rattle.page.specs.Places.{span_from};
 ghost use Rattle.page.specs.Reading.{later_field};
 ghost use Rattle.digits.specs.Runs.{field_from};
-ghost use Rattle.quoted.specs.declared.texts.Size.TheVariants as S;
 ghost use Rattle.quoted.specs.Sizes.{size_of};
 
 use amounts::judge_number;
 use digits::number_at;
 use page::{Column, Field, Number, Span};
-use quoted::{Size, text_at, text_size};
+use quoted::{text_at, text_size};
 
 // A field, where it ends, and whether its bytes are known to be allowed.
 #[derive(Clone, Copy)]
@@ -27,7 +26,7 @@ pub struct Reading {
 // 13: the part of w from one place to another is a text of n bytes. "Spaces at the end of a text in a record no longer belong to it": its
 // size and its span are without those that stand before the closing quote.
 fn judge_text(w: &[u8], from: usize, to: usize, n: usize, size: u64) -> Field
-    requires { (from ≤ to) × (to ≤ length w.now) × (size_of (text_of (take (to - from) (drop from w.now))) ≡ S.Is n) }
+    requires { (from ≤ to) × (to ≤ length w.now) × (size_of (text_of (take (to - from) (drop from w.now))) ≡ Some n) }
     ensures { result ≡ later_field from (text_field size (words_of (take (to - from) (drop from w.now)))) }
 {
     let close = to - 1;
@@ -48,8 +47,8 @@ fn read_text_field(w: &[u8], from: usize, to: usize, size: u64) -> Field
     ensures { result ≡ later_field from (text_field size (words_of (take (to - from) (drop from w.now)))) }
 {
     match text_size(&w[from..to]) {
-        Size::Is(n) => judge_text(w, from, to, n, size),
-        Size::Nothing => Field::Refused(11),
+        Some(n) => judge_text(w, from, to, n, size),
+        None => Field::Refused(11),
     }
 }
 

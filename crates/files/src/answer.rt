@@ -5,7 +5,7 @@ ghost use Rattle.page.specs.File.{filed_of, rows_of, first_unsound, record_refus
 ghost use Rattle.seats.specs.Seating.{Ready};
 
 use crate::unsound::first_unsound;
-use page::{Checked, Refusal};
+use page::Refusal;
 use references::first_lost;
 use repeats::first_repeat;
 use seats::{Seats, seat_tables};
@@ -90,12 +90,12 @@ pub fn check_file(s: &[u8]) -> Refusal
     check_known(s, false)
 }
 
-pub fn check(s: &[u8]) -> Checked
+pub fn check(s: &[u8]) -> Result<(), Refusal>
     ensures { result ≡ check_of s.now }
 {
     let r = check_file(s);
     if r.number == 0 {
-        return Checked::Sound;
+        return Ok(());
     }
-    Checked::Refused(r)
+    Err(r)
 }

@@ -1,8 +1,8 @@
 -- Laws of the written lines: what they are made of, and how long they are at most. Assumes nothing.
+use Rattle.std.specs.Prelude.{None, Option, Some}
 use mathlib.Core.Path.{◌≡◌, refl, ap, ◌∙◌}
 use mathlib.Core.Bool.{Bool, true, false}
 use mathlib.Core.List.{List, [], ◌∷◌, ◌++◌, append-nil, append_assoc}
-use mathlib.Core.Option.{Option, none, some}
 use Prim.Native.Nat.{ℕ, ◌+◌, ◌*◌, ◌≤◌}
 use Prim.Native.String.{String}
 use native.Mathlib.Omega.{arith}
@@ -14,8 +14,6 @@ use Rattle.page.specs.declared.LineEnd.{LineEnd}
 use Rattle.page.specs.declared.Span.{Span}
 use Rattle.page.specs.declared.Date.{Date}
 use Rattle.page.specs.declared.Time.{Time}
-use Rattle.page.specs.declared.Stated.{Stated}
-use Rattle.page.specs.declared.Stated.TheVariants as St
 use Rattle.page.specs.declared.Header.{Header}
 use Rattle.page.proofs.LineEndLaws.{line_end_length}
 use Rattle.doubling.specs.Raw.{raw_text}
@@ -119,18 +117,18 @@ unfolding text_line
 text_line_length ends word s place =
     omega (arith, one_field_length ends word (raw_text (part place s)), raw_length (part place s), part_length place s)
 
-pub stated_none : (ends : LineEnd) (word s : Bytes) (x : Stated) → x ≡ St.Absent → [] ≡ stated_line ends word s x
+pub stated_none : (ends : LineEnd) (word s : Bytes) (x : Option Span) → x ≡ None → [] ≡ stated_line ends word s x
 unfolding stated_line
 stated_none ends word s x e = rw e
 
-pub stated_at : (ends : LineEnd) (word s : Bytes) (x : Stated) (place : Span) → x ≡ St.At place → text_line ends word s place ≡ stated_line ends word s x
+pub stated_at : (ends : LineEnd) (word s : Bytes) (x : Option Span) (place : Span) → x ≡ Some place → text_line ends word s place ≡ stated_line ends word s x
 unfolding stated_line
 stated_at ends word s x place e = rw e
 
-pub stated_length : (ends : LineEnd) (word s : Bytes) (x : Stated) → length (stated_line ends word s x) ≤ length word + length s + 6
+pub stated_length : (ends : LineEnd) (word s : Bytes) (x : Option Span) → length (stated_line ends word s x) ≤ length word + length s + 6
 unfolding stated_line
-stated_length ends word s St.Absent = omega arith
-stated_length ends word s (St.At place) = text_line_length ends word s place
+stated_length ends word s None = omega arith
+stated_length ends word s (Some place) = text_line_length ends word s place
 
 pub head_raw_length : (ends : LineEnd) (s : Bytes) (h : Header) → length (head_raw ends s h) ≤ 5 * length s + 122
 unfolding bytes head_raw
@@ -146,9 +144,9 @@ unfolding raw_text quoted
 raw_quoted t = refl
 
 -- A header by places says what a header by values says, where each text's bytes in the file are the text with its quotes doubled.
-pub data Same_stated (s : Bytes) : Stated → Option Bytes → Type 0 where
-  absent : Same_stated s St.Absent none
-  at : (place : Span) (t : Bytes) → part place s ≡ doubled t → Same_stated s (St.At place) (some t)
+pub data Same_stated (s : Bytes) : Option Span → Option Bytes → Type 0 where
+  absent : Same_stated s None None
+  at : (place : Span) (t : Bytes) → part place s ≡ doubled t → Same_stated s (Some place) (Some t)
 
 pub record Same_head (s : Bytes) (x : Header) (h : Head) : Type 0 where
   pub source : part x.source s ≡ doubled h.source
@@ -172,7 +170,7 @@ text_line_same : (ends : LineEnd) (word : String) (s : Bytes) (place : Span) (t 
 unfolding text_line
 text_line_same ends word s place t e = rw (raw_part s place t e) (line_with_is ends word (quoted t ∷ []))
 
-stated_same : (ends : LineEnd) (word : String) (s : Bytes) (x : Stated) (o : Option Bytes) → Same_stated s x o → stated_line ends (bytes word) s x ≡ line_if ends word o
+stated_same : (ends : LineEnd) (word : String) (s : Bytes) (x : Option Span) (o : Option Bytes) → Same_stated s x o → stated_line ends (bytes word) s x ≡ line_if ends word o
 unfolding stated_line line_if
 stated_same ends word s x o absent = refl
 stated_same ends word s x o (at place t e) = text_line_same ends word s place t e

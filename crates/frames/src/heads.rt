@@ -7,7 +7,7 @@ use crate::written_lines::{put_line, put_text_line};
 use decimals::{put_date, put_time};
 use doubling::put_raw_part;
 use output::{put_byte, put_bytes, put_line_end};
-use page::{Date, Header, LineEnd, Span, Stated, Time};
+use page::{Date, Header, LineEnd, Span, Time};
 
 fn put_src_line(
     out: &mut [u8],
@@ -48,14 +48,14 @@ fn put_stated_line(
     ends: LineEnd,
     word: &[u8],
     file: &[u8],
-    stated: Stated,
+    stated: Option<Span>,
 ) -> usize
     requires { at + length word.now + length file.now + 6 < 2 ^ 62 }
     ensures { Put out.old at (stated_line ends word.now file.now stated) out.new result }
 {
     match stated {
-        Stated::Absent => at,
-        Stated::At(place) => put_text_line(out, at, ends, word, file, place),
+        None => at,
+        Some(place) => put_text_line(out, at, ends, word, file, place),
     }
 }
 

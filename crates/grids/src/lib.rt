@@ -11,8 +11,7 @@ ghost use Rattle.output.specs.Put.{Put};
 
 use cells::put_values;
 use lines::Cursor;
-use page::{Refusal, Written};
-use sections::Located;
+use page::Refusal;
 use tables::{HIGHS, KINDS, LOWS, MARKS, WIDEST, find_width};
 
 // The records of the lines from a place on, in the order o.
@@ -61,7 +60,7 @@ fn put_records(cells: &mut [u64], s: &[u8], from: usize, t: usize, o: &[u8; WIDE
 }
 
 // The section at a place: "the section's verdict", then 21 for too little room; three numbers for each column of each record.
-fn hand_table(file: &[u8], section: usize, at: usize, cells: &mut [u64]) -> Written
+fn hand_table(file: &[u8], section: usize, at: usize, cells: &mut [u64]) -> Result<usize, Refusal>
     requires { Begins file.now section at }
     ensures { (result ≡ table_of file.now section (length cells.old))
         × (cells.new ≡ cells_after file.now section cells.old) }
@@ -69,7 +68,7 @@ fn hand_table(file: &[u8], section: usize, at: usize, cells: &mut [u64]) -> Writ
     let latin = headers::read_charset(file);
     let row = sections::read_section(file, at, latin);
     if row.verdict != 0 {
-        return Written::Refused(Refusal {
+        return Err(Refusal {
             number: row.verdict,
             section: section,
             line: row.line,
@@ -78,20 +77,20 @@ fn hand_table(file: &[u8], section: usize, at: usize, cells: &mut [u64]) -> Writ
     let t = names::table_at(file, at);
     let n = find_width(t) * 3;
     if cells.len() < row.records * n {
-        return Written::Refused(sections::refuse_with(21));
+        return Err(sections::refuse_with(21));
     }
     let e = at + row.length;
     let o = names::find_order(&file[at..e], t);
-    Written::Length(put_records(cells, &file[..e], at, t, &o))
+    Ok(put_records(cells, &file[..e], at, t, &o))
 }
 
 // All values of section i, from 1, record by record and column by column.
-pub fn table(file: &[u8], section: usize, cells: &mut [u64]) -> Written
+pub fn table(file: &[u8], section: usize, cells: &mut [u64]) -> Result<usize, Refusal>
     ensures { (result ≡ table_of file.now section (length cells.old))
         × (cells.new ≡ cells_after file.now section cells.old) }
 {
     match sections::locate(file, section) {
-        Located::At(at) => hand_table(file, section, at, cells),
-        Located::Refused(x) => Written::Refused(x),
+        Ok(at) => hand_table(file, section, at, cells),
+        Err(x) => Err(x),
     }
 }

@@ -7,7 +7,7 @@ ghost use Rattle.page.specs.Header.{mod_step, other_step, met_none, head_step, h
 
 use clauses::{end_header, meet, was_met};
 use lines::Cursor;
-use page::{Finding, Heading, Met};
+use page::{Finding, Met};
 
 fn begin(form: u32) -> Met
     ensures { result ≡ met_none form }
@@ -24,46 +24,46 @@ fn begin(form: u32) -> Met
 }
 
 // "The first other line is `mod`": a line of command k, before any has been met.
-fn step_mode(w: &[u8], k: u32) -> Heading
+fn step_mode(w: &[u8], k: u32) -> Option<Met>
     ensures { result ≡ mod_step k (fields w.now) }
 {
     if k != commands::MOD {
-        return Heading::Stop;
+        return None;
     }
     let form = clauses::read_mode(w);
     if form == 0 {
-        return Heading::Stop;
+        return None;
     }
-    Heading::Go(begin(form))
+    Some(begin(form))
 }
 
 // "Then `src`, `chs`, `ver`, `ifv` once each and `dve`, `fft` at most once, in any order."
-fn step_other(w: &[u8], m: Met, k: u32) -> Heading
+fn step_other(w: &[u8], m: Met, k: u32) -> Option<Met>
     ensures { result ≡ other_step m k (fields w.now) }
 {
     if was_met(m, k) {
-        return Heading::Stop;
+        return None;
     }
     let form = m.form;
     if clauses::holds(w, k, form) {
-        return Heading::Go(meet(m, k));
+        return Some(meet(m, k));
     }
-    Heading::Stop
+    None
 }
 
 // What a line leads to: `c` is its content.
-pub fn step_header(c: &[u8], m: Met) -> Heading
+pub fn step_header(c: &[u8], m: Met) -> Option<Met>
     ensures { result ≡ head_step m c.now }
 {
     if !commands::is_clean(c, false) {
-        return Heading::Stop;
+        return None;
     }
     if lines::is_blank(c) {
-        return Heading::Go(m);
+        return Some(m);
     }
     let k = commands::command_of(c);
     if k == commands::COM {
-        return Heading::Go(m);
+        return Some(m);
     }
     let w = lines::rest_of(c);
     if m.form == 0 {
@@ -87,10 +87,10 @@ fn read_lines(s: &[u8]) -> Finding
         c = l.next;
         n += 1;
         match st {
-            Heading::Go(q) => {
+            Some(q) => {
                 m = q;
             }
-            Heading::Stop => {
+            None => {
                 return Finding {
                     verdict: 2,
                     line: n,

@@ -10,7 +10,7 @@ ghost use Rattle.page.specs.File.{limit};
 use crate::find::find_line;
 use commands::{CHS, DVE, FFT, IFV, MOD, SRC, VER};
 use cut::header_size;
-use page::{Date, Header, Span, Stated, Time};
+use page::{Date, Header, Span, Time};
 
 // What follows the first `;` of the line of command k.
 fn rest_in(h: &[u8], k: u32) -> &[u8]
@@ -67,14 +67,14 @@ fn text_in(h: &[u8], k: u32) -> Span
 }
 
 // "Whether `dve` and `fft` stand is kept."
-fn state_text(h: &[u8], k: u32) -> Stated
+fn state_text(h: &[u8], k: u32) -> Option<Span>
     requires { (k < 16) × (length h.now ≤ limit) }
     ensures { result ≡ span_if k (lines h.now) }
 {
     if crate::find::stands_in(h, k) {
-        return Stated::At(text_in(h, k));
+        return Some(text_in(h, k));
     }
-    Stated::Absent
+    None
 }
 
 fn values_in(h: &[u8]) -> Header

@@ -1,8 +1,8 @@
 -- A record's fields from the left, against the columns of its table as they stand. Assumes nothing.
+use Rattle.std.specs.Prelude.{None, Option, Some}
 use mathlib.Core.Path.{◌≡◌, refl, ap, sym, ◌∙◌}
 use mathlib.Core.Bool.{Bool, true, false, ◌&&◌}
 use mathlib.Core.List.{List, [], ◌∷◌}
-use mathlib.Core.Option.{Option, none, some}
 use Prim.Native.Nat.{ℕ, ◌+◌, ◌-◌, ◌<◌, ◌≤◌}
 use native.Mathlib.Numerals.{add-one}
 use native.Mathlib.Omega.{arith}
@@ -70,13 +70,13 @@ span_read c f k sp e = by c.text (left_out c.optional f) e
         let x : sp ≡ moved n s = cc in
         rw x (omega arith)
 
-    sized : (x : Wording) → words_of f ≡ some x → (b : Bool) → F.Text sp ≡ later_field k (pick b (F.Text x.span) (F.Refused 13)) → sp.from ≤ sp.to
+    sized : (x : Wording) → words_of f ≡ Some x → (b : Bool) → F.Text sp ≡ later_field k (pick b (F.Text x.span) (F.Refused 13)) → sp.from ≤ sp.to
     sized x w true q = let y = words_there f x w in later k x.span (omega (arith, y.begins, y.ends)) q
     sized x w false q = absurd (let z : ◌≡◌ {A = ℕ} 0 1 = cc in omega arith)
 
     worded_so : (o : Option Wording) → words_of f ≡ o → F.Text sp ≡ later_field k (text_field c.hi o) → sp.from ≤ sp.to
-    worded_so none w q = absurd (let z : ◌≡◌ {A = ℕ} 0 1 = cc in omega arith)
-    worded_so (some x) w q = sized x w (leb (length x.own) c.hi) q
+    worded_so None w q = absurd (let z : ◌≡◌ {A = ℕ} 0 1 = cc in omega arith)
+    worded_so (Some x) w q = sized x w (leb (length x.own) c.hi) q
 
     no_text : {r : Field} → NumberRead (number_of f) r → F.Text sp ≡ later_field k r → sp.from ≤ sp.to
     no_text (as_number n e) q = absurd (let z : ◌≡◌ {A = ℕ} 0 1 = cc in omega arith)
@@ -102,18 +102,18 @@ text_known : (c : Column) (f : Bytes) → field_number (field_of c f) ≡ 0 → 
 unfolding field_of text_field field_number judged_number record_text doubled
 text_known c f z e = rw e (by (words_of f) refl (rw e at z))
   where
-    bare : (n : ℕ) (t : Bytes) → n ≡ length (doubled t) → eqb n 0 ≡ no_bytes (some t)
+    bare : (n : ℕ) (t : Bytes) → n ≡ length (doubled t) → eqb n 0 ≡ no_bytes (Some t)
     bare n [] q = eq-eqb n 0 q
     bare n (b ∷ t) q = ne_eqb n 0 (λ (y : n ≡ 0). omega (arith, doubled_least (b ∷ t)))
 
-    sized : (x : Wording) → words_of f ≡ some x → (b : Bool) → field_number (pick b (F.Text x.span) (F.Refused 13)) ≡ 0
-        → eqb (judged_number (pick b (F.Text x.span) (F.Refused 13))) 0 ≡ no_bytes (some x.own)
+    sized : (x : Wording) → words_of f ≡ Some x → (b : Bool) → field_number (pick b (F.Text x.span) (F.Refused 13)) ≡ 0
+        → eqb (judged_number (pick b (F.Text x.span) (F.Refused 13))) 0 ≡ no_bytes (Some x.own)
     sized x w true q = let y = words_there f x w in bare (x.span.to - x.span.from) x.own (omega (arith, y.begins, y.ends))
     sized x w false q = absurd (omega arith)
 
     by : (o : Option Wording) → words_of f ≡ o → field_number (text_field c.hi o) ≡ 0 → eqb (judged_number (text_field c.hi o)) 0 ≡ no_bytes (own_of o)
-    by none w q = absurd (omega arith)
-    by (some x) w q = sized x w (leb (length x.own) c.hi) q
+    by None w q = absurd (omega arith)
+    by (Some x) w q = sized x w (leb (length x.own) c.hi) q
 
 kept_of : (c : Column) (f : Bytes) → field_number (field_of c f) ≡ 0 → Kept c f (judged_number (field_of c f))
 kept_of c f z = record { worth = number_known c f z; empty = text_known c f z }

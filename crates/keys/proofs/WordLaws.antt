@@ -1,8 +1,8 @@
 -- The own bytes of a text of a record are what stands in its span, each doubled quote counted once. Assumes nothing.
+use Rattle.std.specs.Prelude.{None, Option, Some}
 use mathlib.Core.Path.{◌≡◌, refl, ap, sym, ◌∙◌}
 use mathlib.Core.Bool.{Bool, true, false, true≢false}
 use mathlib.Core.List.{[]}
-use mathlib.Core.Option.{Option, none, some}
 use Prim.Native.Nat.{ℕ, ◌+◌, ◌-◌, ◌≤◌}
 use native.Mathlib.Omega.{arith}
 use borrow.Author.Tests.{le-leb}
@@ -32,7 +32,7 @@ record Spanned (f : Bytes) (x : Wording) : Type 0 where
   within : x.span.to ≤ length f
   own : undoubled false (part x.span f) ≡ x.own
 
-spanned : (f : Bytes) (x : Wording) → words_of f ≡ some x → Spanned f x
+spanned : (f : Bytes) (x : Wording) → words_of f ≡ Some x → Spanned f x
 spanned f x e =
     let a = words_there f x e in
     record {
@@ -42,7 +42,7 @@ spanned f x e =
     }
 
 -- it has no more bytes than the field
-short : (f : Bytes) (x : Wording) → words_of f ≡ some x → length x.own ≤ length f
+short : (f : Bytes) (x : Wording) → words_of f ≡ Some x → length x.own ≤ length f
 short f x e =
     let z = spanned f x e in
     let n = part_length x.span.from x.span.to f z.within in
@@ -79,7 +79,7 @@ module _ (w : Bytes) (at : ℕ) (h : at ≤ length w) (c : Column) (x : c.text �
   unfolding field_of
   read_is r q = q ∙ rw x
 
-  small : (v : Wording) → words_of f ≡ some v → leb (length v.own) c.hi ≡ true
+  small : (v : Wording) → words_of f ≡ Some v → leb (length v.own) c.hi ≡ true
   small v y = le-leb (length v.own) c.hi (omega (arith, short f v y, room, there.1))
 
   pub text_told : (r : Field) → r ≡ later_field k (field_of c f) → (sp : Span) → r ≡ F.Text sp
@@ -89,8 +89,8 @@ module _ (w : Bytes) (at : ℕ) (h : at ≤ length w) (c : Column) (x : c.text �
     where
       by : (o : Option Wording) → words_of f ≡ o → F.Text sp ≡ later_field k (text_field c.hi (words_of f))
           → (sp.from ≤ sp.to) × (sp.to ≤ length w) × (undoubled false (part sp w) ≡ own_bytes (own_of (words_of f)))
-      by none y z = absurd (let u = rw y at z in let n : ◌≡◌ {A = ℕ} 0 1 = cc in omega arith)
-      by (some v) y z =
+      by None y z = absurd (let u = rw y at z in let n : ◌≡◌ {A = ℕ} 0 1 = cc in omega arith)
+      by (Some v) y z =
           let u = rw (y, small v y) at z in
           let m : sp ≡ moved k v.span = cc in
           let a = spanned f v y in
@@ -108,8 +108,8 @@ module _ (w : Bytes) (at : ℕ) (h : at ≤ length w) (c : Column) (x : c.text �
   text_refused r q n e = by (words_of f) refl (sym e ∙ read_is r q)
     where
       by : (o : Option Wording) → words_of f ≡ o → F.Refused n ≡ later_field k (text_field c.hi (words_of f)) → own_bytes (own_of (words_of f)) ≡ []
-      by none y z = rw y
-      by (some v) y z = absurd (let u = rw (y, small v y) at z in let m : ◌≡◌ {A = ℕ} 0 1 = cc in omega arith)
+      by None y z = rw y
+      by (Some v) y z = absurd (let u = rw (y, small v y) at z in let m : ◌≡◌ {A = ℕ} 0 1 = cc in omega arith)
 
   -- neither a number nor a missing one
   text_only : (r : Field) → r ≡ later_field k (field_of c f) → counted r ≡ false
@@ -117,8 +117,8 @@ module _ (w : Bytes) (at : ℕ) (h : at ≤ length w) (c : Column) (x : c.text �
   text_only r q = by (words_of f) refl (read_is r q)
     where
       by : (o : Option Wording) → words_of f ≡ o → r ≡ later_field k (text_field c.hi (words_of f)) → counted r ≡ false
-      by none y z = rw (z, y)
-      by (some v) y z = rw (z, y, small v y)
+      by None y z = rw (z, y)
+      by (Some v) y z = rw (z, y, small v y)
 
   pub text_else : (r : Field) → r ≡ later_field k (field_of c f) → ((sp : Span) → r ≡ F.Text sp → ⊥) → packed (own_bytes (record_text f)) ≡ 0
   unfolding packed packed_from

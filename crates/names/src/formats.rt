@@ -3,7 +3,7 @@ ghost use Rattle.std.specs.Prelude.{◌≡◌};
 ghost use Rattle.page.specs.Bytes.{until};
 ghost use Rattle.page.specs.Section.{no_digit, size_ok, formed, format_ok};
 
-use digits::{Magnitude, is_digit, read_digits};
+use digits::{is_digit, read_digits};
 
 // How many digits stand at the front.
 fn count_digits(w: &[u8]) -> usize
@@ -24,13 +24,13 @@ fn is_size(w: &[u8]) -> bool
     ensures { result ≡ size_ok w.now }
 {
     match read_digits(w) {
-        Magnitude::Is(v) => {
+        Some(v) => {
             if w[0] == 48 {
                 return false;
             }
             v <= 255
         }
-        Magnitude::Nothing => false,
+        None => false,
     }
 }
 

@@ -1,5 +1,6 @@
 -- A form is written whole or not at all: from a measuring pass over no room and a writing pass over all of it to what document 01
 -- says of lent output, whatever the form. Assumes nothing.
+use Rattle.std.specs.Prelude.{Err, Ok, Result}
 use mathlib.Core.Path.{◌≡◌, refl, ap, ◌∙◌}
 use mathlib.Core.Bool.{Bool, true, false, ◌||◌}
 use mathlib.Core.List.{[], ◌++◌}
@@ -9,12 +10,10 @@ use borrow.Author.Tests.{eq-eqb, ne_eqb, ltb-false}
 use lib.Dec.{eqb, ltb}
 use lib.ListN.{length, drop}
 use Rattle.page.specs.Bytes.{Bytes, pick}
-use Rattle.page.specs.Answers.{earlier, refuse_if, written}
+use Rattle.page.specs.Answers.{earlier, refuse_if, answered}
 use Rattle.page.specs.File.{limit}
 use Rattle.page.specs.Writing.{put_refusal, put_of, put_after}
 use Rattle.page.specs.declared.Refusal.{Refusal}
-use Rattle.page.specs.declared.Written.{Written}
-use Rattle.page.specs.declared.Written.TheVariants as W
 use Rattle.output.specs.Put.{Put, Wrote}
 use Rattle.output.proofs.PutLaws.{counted, put_room}
 
@@ -26,19 +25,19 @@ put_front {form} {m} {r} l p h =
 
 -- by the refusal that stands in the end
 by_refusal : (r q : Refusal) (form l : Bytes) → put_refusal r form (length l) ≡ q
-    → (w : Written) (m : Bytes) → w ≡ written q (length form) → m ≡ pick (eqb q.number 0) (form ++ drop (length form) l) l
+    → (w : Result ℕ Refusal) (m : Bytes) → w ≡ answered q (length form) → m ≡ pick (eqb q.number 0) (form ++ drop (length form) l) l
     → Wrote r form l m w
 unfolding put_of put_after
 by_refusal r q form l e w m a b = record { answer = rw e a; left = rw e b }
 
-stands : (r q : Refusal) (form l : Bytes) → put_refusal r form (length l) ≡ q → (q.number ≡ 0 → ⊥) → Wrote r form l l (W.Refused q)
-unfolding written
+stands : (r q : Refusal) (form l : Bytes) → put_refusal r form (length l) ≡ q → (q.number ≡ 0 → ⊥) → Wrote r form l l (Err q)
+unfolding answered
 stands r q form l e h =
     let x : eqb q.number 0 ≡ _ = ne_eqb q.number 0 h in
-    by_refusal r q form l e (W.Refused q) l (rw x) (rw x)
+    by_refusal r q form l e (Err q) l (rw x) (rw x)
 
 -- what refused the call before any writing
-pub refused : (r : Refusal) (form l : Bytes) → (r.number ≡ 0 → ⊥) → Wrote r form l l (W.Refused r)
+pub refused : (r : Refusal) (form l : Bytes) → (r.number ≡ 0 → ⊥) → Wrote r form l l (Err r)
 unfolding put_refusal earlier
 refused r form l h = stands r r form l (rw (ne_eqb r.number 0 h)) h
 
@@ -58,7 +57,7 @@ module _ (r q : Refusal) (form l : Bytes) {e : Bytes} {n : ℕ} (none : r.number
       let b : n ≡ length form = (counted measured).1 in
       rw (eq-eqb r.number 0 none, room, a, b)
 
-  pub no_room : (q.number ≡ 0 → ⊥) → Wrote r form l (e ++ l) (W.Refused q)
+  pub no_room : (q.number ≡ 0 → ⊥) → Wrote r form l (e ++ l) (Err q)
   no_room h =
       let a : e ++ l ≡ l = ap (λ (x : Bytes). x ++ l) (counted measured).0 in
       rw a (stands r q form l in_the_end h)
@@ -69,11 +68,11 @@ module _ (r q : Refusal) (form l : Bytes) {e : Bytes} {n : ℕ} (none : r.number
       let b : length (e ++ l) ≡ length l = ap (λ (x : Bytes). length (x ++ l)) (counted measured).0 in
       omega (arith, ltb-false (length (e ++ l)) n a, (counted measured).1)
 
-  pub fits : q.number ≡ 0 → {m : Bytes} {k : ℕ} → Put (e ++ l) 0 form m k → Wrote r form l m (W.Length k)
-  unfolding written
+  pub fits : q.number ≡ 0 → {m : Bytes} {k : ℕ} → Put (e ++ l) 0 form m k → Wrote r form l m (Ok k)
+  unfolding answered
   fits h {m} {k} p =
       let a : e ≡ [] = (counted measured).0 in
       let w : Put l 0 form m k = rw a at p in
       let x : k ≡ length form = omega (arith, w.next) in
       let y : eqb q.number 0 ≡ _ = eq-eqb q.number 0 h in
-      by_refusal r q form l in_the_end (W.Length k) m (rw (y, x)) (rw y (put_front l w (omega (arith, long_enough h))))
+      by_refusal r q form l in_the_end (Ok k) m (rw (y, x)) (rw y (put_front l w (omega (arith, long_enough h))))

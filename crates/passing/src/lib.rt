@@ -2,11 +2,10 @@
 // one passes.
 #![tactic(auto)]
 
-ghost use Rattle.std.specs.Prelude.{◌≡◌, true, ℕ, ◌+◌, ◌≤◌, length, drop, get_or};
+ghost use Rattle.std.specs.Prelude.{◌≡◌, true, ℕ, ◌+◌, ◌≤◌, length, drop, get_or, Ok};
 ghost use Rattle.page.specs.Lines.{lines};
 ghost use Rattle.page.specs.Section.{content_step, step, run};
 ghost use Rattle.page.specs.declared.Phase.TheVariants as P;
-ghost use Rattle.page.specs.declared.Step.TheVariants as S;
 ghost use Rattle.tables.specs.Arrays as rows;
 ghost use Rattle.arrangement.specs.Orders.{held, Stands};
 
@@ -45,7 +44,7 @@ fn passes_other(
     highs: &[u32; COLUMNS],
 ) -> bool
     requires { Stands t o.now × (kinds.now ≡ rows.kinds) × (marks.now ≡ rows.marks) × (lows.now ≡ rows.lows) × (highs.now ≡ rows.highs) }
-    ensures { result ≡ true → (n : ℕ) → content_step latin (P.Rows t m n) (held t o.now) c.now ≡ S.Go (P.Rows t 0 (n + 1)) }
+    ensures { result ≡ true → (n : ℕ) → content_step latin (P.Rows t m n) (held t o.now) c.now ≡ Ok (P.Rows t 0 (n + 1)) }
 {
     if commands::command_of(c) != commands::REC {
         return false;
@@ -70,7 +69,7 @@ fn passes_line(
     highs: &[u32; COLUMNS],
 ) -> bool
     requires { Stands t o.now × (kinds.now ≡ rows.kinds) × (marks.now ≡ rows.marks) × (lows.now ≡ rows.lows) × (highs.now ≡ rows.highs) }
-    ensures { result ≡ true → (n : ℕ) → step latin (P.Rows t m n) (held t o.now) l.now ≡ S.Go (P.Rows t 0 (n + 1)) }
+    ensures { result ≡ true → (n : ℕ) → step latin (P.Rows t m n) (held t o.now) l.now ≡ Ok (P.Rows t 0 (n + 1)) }
 {
     let c = lines::content_of(l);
     if is_plain(c) {

@@ -5,8 +5,8 @@ ghost use Rattle.page.specs.Fields.{text_of};
 ghost use Rattle.page.specs.Marks.{mark_number, mark_text, mark_in, remark_of};
 ghost use Rattle.page.specs.Records.{waits};
 
-use crate::texts::{Size, text_size};
-use digits::{Magnitude, read_digits};
+use crate::texts::text_size;
+use digits::read_digits;
 use page::Remark;
 
 // "the field number, without leading zeros, and nothing more"
@@ -14,13 +14,13 @@ fn read_mark_number(w: &[u8]) -> Remark
     ensures { result ≡ mark_number w.now }
 {
     match read_digits(w) {
-        Magnitude::Is(v) => {
+        Some(v) => {
             if w[0] == 48 {
                 return Remark::Unreadable;
             }
             Remark::Mark(v)
         }
-        Magnitude::Nothing => Remark::Unreadable,
+        None => Remark::Unreadable,
     }
 }
 
@@ -41,11 +41,11 @@ fn read_mark_field(f: &[u8]) -> Remark
     ensures { result ≡ mark_in (text_of f.now) }
 {
     match text_size(f) {
-        Size::Is(_) => {
+        Some(_) => {
             let e = f.len() - 1;
             read_mark_text(&f[1..e])
         }
-        Size::Nothing => Remark::Comment,
+        None => Remark::Comment,
     }
 }
 

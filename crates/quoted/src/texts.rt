@@ -5,15 +5,8 @@ ghost use Rattle.page.specs.Fields.{body_of, text_of};
 ghost use Rattle.page.specs.Section.{record_text, no_bytes};
 ghost use Rattle.quoted.specs.Sizes.{size_of};
 
-// How many bytes a text stands for.
-#[derive(Clone, Copy)]
-pub enum Size {
-    Is(usize),
-    Nothing,
-}
-
 // What follows the opening quote.
-fn body_size(w: &[u8]) -> Size
+fn body_size(w: &[u8]) -> Option<usize>
     ensures { result ≡ size_of (body_of false w.now) }
 {
     let mut met = false;
@@ -24,7 +17,7 @@ fn body_size(w: &[u8]) -> Size
         i += 1;
         if met {
             if b != 34 {
-                return Size::Nothing;
+                return None;
             }
             met = false;
             n += 1; // the pair
@@ -36,17 +29,17 @@ fn body_size(w: &[u8]) -> Size
             }
         }
     }
-    if met { Size::Is(n) } else { Size::Nothing }
+    if met { Some(n) } else { None }
 }
 
-pub fn text_size(f: &[u8]) -> Size
+pub fn text_size(f: &[u8]) -> Option<usize>
     ensures { result ≡ size_of (text_of f.now) }
 {
     if f.len() == 0 {
-        return Size::Nothing;
+        return None;
     }
     if f[0] != 34 {
-        return Size::Nothing;
+        return None;
     }
     body_size(&f[1..])
 }
@@ -56,10 +49,10 @@ pub fn is_empty_text(f: &[u8]) -> bool
     ensures { result ≡ no_bytes (record_text f.now) }
 {
     match text_size(f) {
-        Size::Is(_) => {
+        Some(_) => {
             let e = f.len() - 1;
             lines::kept(&f[..e]) == 1
         }
-        Size::Nothing => false,
+        None => false,
     }
 }

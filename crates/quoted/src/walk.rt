@@ -1,12 +1,11 @@
 // A text field read where it stands in a line, in one walk: its characters, its doubled quotes, its closing quote and its size. `w` is what
 // stands after the line's first `;`. A text after at most one space, with nothing after its closing quote, as nearly all are, is met so.
-ghost use Rattle.std.specs.Prelude.{◌≡◌, true, false, ◌&&◌, ◌+◌, ◌-◌, ◌≤◌, ◌<◌, eqb, ltb, length, take, drop, get_or};
+ghost use Rattle.std.specs.Prelude.{◌≡◌, true, false, ◌&&◌, ◌+◌, ◌-◌, ◌≤◌, ◌<◌, eqb, ltb, length, take, drop, get_or, Some};
 ghost use Rattle.page.specs.Bytes.{all};
 ghost use Rattle.page.specs.Lines.{allowed};
 ghost use Rattle.page.specs.Fields.{body_of, field_size, text_of};
 ghost use Rattle.page.specs.Places.{span_from};
 ghost use Rattle.digits.specs.Runs.{field_from};
-ghost use Rattle.quoted.specs.declared.texts.Size.TheVariants as S;
 ghost use Rattle.quoted.specs.Sizes.{size_of};
 
 use digits::{ends_at, skip_space};
@@ -41,7 +40,7 @@ fn is_quote(w: &[u8], at: usize) -> bool
 fn walk_body(w: &[u8], from: usize, wide: bool) -> Body
     requires { from ≤ length w.now }
     ensures { result.met ≡ true → (from < result.end) × (result.end ≤ length w.now)
-        × (size_of (body_of false (take (result.end - from) (drop from w.now))) ≡ S.Is result.size)
+        × (size_of (body_of false (take (result.end - from) (drop from w.now))) ≡ Some result.size)
         × (field_size true (drop from w.now) ≡ result.end - from + field_size false (drop result.end w.now))
         × (all (allowed wide) (take (result.end - from) (drop from w.now)) ≡ true) }
 {
@@ -96,7 +95,7 @@ pub fn text_at(w: &[u8], at: usize, wide: bool) -> Met
         × (result.from ≤ result.end) × (result.end ≤ length w.now)
         × (result.from ≡ (span_from w.now at).from)
         × (field_from w.now at ≡ take (result.end - result.from) (drop result.from w.now))
-        × (size_of (text_of (take (result.end - result.from) (drop result.from w.now))) ≡ S.Is result.size)
+        × (size_of (text_of (take (result.end - result.from) (drop result.from w.now))) ≡ Some result.size)
         × (all (allowed wide) (take (result.end - at) (drop at w.now)) ≡ true) }
 {
     if w.len() <= at {

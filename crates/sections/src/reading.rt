@@ -10,7 +10,7 @@ use arrangement::list_columns;
 use cut::section_end;
 use lines::Cursor;
 use machine::step;
-use page::{Outcome, Phase, Row, Step};
+use page::{Outcome, Phase, Row};
 use tables::{HIGHS, KINDS, LOWS, MARKS, find_number};
 
 // "Table number is 0 if the `tbl` line fails."
@@ -83,10 +83,10 @@ pub fn read_lines(s: &[u8], latin: bool) -> Outcome
         n += 1;
         c = l.next;
         match st {
-            Step::Go(q) => {
+            Ok(q) => {
                 p = q;
             }
-            Step::Stop(v) => {
+            Err(v) => {
                 return refuse(table_in(p), v, n);
             }
         }

@@ -3,7 +3,7 @@ ghost use Rattle.std.specs.Prelude.{◌≡◌};
 ghost use Rattle.told.specs.Told.{told_headed, told_listed, told_got, told_written, told_handed, told_header, no_header, told_value, no_row, stated_flag, stated_from, stated_to};
 ghost use Rattle.page.specs.Handing.{owner_cell};
 
-use page::{Got, Handed, Headed, Header, Listed, Owner, Refusal, Row, Stated, Value, Written};
+use page::{Copied, Header, Owner, Refusal, Row, Span, Value};
 
 // A header's values, or a refusal: texts by their bytes between the quotes; `dve` and `fft` say whether such a line stands.
 #[repr(C)]
@@ -90,17 +90,17 @@ fn no_row() -> Row
     }
 }
 
-pub fn tell_row(x: Listed) -> RowAnswer
+pub fn tell_row(x: Result<Row, Refusal>) -> RowAnswer
     ensures { result ≡ told_listed x }
 {
     match x {
-        Listed::Is(row) => RowAnswer {
+        Ok(row) => RowAnswer {
             number: 0,
             section: 0,
             line: 0,
             row: row,
         },
-        Listed::Refused(r) => RowAnswer {
+        Err(r) => RowAnswer {
             number: r.number,
             section: r.section,
             line: r.line,
@@ -109,17 +109,17 @@ pub fn tell_row(x: Listed) -> RowAnswer
     }
 }
 
-pub fn tell_length(x: Written) -> LengthAnswer
+pub fn tell_length(x: Result<usize, Refusal>) -> LengthAnswer
     ensures { result ≡ told_written x }
 {
     match x {
-        Written::Length(n) => LengthAnswer {
+        Ok(n) => LengthAnswer {
             number: 0,
             section: 0,
             line: 0,
             length: n,
         },
-        Written::Refused(r) => LengthAnswer {
+        Err(r) => LengthAnswer {
             number: r.number,
             section: r.section,
             line: r.line,
@@ -137,11 +137,11 @@ fn owner_kind(x: Owner) -> u32
     }
 }
 
-pub fn tell_text(x: Handed) -> TextAnswer
+pub fn tell_text(x: Result<Copied, Refusal>) -> TextAnswer
     ensures { result ≡ told_handed x }
 {
     match x {
-        Handed::Is(t) => {
+        Ok(t) => {
             let owner = t.owner;
             TextAnswer {
                 number: 0,
@@ -151,7 +151,7 @@ pub fn tell_text(x: Handed) -> TextAnswer
                 owner: owner_kind(owner),
             }
         }
-        Handed::Refused(r) => TextAnswer {
+        Err(r) => TextAnswer {
             number: r.number,
             section: r.section,
             line: r.line,
@@ -198,12 +198,12 @@ fn tell_accepted(x: Value) -> ValueAnswer
     }
 }
 
-pub fn tell_value(x: Got) -> ValueAnswer
+pub fn tell_value(x: Result<Value, Refusal>) -> ValueAnswer
     ensures { result ≡ told_got x }
 {
     match x {
-        Got::Is(v) => tell_accepted(v),
-        Got::Refused(r) => ValueAnswer {
+        Ok(v) => tell_accepted(v),
+        Err(r) => ValueAnswer {
             number: r.number,
             section: r.section,
             line: r.line,
@@ -215,30 +215,30 @@ pub fn tell_value(x: Got) -> ValueAnswer
     }
 }
 
-fn stands(x: Stated) -> bool
+fn stands(x: Option<Span>) -> bool
     ensures { result ≡ stated_flag x }
 {
     match x {
-        Stated::Absent => false,
-        Stated::At(_) => true,
+        None => false,
+        Some(_) => true,
     }
 }
 
-fn stands_from(x: Stated) -> usize
+fn stands_from(x: Option<Span>) -> usize
     ensures { result ≡ stated_from x }
 {
     match x {
-        Stated::Absent => 0,
-        Stated::At(s) => s.from,
+        None => 0,
+        Some(s) => s.from,
     }
 }
 
-fn stands_to(x: Stated) -> usize
+fn stands_to(x: Option<Span>) -> usize
     ensures { result ≡ stated_to x }
 {
     match x {
-        Stated::Absent => 0,
-        Stated::At(s) => s.to,
+        None => 0,
+        Some(s) => s.to,
     }
 }
 
@@ -302,11 +302,11 @@ fn refuse_values(r: Refusal) -> HeaderAnswer
     }
 }
 
-pub fn tell_header(x: Headed) -> HeaderAnswer
+pub fn tell_header(x: Result<Header, Refusal>) -> HeaderAnswer
     ensures { result ≡ told_headed x }
 {
     match x {
-        Headed::Is(h) => tell_values(h),
-        Headed::Refused(r) => refuse_values(r),
+        Ok(h) => tell_values(h),
+        Err(r) => refuse_values(r),
     }
 }

@@ -1,4 +1,5 @@
 -- A fill that nothing refuses names a field of an accepted file, and a text of at most 40 bytes. Assumes nothing.
+use Rattle.std.specs.Prelude.{Result}
 use mathlib.Core.Path.{◌≡◌, refl, ap, sym, ◌∙◌}
 use mathlib.Core.Bool.{Bool, true, false, not, ◌||◌}
 use Prim.Native.Nat.{ℕ, suc, ◌-◌, ◌<◌, ◌≤◌}
@@ -21,7 +22,6 @@ use Rattle.page.specs.Writing.{put_of, put_after, empty_datum, fill_place, fill_
 use Rattle.page.specs.declared.LineEnd.TheVariants as E
 use Rattle.page.specs.declared.Refusal.{Refusal}
 use Rattle.page.specs.declared.Stays.TheVariants as St
-use Rattle.page.specs.declared.Written.{Written}
 use Rattle.output.specs.Put.{Wrote}
 use Rattle.copies.specs.Changed.{changed_model}
 use Rattle.writing.proofs.ModelLaws.{coded, Beside}
@@ -94,7 +94,7 @@ module _ (s : Bytes) (i r f : ℕ) (t : Bytes) (q : Refusal) (e : q ≡ fill_ref
       let k = fillable s i r f t (sym (ap (λ (y : Refusal). y.number) e) ∙ z) in
       (refl, k.section, k.entry, k.field)
 
-  pub fill_done : (before after : Bytes) (w : Written) → Wrote q (form_of E.Lf (changed_model (coded E.Lf St.All (fill i r f t)) t (model_of s))) before after w
+  pub fill_done : (before after : Bytes) (w : Result ℕ Refusal) → Wrote q (form_of E.Lf (changed_model (coded E.Lf St.All (fill i r f t)) t (model_of s))) before after w
       → (w ≡ put_of (fill_refusal s i r f t) (fill_form s i r f t) (length before)) × (after ≡ put_after (fill_refusal s i r f t) (fill_form s i r f t) before)
   unfolding fill_form
   fill_done before after w x =

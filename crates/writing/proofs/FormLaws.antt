@@ -1,4 +1,5 @@
 -- The form of an accepted file, changed: its header as it stands, its sections, its trailer. Assumes nothing.
+use Rattle.std.specs.Prelude.{Result}
 use mathlib.Core.Path.{◌≡◌, refl, ap, sym, ◌∙◌}
 use mathlib.Core.Bool.{Bool, true, false}
 use mathlib.Core.List.{[], ◌∷◌, ◌++◌, map}
@@ -11,7 +12,7 @@ use Rattle.page.specs.Bytes.{Bytes, bytes}
 use Rattle.page.specs.Cut.{sections, header_lines}
 use Rattle.page.specs.Head.{head_values, header_values}
 use Rattle.page.specs.Model.{model_of, Changes, nothing, strip, changed, kept}
-use Rattle.page.specs.Answers.{earlier, written}
+use Rattle.page.specs.Answers.{earlier, answered}
 use Rattle.page.specs.File.{file_refusal}
 use Rattle.page.specs.Form.{decimal, head_form, form_of}
 use Rattle.page.specs.Writing.{put_refusal, put_of, put_after, form_by, write_form, write_of, write_after, strip_form, strip_of, strip_after}
@@ -21,7 +22,6 @@ use Rattle.page.specs.declared.LineEnd.TheVariants as E
 use Rattle.page.specs.declared.Refusal.{Refusal}
 use Rattle.page.specs.declared.Stays.{Stays}
 use Rattle.page.specs.declared.Stays.TheVariants as St
-use Rattle.page.specs.declared.Written.{Written}
 use Rattle.verdicts.proofs.Files.{accepted_says}
 use Rattle.output.specs.Put.{Wrote}
 use Rattle.frames.specs.Lines.{line_with}
@@ -60,7 +60,7 @@ module _ (s : Bytes) (h : (file_refusal s).number ≡ 0) (p : Plan) (t : Bytes) 
 -- what is refused is refused whatever the form
 
 refused_answer : (r : Refusal) (a b : Bytes) (n : ℕ) → eqb r.number 0 ≡ false → put_of r a n ≡ put_of r b n
-unfolding put_of put_refusal earlier written
+unfolding put_of put_refusal earlier answered
 refused_answer r a b n e = simp e
 
 refused_after : (r : Refusal) (a b before : Bytes) → eqb r.number 0 ≡ false → put_after r a before ≡ put_after r b before
@@ -68,7 +68,7 @@ unfolding put_after put_refusal earlier
 refused_after r a b before e = simp e
 
 -- the same form by another name, where it is put
-pub wrote_as : {r : Refusal} {a b before after : Bytes} {w : Written} → (r.number ≡ 0 → a ≡ b) → Wrote r a before after w → Wrote r b before after w
+pub wrote_as : {r : Refusal} {a b before after : Bytes} {w : Result ℕ Refusal} → (r.number ≡ 0 → a ≡ b) → Wrote r a before after w → Wrote r b before after w
 wrote_as {r} {a} {b} {before} {after} {w} f x = by (eqb r.number 0) refl
   where
     by : (q : Bool) → eqb r.number 0 ≡ q → Wrote r b before after w
@@ -77,14 +77,14 @@ wrote_as {r} {a} {b} {before} {after} {w} f x = by (eqb r.number 0) refl
         record { answer = x.answer ∙ refused_answer r a b (length before) e; left = x.left ∙ refused_after r a b before e }
 
 -- what the definitions write by a plan
-pub wrote_by : {r : Refusal} {before after : Bytes} {w : Written} (s t : Bytes) (e : LineEnd) (x : Stays) (c : Changes) → (r.number ≡ 0 → Beside c t)
+pub wrote_by : {r : Refusal} {before after : Bytes} {w : Result ℕ Refusal} (s t : Bytes) (e : LineEnd) (x : Stays) (c : Changes) → (r.number ≡ 0 → Beside c t)
     → Wrote r (form_of e (changed_model (coded e x c) t (model_of s))) before after w → Wrote r (form_by (record { ends = e; changes = c; stays = x }) s) before after w
 unfolding form_by
 wrote_by s t e x c b y = wrote_as {b = form_of e (changed c (kept x (model_of s)))} (λ z. ap (form_of e) (planned e x c t (model_of s) (b z))) y
 
 -- writing and stripping, by the refusal of the file
 
-module _ (s before after t : Bytes) (r : Refusal) (w : Written) (q : r ≡ file_refusal s) where
+module _ (s before after t : Bytes) (r : Refusal) (w : Result ℕ Refusal) (q : r ≡ file_refusal s) where
   pub write_done : Wrote r (form_of E.Lf (changed_model (coded E.Lf St.All nothing) t (model_of s))) before after w
       → (w ≡ write_of s (length before)) × (after ≡ write_after s before)
   unfolding write_of write_after write_form

@@ -10,26 +10,32 @@ ghost use Rattle.copies.specs.Changed.{changed_model};
 use crate::file::put_form;
 use copies::Plan;
 use output::refuse_room;
-use page::{LineEnd, Refusal, Stays, Written};
+use page::{LineEnd, Refusal, Stays};
 
 // The planned form at the front of `out`, unless something refuses it: the measuring pass is the writing pass with nothing lent.
-fn hand_form(out: &mut [u8], refusal: Refusal, s: &[u8], plan: Plan, text: &[u8]) -> Written
+fn hand_form(
+    out: &mut [u8],
+    refusal: Refusal,
+    s: &[u8],
+    plan: Plan,
+    text: &[u8],
+) -> Result<usize, Refusal>
     requires { refusal.number ≡ 0 → ((file_refusal s.now).number ≡ 0) × (length text.now ≤ 40) }
     ensures { Wrote refusal (form_of plan.ends (changed_model plan text.now (model_of s.now))) out.old out.new result }
 {
     if refusal.number != 0 {
-        return Written::Refused(refusal);
+        return Err(refusal);
     }
     let need = put_form(&mut out[..0], s, plan, text);
     let room = refuse_room(need, out.len());
     if room.number != 0 {
-        return Written::Refused(room);
+        return Err(room);
     }
-    Written::Length(put_form(out, s, plan, text))
+    Ok(put_form(out, s, plan, text))
 }
 
 // "Only a file with verdict 0 is written; else its verdict is given."
-pub fn write_checked(s: &[u8], refusal: Refusal, out: &mut [u8]) -> Written
+pub fn write_checked(s: &[u8], refusal: Refusal, out: &mut [u8]) -> Result<usize, Refusal>
     requires { refusal ≡ file_refusal s.now }
     ensures { (result ≡ write_of s.now (length out.old))
         × (out.new ≡ write_after s.now out.old) }
@@ -46,7 +52,7 @@ pub fn write_checked(s: &[u8], refusal: Refusal, out: &mut [u8]) -> Written
 }
 
 // "Stripping gives the written form with marked texts empty and no marks."
-pub fn strip_checked(s: &[u8], refusal: Refusal, out: &mut [u8]) -> Written
+pub fn strip_checked(s: &[u8], refusal: Refusal, out: &mut [u8]) -> Result<usize, Refusal>
     requires { refusal ≡ file_refusal s.now }
     ensures { (result ≡ strip_of s.now (length out.old))
         × (out.new ≡ strip_after s.now out.old) }
@@ -71,7 +77,7 @@ pub fn fill_checked(
     field: usize,
     text: &[u8],
     out: &mut [u8],
-) -> Written
+) -> Result<usize, Refusal>
     requires { refusal ≡ fill_refusal s.now section entry field text.now }
     ensures { (result ≡ put_of (fill_refusal s.now section entry field text.now) (fill_form s.now section entry field text.now) (length out.old))
         × (out.new ≡ put_after (fill_refusal s.now section entry field text.now) (fill_form s.now section entry field text.now) out.old) }

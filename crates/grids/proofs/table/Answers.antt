@@ -2,10 +2,10 @@ use Rattle.grids.proofs.AnswerLaws.{table_missing}
 use Rattle.grids.proofs.table.Goals as goal
 
 pub hand_table-requires : goal.hand_table-requires
-hand_table-requires c = rw c.in-At.is at c.locate.ensures.1
+hand_table-requires c = rw c.in-Ok.is at c.locate.ensures.1
 
-pub returns-in-Refused : goal.returns-in-Refused
-returns-in-Refused c =
+pub returns-in-Err : goal.returns-in-Err
+returns-in-Err c =
     let a = c.args in
-    let b = rw c.in-Refused.is at c.locate.ensures.1 in
+    let b = rw c.in-Err.is at c.locate.ensures.1 in
     table_missing a.file.now a.section a.cells.now _ b.0 b.1

@@ -8,21 +8,21 @@ unfolding value_of
 hand_value-requires c =
     let a = c.args in
     let s = a.file.now in
-    let g = got_is (value_refusal s a.i a.r a.f) (value_at (section_at s a.i) a.r a.f) _ (sym c.in-Is.is ∙ c.value.ensures) in
+    let g = got_is (value_refusal s a.i a.r a.f) (value_at (section_at s a.i) a.r a.f) _ (sym c.in-Ok.is ∙ c.value.ensures) in
     value_spans s a.i a.r a.f g.0 _ g.1
 
-pub returns-in-Is : goal.returns-in-Is
+pub returns-in-Ok : goal.returns-in-Ok
 unfolding value_of
-returns-in-Is c =
+returns-in-Ok c =
     let a = c.args in
     let s = a.file.now in
-    let g = got_is (value_refusal s a.i a.r a.f) (value_at (section_at s a.i) a.r a.f) _ (sym c.in-Is.is ∙ c.value.ensures) in
+    let g = got_is (value_refusal s a.i a.r a.f) (value_at (section_at s a.i) a.r a.f) _ (sym c.in-Ok.is ∙ c.value.ensures) in
     value_gave s a.i a.r a.f g.0 _ g.1 _ _ _ c.hand_value.ensures
 
-pub returns-in-Refused : goal.returns-in-Refused
+pub returns-in-Err : goal.returns-in-Err
 unfolding value_of
-returns-in-Refused c =
+returns-in-Err c =
     let a = c.args in
     let s = a.file.now in
-    let g = got_refused (value_refusal s a.i a.r a.f) _ (value_at (section_at s a.i) a.r a.f) (sym c.in-Refused.is ∙ c.value.ensures) in
+    let g = got_refused (value_refusal s a.i a.r a.f) _ (value_at (section_at s a.i) a.r a.f) (sym c.in-Err.is ∙ c.value.ensures) in
     text_refused s a.i a.r a.f _ g.0 g.1 a.out.now

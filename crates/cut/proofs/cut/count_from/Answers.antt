@@ -1,24 +1,12 @@
-use Rattle.std.proofs.Common.{◌∙◌, sym, ap, length, arith, rules}
-use Rattle.page.proofs.CutLaws.{sections_table, sections_end}
-use Rattle.cut.proofs.FrontLaws.{sections_on}
+use Rattle.std.proofs.Common.{◌∙◌, sym, tests, rules}
+use Rattle.std.proofs.lemmas.Iterator.Consumers.{count_from_yields_List, YieldsList-from_filter, YieldsList-at}
+use Rattle.page.specs.Cut.{begins_table}
+use Rattle.lines.proofs.IterLaws.{line_bytes, yields_lines}
+use Rattle.cut.proofs.CountLaws.{sections_count}
 use Rattle.cut.proofs.cut.count_from.Goals as goal
 
-pub overflow_add-n : goal.overflow_add-n
-overflow_add-n c =
-    let t = rw c.loop-line.invariant.0 at c.in-Some.ensures.steps.1 in
-    search rules
-
-pub loop-line-preserved-then-begins_table : goal.loop-line-preserved-then-begins_table
-loop-line-preserved-then-begins_table c =
-    let t = rw c.loop-line.invariant.0 at c.in-Some.ensures.steps.1 in
-    let b = rw t.bytes at (sym c.begins_table.ensures ∙ c.if-begins_table.true) in
-    (search rules, t.within, omega arith, omega (arith, ap length (sections_table c.args.s.now _ _ t.before t.size b)))
-
-pub loop-line-preserved : goal.loop-line-preserved
-loop-line-preserved c =
-    let t = rw c.loop-line.invariant.0 at c.in-Some.ensures.steps.1 in
-    let b = rw t.bytes at (sym c.begins_table.ensures ∙ c.if-begins_table.false) in
-    (search rules, t.within, omega arith, omega (arith, ap length (sections_on c.args.s.now _ _ t.before t.size b)))
-
-pub returns : goal.returns
-returns c = omega (arith, ap length (sections_end c.args.s.now _ (rw c.loop-line.invariant.0 at c.in-None.ensures.steps.2)))
+pub returns-clause-sections : goal.returns-clause-sections
+returns-clause-sections c =
+    let all = yields_lines c.lines_from.result c.args.s.now c.args.at c.lines_from.ensures.bytes c.lines_from.ensures.at in
+    count_from_yields_List {v = line_bytes} _ _ c.count.ensures.ran (YieldsList-from_filter _ begins_table (YieldsList-at c.filter.ensures.source all) c.filter.ensures.closure (λ x r q k. search (rules, tests)))
+    ∙ sym (sections_count c.args.s.now c.args.at)

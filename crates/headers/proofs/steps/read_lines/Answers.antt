@@ -55,16 +55,16 @@ loop-c-preserved c =
       omega arith,
       omega arith,
       rw t.next (sym (turn_go s at c.line-l.result.span.to c.loop-c-test.true t.size c.loop-c.m c.loop-c.n c.step_header-st.result
-          (c.step_header-st.ensures ∙ ap (head_step c.loop-c.m) c.content_of.ensures) _ c.in-Go.is) ∙ c.loop-c.invariant.2),
+          (c.step_header-st.ensures ∙ ap (head_step c.loop-c.m) c.content_of.ensures) _ c.in-Some.is) ∙ c.loop-c.invariant.2),
     )
 
-pub returns-in-Stop : goal.returns-in-Stop
-returns-in-Stop c =
+pub returns-in-None : goal.returns-in-None
+returns-in-None c =
     let s = c.args.s.now in
     let at = c.loop-c.c.at in
     let t = handed s at c.line-l.result c.loop-c-test.true c.line-l.ensures in
     sym (turn_stop s at c.line-l.result.span.to c.loop-c-test.true t.size c.loop-c.m c.loop-c.n c.step_header-st.result
-    (c.step_header-st.ensures ∙ ap (head_step c.loop-c.m) c.content_of.ensures) c.in-Stop.is) ∙ c.loop-c.invariant.2
+    (c.step_header-st.ensures ∙ ap (head_step c.loop-c.m) c.content_of.ensures) c.in-None.is) ∙ c.loop-c.invariant.2
 
 pub returns : goal.returns
 returns c =

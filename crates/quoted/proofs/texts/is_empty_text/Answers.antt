@@ -11,7 +11,7 @@ use Rattle.quoted.proofs.texts.is_empty_text.Goals as goal
 pub overflow_sub-e : goal.overflow_sub-e
 overflow_sub-e c =
     let f = c.args.f.now in
-    omega (arith, text_long f _ (size_some (text_of f) _ (sym c.text_size.ensures ∙ c.in-Is.is)))
+    omega (arith, text_long f _ (size_some (text_of f) _ (sym c.text_size.ensures ∙ c.in-Some.is)))
 
 pub slice_bounds-kept-end : goal.slice_bounds-kept-end
 slice_bounds-kept-end c =
@@ -19,12 +19,12 @@ slice_bounds-kept-end c =
     let le : length f - 1 ≤ length f = omega arith in
     sym (length-take-le _ f le)
 
-pub returns-in-Is : goal.returns-in-Is
-returns-in-Is c =
+pub returns-in-Some : goal.returns-in-Some
+returns-in-Some c =
     let f = c.args.f.now in
-    rw c.kept.ensures (empty_kept f _ (sym c.text_size.ensures ∙ c.in-Is.is))
+    rw c.kept.ensures (empty_kept f _ (sym c.text_size.ensures ∙ c.in-Some.is))
 
-pub returns-in-Nothing : goal.returns-in-Nothing
-returns-in-Nothing c =
+pub returns-in-None : goal.returns-in-None
+returns-in-None c =
     let f = c.args.f.now in
-    empty_not f (sym c.text_size.ensures ∙ c.in-Nothing.is)
+    empty_not f (sym c.text_size.ensures ∙ c.in-None.is)

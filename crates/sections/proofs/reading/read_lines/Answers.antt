@@ -72,26 +72,26 @@ loop-c-preserved c =
     let y = r.ensures in
     let x = c.step-m.ensures in
     let t = handed c.args.s.now c.skip_records-r.result.at c.line-l.result c.if-s-at.false c.line-l.ensures in
-    let k = x.1 _ c.in-Go.is in (
+    let k = x.1 _ c.in-Ok.is in (
       omega arith,
       omega arith,
-      omega (arith, step_small _ _ _ _ _ (sym x.0 ∙ c.in-Go.is)),
+      omega (arith, step_small _ _ _ _ _ (sym x.0 ∙ c.in-Ok.is)),
       k.carries,
-      rw t.next (sym (turn_go s r.result.at c.line-l.result.span.to c.if-s-at.false t.size _ _ _ _ _ x.0 _ c.in-Go.is _ k) ∙ sym (y.4 l.n) ∙ i.4),
+      rw t.next (sym (turn_go s r.result.at c.line-l.result.span.to c.if-s-at.false t.size _ _ _ _ _ x.0 _ c.in-Ok.is _ k) ∙ sym (y.4 l.n) ∙ i.4),
       i.5,
       i.6,
       i.7,
       i.8,
     )
 
-pub returns-in-Stop : goal.returns-in-Stop
-returns-in-Stop c =
+pub returns-in-Err : goal.returns-in-Err
+returns-in-Err c =
     let s = c.args.s.now in
     let l = c.loop-c in
     let r = c.skip_records-r in
     let t = handed c.args.s.now c.skip_records-r.result.at c.line-l.result c.if-s-at.false c.line-l.ensures in
     rw (c.refuse.ensures, c.table_in.ensures)
-    (sym (turn_stop s r.result.at c.line-l.result.span.to c.if-s-at.false t.size _ _ _ _ _ c.step-m.ensures.0 _ c.in-Stop.is) ∙ sym (r.ensures.4 l.n) ∙ l.invariant.4)
+    (sym (turn_stop s r.result.at c.line-l.result.span.to c.if-s-at.false t.size _ _ _ _ _ c.step-m.ensures.0 _ c.in-Err.is) ∙ sym (r.ensures.4 l.n) ∙ l.invariant.4)
 
 pub returns : goal.returns
 returns c =

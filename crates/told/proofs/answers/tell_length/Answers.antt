@@ -2,8 +2,8 @@ use mathlib.Core.Path.{ap, sym}
 use Rattle.told.specs.Told.{told_written}
 use Rattle.told.proofs.answers.tell_length.Goals as goal
 
-pub returns-in-Length : goal.returns-in-Length
-returns-in-Length c = ap told_written (sym c.in-Length.is)
+pub returns-in-Ok : goal.returns-in-Ok
+returns-in-Ok c = ap told_written (sym c.in-Ok.is)
 
-pub returns-in-Refused : goal.returns-in-Refused
-returns-in-Refused c = ap told_written (sym c.in-Refused.is)
+pub returns-in-Err : goal.returns-in-Err
+returns-in-Err c = ap told_written (sym c.in-Err.is)
