@@ -1,13 +1,12 @@
 // Tables of bits that hashes are put into: a hash whose bits are not all set was never put there.
-ghost use Rattle.std.specs.Prelude.{◌≡◌, ◌<◌, ◌^◌, length};
+ghost use Rattle.std.specs.Prelude.{◌≡◌, ◌<◌, length};
 ghost use Rattle.bits.specs.Bits.{two_of, four_of, word_of, lane_of, Touched, Added, Probed};
 
 // In which of n rounds a hash is looked at.
-pub fn find_lane(h: u64, n: u64) -> u64
-    requires { n < 2 ^ 32 }
+pub fn find_lane(h: u64, n: u32) -> u64
     ensures { result ≡ lane_of h n }
 {
-    h / 1125899906842624 % 256 * n / 256
+    h / 1125899906842624 % 256 * u64::from(n) / 256
 }
 
 // For a table that is to be crowded: few bits a hash.

@@ -1,7 +1,6 @@
-use Rattle.std.proofs.Common.{refl}
 use Rattle.bits.specs.Bits.{lane_of}
 use Rattle.bits.proofs.bits.find_lane.Goals as goal
 
 pub returns : goal.returns
 unfolding lane_of
-returns c = refl
+returns c = rw c.from.ensures
