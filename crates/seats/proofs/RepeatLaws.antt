@@ -205,18 +205,19 @@ module _ (s : Bytes) (r : Seats) (z : Ready s r) where
       ∙ faults_at (λ j x. first_record (repeat_number second) (repeats (by_key second)) [] (filed_in (latin_of s) j x)) (sections s) (repeat_number second) (λ m. repeat_line s (seat_at r m) (seat_key s second (seat_at r m)))
       (of_section second) i n (number_some second) (omega (arith, z.count)) p e
 
+-- the part of a seat in which a key may repeat
+pub scan_bounds : (s : Bytes) (a : Seat) → (a.from ≤ a.to) × (a.to ≤ length s) → (q : Choice) (to : ℕ) → to ≡ scan_end a q → (a.from ≤ to) × (to ≤ length s)
+unfolding scan_end
+scan_bounds s a h q to x = by (eqb q.kinds 0) x
+  where
+    by : (b : Bool) → to ≡ pick b a.from a.to → (a.from ≤ to) × (to ≤ length s)
+    by true y = omega (arith, h.0, h.1)
+    by false y = omega (arith, h.0, h.1)
+
 -- what a loop over one seat finds
 module _ (s : Bytes) (r : Seats) (z : Ready s r) (i : ℕ) (h : i < r.count) (a : Seat) (e : a ≡ seat_at r i) where
   pub seat_bounds : (a.from ≤ a.to) × (a.to ≤ length s)
   seat_bounds = let x = seat_sits s r z i h in rw e (x.low, x.high)
-
-  pub scan_bounds : (q : Choice) (to : ℕ) → to ≡ scan_end a q → (a.from ≤ to) × (to ≤ length s)
-  unfolding scan_end
-  scan_bounds q to x = by (eqb q.kinds 0) x
-    where
-      by : (b : Bool) → to ≡ pick b a.from a.to → (a.from ≤ to) × (to ≤ length s)
-      by true y = omega (arith, seat_bounds)
-      by false y = omega (arith, seat_bounds)
 
   -- the columns stand as its `atr` line states
   pub seat_ordered : Ordered s a a.order
