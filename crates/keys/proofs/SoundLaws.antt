@@ -14,7 +14,7 @@ use Rattle.page.specs.Fields.{parts_here, inside_after, into, split, fields, quo
 use Rattle.page.specs.Tables.{Named, number_at, TABLES, columns, width}
 use Rattle.page.specs.Order.{Order, upto, arranged, place, by_column}
 use Rattle.page.specs.Section.{outcome, record_text}
-use Rattle.page.specs.Records.{Datum, number, Record, records_of, table_index, order_in}
+use Rattle.page.specs.Records.{Datum, Record, records_of, table_index, order_in}
 use Rattle.page.specs.Grammar.{fields_of, Says, Holds, a_number, no_number, a_text, Values, no_field, a_field, Then, found, skip, Records, pause, a_mark, a_record, the_end, Denotes}
 use Rattle.page.specs.Rules.{Every, none_left, one_more}
 use Rattle.page.specs.declared.Outcome.{Outcome}
