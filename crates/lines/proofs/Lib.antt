@@ -1,4 +1,3 @@
 pub mod CursorLaws
 pub mod RunLaws
 pub mod IterLaws
-pub mod ChainLaws

@@ -1,7 +1,7 @@
 use Rattle.std.proofs.Common.{◌≡◌, true, false, rules, tests}
 use Rattle.std.proofs.lemmas.Iterator.{cases_from_all, YieldsList-from_slice}
 use Rattle.page.specs.Lines.{allowed}
-use Rattle.lines.proofs.ChainLaws.{all_first}
+use Rattle.page.proofs.ChainLaws.{all_first}
 use Rattle.lines.proofs.content.few_allowed.Goals as goal
 
 pub returns : goal.returns

@@ -1,5 +1,5 @@
 use Rattle.std.proofs.Common.{◌∙◌}
-use Rattle.lines.proofs.ChainLaws.{same_is}
+use Rattle.page.proofs.ChainLaws.{same_is}
 use Rattle.lines.proofs.scan.equal.Goals as goal
 
 pub returns : goal.returns

@@ -1,7 +1,7 @@
 use Rattle.std.proofs.Common.{◌≡◌, ◌∙◌, true, false, rules, tests}
 use Rattle.std.proofs.lemmas.Iterator.{IsFirst-from_position, YieldsList-from_slice}
 use Rattle.page.specs.Bytes.{no_space}
-use Rattle.lines.proofs.ChainLaws.{until_first}
+use Rattle.page.proofs.ChainLaws.{until_first}
 use Rattle.lines.proofs.scan.spaces.Goals as goal
 
 pub returns : goal.returns

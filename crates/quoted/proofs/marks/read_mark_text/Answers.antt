@@ -2,7 +2,7 @@ use Rattle.std.proofs.Common.{◌∙◌, sym, ap}
 use Rattle.page.specs.Bytes.{bytes}
 use Rattle.page.specs.Marks.{mark_number}
 use Rattle.page.proofs.MarkLaws.{mark_other, mark_word}
-use Rattle.lines.proofs.ChainLaws.{same_is}
+use Rattle.page.proofs.ChainLaws.{same_is}
 use Rattle.quoted.proofs.marks.read_mark_text.Goals as goal
 
 pub returns-in-Some : goal.returns-in-Some
