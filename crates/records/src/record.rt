@@ -6,6 +6,7 @@ ghost use Rattle.page.specs.Order.{listed_order, standing, by_column};
 ghost use Rattle.page.specs.Section.{first_wrong, rec_verdict};
 ghost use Rattle.output.specs.Put.{Puts};
 ghost use Rattle.arrangement.specs.Orders.{held, Stands};
+ghost use Rattle.copies.specs.Changed.{strips, field_of, text_of};
 ghost use Rattle.copies.specs.Parts.{fields_form, Whole};
 ghost use Rattle.copies.specs.Planned.{record_by};
 ghost use Rattle.parts.specs.Parted.{Parted};
@@ -22,8 +23,8 @@ use parts::{find_parts, put_parts};
 use tables::WIDEST;
 
 // Does a whole record stand as it is written, with no mark? Only in document 01's own order may it be copied.
-fn is_kept(w: &[u8], listed: bool, m: u64, plan: Plan) -> bool
-    ensures { result ≡ true → (listed ≡ true) × (m ≡ 0) × (plan.field ≡ 0) × Whole w.now }
+fn is_kept(w: &[u8], listed: bool, m: u64, plan: Plan<'_>) -> bool
+    ensures { result ≡ true → (listed ≡ true) × (m ≡ 0) × (field_of plan.entry.change ≡ 0) × Whole w.now }
 {
     listed && is_plain(m, plan) && all_written(w)
 }
@@ -36,10 +37,10 @@ fn find_kept(
     o: &[u8; WIDEST],
     listed: bool,
     m: u64,
-    plan: Plan,
+    plan: Plan<'_>,
 ) -> Option<[Span; WIDEST]>
     requires { Stands t o.now × (length (fields w.now) ≡ width t) }
-    ensures { IfSome result (λ parts. (m ≡ 0) × (plan.field ≡ 0) × Parted t (held t o.now) w.now parts) }
+    ensures { IfSome result (λ parts. (m ≡ 0) × (field_of plan.entry.change ≡ 0) × Parted t (held t o.now) w.now parts) }
 {
     if listed || !is_plain(m, plan) {
         return None;
@@ -55,19 +56,18 @@ fn put_values(
     o: &[u8; WIDEST],
     listed: bool,
     m: u64,
-    plan: Plan,
-    text: &[u8],
+    plan: Plan<'_>,
 )
     requires { Stands t o.now
         × (length (fields w.now) ≡ width t)
         × (first_wrong (standing t (held t o.now)) (fields w.now) ≡ 0) }
     ensures { Puts out.old
-        (fields_form plan.strip plan.field text.now m 1 (columns t) (by_column (held t o.now) (fields w.now)))
+        (fields_form (strips plan.entry.change) (field_of plan.entry.change) (text_of plan.entry.change) m 1 (columns t) (by_column (held t o.now) (fields w.now)))
         out.new }
 {
     match find_kept(w, t, o, listed, m, plan) {
         Some(parts) => put_parts(out, w, t, o, &parts),
-        None => put_fields(out, w, t, o, m, plan, text),
+        None => put_fields(out, w, t, o, m, plan.change),
     }
 }
 
@@ -80,13 +80,12 @@ pub fn put_record(
     o: &[u8; WIDEST],
     listed: bool,
     m: u64,
-    plan: Plan,
-    text: &[u8],
+    plan: Plan<'_>,
 )
     requires { Stands t o.now
         × (listed ≡ true → held t o.now ≡ listed_order t)
         × (rec_verdict t (held t o.now) m (fields w.now) ≡ 0) }
-    ensures { Puts out.old (record_by plan text.now (row t (held t o.now) m w.now)) out.new }
+    ensures { Puts out.old (record_by plan.entry (row t (held t o.now) m w.now)) out.new }
 {
     let i = column_in(o, t, m);
     if is_kept(w, listed, i, plan) {
@@ -95,6 +94,6 @@ pub fn put_record(
     }
     put_marks(out, t, i, plan);
     out.put_bytes(b"rec");
-    put_values(out, w, t, o, listed, i, plan, text);
+    put_values(out, w, t, o, listed, i, plan);
     out.put_line_end(plan.ends);
 }

@@ -9,7 +9,7 @@ use Rattle.page.proofs.OrderLaws.{columns_many}
 use Rattle.arrangement.specs.Orders.{held}
 use Rattle.laws.proofs.Passed.{passed_width, passed_wrong}
 use Rattle.output.proofs.OutputLaws.{puts, put_as}
-use Rattle.copies.specs.Changed.{changed_values}
+use Rattle.copies.specs.Changed.{strips, field_of, text_of, changed_values}
 use Rattle.copies.specs.Planned.{record_by}
 use Rattle.copies.proofs.PartLaws.{record_is}
 use Rattle.records.proofs.RecordLaws.{record_copied}
@@ -29,7 +29,7 @@ returns-then-is_kept c =
     let n = passed_width a.t o a.m (fields w) q.2 in
     let z = passed_wrong a.t o a.m (fields w) q.2 in
     put_as
-    (record_copied a.plan.ends a.plan.strip a.text.now a.plan.field (column_in o a.m) a.t o w n z (q.1 k.0)
+    (record_copied a.plan.ends (strips a.plan.change) (text_of a.plan.change) (field_of a.plan.change) (column_in o a.m) a.t o w n z (q.1 k.0)
     (sym c.column_in-i.ensures ∙ k.1, k.2, k.3))
     (puts c.put_bytes.ensures c.put_line.ensures)
 
@@ -49,7 +49,7 @@ returns c =
     let o = held a.t a.o.now in
     let i = c.column_in-i in
     let ws = by_column o (fields w) in
-    let r = record_is p.ends p.strip p.field i.result a.text.now (columns a.t) ws (columns_many a.t o (fields w) c.requires.0.arranged) in
-    let s = ap (λ (j : ℕ). record_form p.ends (changed_values p.strip p.field a.text.now (values_of j 1 (columns a.t) ws))) i.ensures in
+    let r = record_is p.ends (strips p.change) (field_of p.change) i.result (text_of p.change) (columns a.t) ws (columns_many a.t o (fields w) c.requires.0.arranged) in
+    let s = ap (λ (j : ℕ). record_form p.ends (changed_values (strips p.change) (field_of p.change) (text_of p.change) (values_of j 1 (columns a.t) ws))) i.ensures in
     put_as (r ∙ s)
     (puts c.put_marks.ensures (puts c.put_bytes-2.ensures (puts c.put_values.ensures c.put_line_end.ensures)))
