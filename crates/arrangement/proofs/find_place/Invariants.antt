@@ -1,7 +1,6 @@
 use mathlib.Core.Path.{◌≡◌}
-use Prim.Native.Nat.{◌+◌, ◌-◌, ◌≤◌}
+use Prim.Native.Nat.{◌+◌}
 use lib.ListN.{drop}
-use Rattle.page.specs.Tables.{width}
 use Rattle.page.specs.Order.{place}
 use Rattle.arrangement.specs.Orders.{held}
 use Rattle.arrangement.proofs.find_place.Given as goal

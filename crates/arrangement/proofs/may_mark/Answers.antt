@@ -1,7 +1,6 @@
 use mathlib.Core.Path.{◌∙◌}
 use Prim.Native.Nat.{◌-◌}
 use native.Mathlib.Omega.{arith}
-use borrow.Author.Rules.{rules}
 use borrow.Author.Tests.{le-ltb}
 use Rattle.page.proofs.TableLaws.{width_le}
 use Rattle.arrangement.proofs.OrderLaws.{mark_none, mark_past, mark_column}
