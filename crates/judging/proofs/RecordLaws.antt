@@ -12,9 +12,9 @@ use lib.Seq.{take_all, take-suc, drop-cons, get_or-set_same, get_or-set_other}
 use borrow.Author.Tests.{eq-eqb, ne_eqb, eqb-true, eqb-false, ltb-true, ltb-false}
 use Rattle.page.specs.Bytes.{Bytes, pick, all, moved}
 use Rattle.page.specs.Fields.{field_size, fields, number_of}
-use Rattle.page.specs.Tables.{Named, WIDEST, no_column, column_at, width}
+use Rattle.page.specs.Tables.{Named, WIDEST, no_column, column_at, width, rules}
 use Rattle.page.specs.Order.{Order, standing, place, by_column}
-use Rattle.page.specs.Section.{Wording, own_of, words_of, record_text, text_field, number_field, left_out, field_of, field_number, first_of, first_wrong, amount, no_bytes}
+use Rattle.page.specs.Section.{Wording, own_of, words_of, record_text, text_field, number_field, left_out, field_of, field_number, first_of, first_wrong, first_broken, empty_marked, rec_verdict, amount, no_bytes}
 use Rattle.page.specs.Form.{doubled}
 use Rattle.page.specs.Reading.{later_field}
 use Rattle.page.specs.declared.Column.{Column}
@@ -81,6 +81,31 @@ span_read c f k sp e = by c.text (left_out c.optional f) e
 
     by : (b d : Bool) → F.Text sp ≡ later_field k (pick b (text_field c.hi (words_of f)) (pick d F.Missing (number_field c.day c.lo c.hi (number_of f)))) → sp.from ≤ sp.to
     by true d q = worded_so (words_of f) refl q
+    by false true q = absurd (let z : ◌≡◌ {A = ℕ} 0 1 = cc in omega arith)
+    by false false q = no_text (number_read_so c.day c.lo c.hi (number_of f)) q
+
+-- a refusal has a number
+pub refused_some : (c : Column) (f : Bytes) (k v : ℕ) → F.Refused v ≡ later_field k (field_of c f) → v ≡ 0 → ⊥
+unfolding field_of text_field
+refused_some c f k v e = by c.text (left_out c.optional f) e
+  where
+    told : (n : ℕ) → F.Refused v ≡ F.Refused n → (n ≡ 0 → ⊥) → v ≡ 0 → ⊥
+    told n q h z = let x : v ≡ n = cc in h (sym x ∙ z)
+
+    sized : (x : Wording) (b : Bool) → F.Refused v ≡ later_field k (pick b (F.Text x.span) (F.Refused 13)) → v ≡ 0 → ⊥
+    sized x true q = absurd (let z : ◌≡◌ {A = ℕ} 0 1 = cc in omega arith)
+    sized x false q = told 13 q (λ z. omega arith)
+
+    worded_so : (o : Option Wording) → F.Refused v ≡ later_field k (text_field c.hi o) → v ≡ 0 → ⊥
+    worded_so None q = told 11 q (λ z. omega arith)
+    worded_so (Some x) q = sized x (leb (length x.own) c.hi) q
+
+    no_text : {r : Field} → NumberRead (number_of f) r → F.Refused v ≡ later_field k r → v ≡ 0 → ⊥
+    no_text (as_number n e) q = absurd (let z : ◌≡◌ {A = ℕ} 0 1 = cc in omega arith)
+    no_text (as_refusal u n) q = told u q n
+
+    by : (b d : Bool) → F.Refused v ≡ later_field k (pick b (text_field c.hi (words_of f)) (pick d F.Missing (number_field c.day c.lo c.hi (number_of f)))) → v ≡ 0 → ⊥
+    by true d q = worded_so (words_of f) q
     by false true q = absurd (let z : ◌≡◌ {A = ℕ} 0 1 = cc in omega arith)
     by false false q = no_text (number_read_so c.day c.lo c.hi (number_of f)) q
 
@@ -214,9 +239,16 @@ module _ (t : ℕ) (a : List ℕ) (x : Stands t a) where
           numbers = λ (z : ◌≡◌ {A = ℕ} 0 0) (q : length (fields w) ≡ width t). by_columns (fields w) ns (rw g m);
         }
 
-pub judged_wrong : (t : ℕ) (o : Order) (fs : List Bytes) (v : ℕ) (ns : List ℕ) → (v ≡ 0 → ⊥) → v ≡ first_wrong (standing t o) fs → Judged t o fs v false ns
-judged_wrong t o fs v ns n e =
-    record { first = e; ends = λ (x : false ≡ true). false_true x; numbers = λ (z : v ≡ 0) (q : length fs ≡ width t). absurd (n z) }
+-- a record with a wrong field does not pass
+pub verdict_wrong : (t : ℕ) (o : Order) (m : ℕ) (fs : List Bytes) (v : ℕ) → v ≡ first_wrong (standing t o) fs → (v ≡ 0 → ⊥)
+    → eqb (rec_verdict t o m fs) 0 ≡ false
+unfolding rec_verdict
+verdict_wrong t o m fs v e n = by (eqb (length fs) (width t))
+  where
+    by : (b : Bool)
+        → eqb (pick b (first_of (first_wrong (standing t o) fs) (first_of (first_broken (rules t) (by_column o fs)) (pick (empty_marked m fs) 15 0))) 10) 0 ≡ false
+    by true = rw (sym e, ne_eqb v 0 n) (ne_eqb v 0 n)
+    by false = refl
 
 -- the bytes that have been walked are allowed: a field's, and the `;` after it
 

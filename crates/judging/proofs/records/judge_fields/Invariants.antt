@@ -1,6 +1,6 @@
 use mathlib.Core.Path.{◌≡◌}
 use mathlib.Core.Bool.{true}
-use Prim.Native.Nat.{◌+◌, ◌-◌, ◌≤◌}
+use Prim.Native.Nat.{◌+◌, ◌≤◌}
 use lib.ListN.{length, take, drop}
 use Rattle.page.specs.Bytes.{all}
 use Rattle.page.specs.Lines.{allowed}
@@ -21,7 +21,7 @@ invariant-loop-k l =
       first : first_wrong (drop l.k (standing l.t o)) (from l.w l.at) ≡ first_wrong (standing l.t o) (fields l.w);
       left : drop l.k (fields l.w) ≡ from l.w l.at;
       some : l.k ≤ length (fields l.w);
-      wide : length l.ns ≡ WIDEST;
-      numbers : Numbers l.t l.o (fields l.w) l.k l.ns;
+      wide : length l.numbers ≡ WIDEST;
+      numbers : Numbers l.t l.o (fields l.w) l.k l.numbers;
       clean : l.clean ≡ true → all (allowed l.wide) (take l.at l.w) ≡ true;
     }
