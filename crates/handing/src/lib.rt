@@ -12,8 +12,6 @@ pub fn text(file: &[u8], i: usize, r: usize, f: usize, out: &mut [u8]) -> Result
     ensures { (result ≡ text_out file.now i r f (length out.old))
         × (out.new ≡ text_after file.now i r f out.old) }
 {
-    match lookups::value(file, i, r, f) {
-        Ok(v) => hand_value(file, v, out),
-        Err(x) => Err(x),
-    }
+    let v = lookups::value(file, i, r, f)?;
+    hand_value(file, v, out)
 }

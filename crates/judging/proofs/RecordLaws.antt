@@ -29,10 +29,7 @@ use Rattle.page.proofs.FieldLaws.{from, from_end}
 use Rattle.lines.proofs.RunLaws.{all_append, all_run}
 use Rattle.digits.proofs.RunLaws.{stop_at}
 use Rattle.amounts.proofs.AmountLaws.{no_number}
-use Rattle.fields.proofs.ColumnLaws.{column_asked}
-use Rattle.tables.specs.Arrays.{first_column, kinds, marks, lows, highs, Said}
 use Rattle.arrangement.specs.Orders.{held, Stands}
-use Rattle.tables.proofs.ArrayLaws.{said_column}
 use Rattle.arrangement.proofs.OrderLaws.{held_length, held_at, held_standing, held_column}
 use Rattle.rules.specs.Broken.{Kept, Columns}
 use Rattle.judging.specs.Judging.{judged_number, Numbers, Judged}
@@ -117,12 +114,6 @@ text_known c f z e = rw e (by (words_of f) refl (rw e at z))
 
 kept_of : (c : Column) (f : Bytes) → field_number (field_of c f) ≡ 0 → Kept c f (judged_number (field_of c f))
 kept_of c f z = record { worth = number_known c f z; empty = text_known c f z }
-
--- what the code asks of a column is what its reading asks, by the column's entries in the rows
-pub column_told : (t k i : ℕ) (ks ms ls hs : List ℕ) → (ks ≡ kinds) × (ms ≡ marks) × (ls ≡ lows) × (hs ≡ highs) → i ≡ first_column t + k → k < width t
-    → (d : Column) → Said (get_or ks i 0) (get_or ms i 0) (get_or ls i 0) (get_or hs i 0) d → (f : Bytes) → field_of d f ≡ field_of (column_at t k) f
-column_told t k i ks ms ls hs x e h d s f =
-    column_asked (column_at t k) d (said_column t k i e h d (rw (x.0, x.1, x.2, x.3) at s)) f
 
 -- "each field from the left": no field is left, no column is left, or one of each
 

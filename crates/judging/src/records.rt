@@ -6,13 +6,12 @@ ghost use Rattle.page.specs.Fields.{fields, field_size};
 ghost use Rattle.page.specs.Tables.{width};
 ghost use Rattle.page.specs.Section.{field_of, field_number, empty_marked, rec_verdict};
 ghost use Rattle.digits.specs.Runs.{field_from};
-ghost use Rattle.tables.specs.Arrays as rows;
 ghost use Rattle.arrangement.specs.Orders.{held, Stands};
 ghost use Rattle.judging.specs.Judging.{judged_number, Judged};
 
 use page::{Column, Field};
 use rules::judge_rules;
-use tables::{COLUMNS, HIGHS, KINDS, LOWS, MARKS, WIDEST, column_of, find_first, find_width};
+use tables::{WIDEST, find_column, find_width};
 
 // What one walk over a record's fields finds: the number of the first wrong one (0: none), whether they are known to be as many as the
 // columns, whether all bytes are known to be allowed, and a number of each, by column.
@@ -74,29 +73,16 @@ fn judge_field(w: &[u8], at: usize, column: Column, wide: bool) -> Told
     }
 }
 
-// "each field from the left (11 or 12, then 13)", as the columns stand. The rows of all columns are lent, so that they are not built anew for
-// each record.
-fn judge_fields(
-    w: &[u8],
-    t: usize,
-    o: &[u8; WIDEST],
-    wide: bool,
-    kinds: &[u8; COLUMNS],
-    marks: &[u8; COLUMNS],
-    lows: &[u8; COLUMNS],
-    highs: &[u32; COLUMNS],
-) -> Judgement
-    requires { Stands t o.now × (kinds.now ≡ rows.kinds) × (marks.now ≡ rows.marks) × (lows.now ≡ rows.lows) × (highs.now ≡ rows.highs) }
+// "each field from the left (11 or 12, then 13)", as the columns stand.
+fn judge_fields(w: &[u8], t: usize, o: &[u8; WIDEST], wide: bool) -> Judgement
+    requires { Stands t o.now }
     ensures { Judged t (held t o.now) (fields w.now) result.wrong result.whole result.numbers
         × (result.clean ≡ true → all (allowed wide) w.now ≡ true) }
 {
-    let n = find_width(t);
-    let first = find_first(t);
     let mut ns = [0; WIDEST];
     let mut clean = true;
-    let mut k = 0;
     let mut at = 0;
-    while k < n {
+    for k in 0..find_width(t) {
         if w.len() < at {
             return Judgement {
                 wrong: 0,
@@ -106,13 +92,7 @@ fn judge_fields(
             };
         }
         let c = o[k] as usize;
-        let i = first + c;
-        let told = judge_field(
-            w,
-            at,
-            column_of(kinds[i], marks[i], lows[i], highs[i]),
-            wide,
-        );
+        let told = judge_field(w, at, find_column(t, c), wide);
         let v = told.wrong;
         let value = told.value;
         let e = told.end;
@@ -128,7 +108,6 @@ fn judge_fields(
         ns[c] = value;
         clean = clean & seen;
         at = e + 1;
-        k += 1;
     }
     let whole = w.len() < at;
     Judgement {
@@ -205,31 +184,17 @@ pub fn judge_record(w: &[u8], t: usize, o: &[u8; WIDEST], m: u64) -> u32
     requires { Stands t o.now }
     ensures { result ≡ rec_verdict t (held t o.now) m (fields w.now) }
 {
-    let kinds = KINDS;
-    let marks = MARKS;
-    let lows = LOWS;
-    let highs = HIGHS;
-    let j = judge_fields(w, t, o, true, &kinds, &marks, &lows, &highs);
+    let j = judge_fields(w, t, o, true);
     let ns = j.numbers;
     judge_found(w, t, o, m, j.wrong, j.whole, &ns)
 }
 
 // Whether nothing is wrong with a record, and all its bytes are allowed. `wide`: its line may hold bytes 161..255.
-pub fn passes(
-    w: &[u8],
-    t: usize,
-    o: &[u8; WIDEST],
-    m: u64,
-    wide: bool,
-    kinds: &[u8; COLUMNS],
-    marks: &[u8; COLUMNS],
-    lows: &[u8; COLUMNS],
-    highs: &[u32; COLUMNS],
-) -> bool
-    requires { Stands t o.now × (kinds.now ≡ rows.kinds) × (marks.now ≡ rows.marks) × (lows.now ≡ rows.lows) × (highs.now ≡ rows.highs) }
+pub fn passes(w: &[u8], t: usize, o: &[u8; WIDEST], m: u64, wide: bool) -> bool
+    requires { Stands t o.now }
     ensures { result ≡ (eqb (rec_verdict t (held t o.now) m (fields w.now)) 0 && all (allowed wide) w.now) }
 {
-    let j = judge_fields(w, t, o, wide, kinds, marks, lows, highs);
+    let j = judge_fields(w, t, o, wide);
     let ns = j.numbers;
     if judge_found(w, t, o, m, j.wrong, j.whole, &ns) != 0 {
         return false;

@@ -1,6 +1,7 @@
 // Lines, and the fields of a line.
 #![tactic(auto)]
 
+mod blocks;
 mod content;
 mod cursor;
 mod ends;

@@ -69,8 +69,6 @@ fn value_at(file: &[u8], i: usize, at: usize, r: usize, f: usize) -> Result<Valu
 pub fn value(file: &[u8], i: usize, r: usize, f: usize) -> Result<Value, Refusal>
     ensures { result ≡ value_of file.now i r f }
 {
-    match locate(file, i) {
-        Ok(at) => value_at(file, i, at, r, f),
-        Err(x) => Err(x),
-    }
+    let at = locate(file, i)?;
+    value_at(file, i, at, r, f)
 }

@@ -4,10 +4,11 @@ ghost use Rattle.page.specs.Lines.{content, rest, Rec};
 ghost use Rattle.page.specs.Fields.{fields};
 ghost use Rattle.page.specs.Marks.{remark_of};
 ghost use Rattle.page.specs.Section.{choose, tbl_step, frm_step, rec_step, mark_step, com_step, line_step, content_step, step};
-ghost use Rattle.page.specs.declared.Phase.{Phase};
 ghost use Rattle.page.specs.declared.Phase.TheVariants as P;
 ghost use Rattle.arrangement.specs.Orders.{held, Orderly, Stands};
 ghost use Rattle.machine.specs.Carries.{records_in, order_at, Carries, Found, Carried};
+ghost use Rattle.machine.specs.Moves.{phase_of};
+ghost use Rattle.machine.specs.declared.machine.Moved.{Moved};
 
 use counts::step_end;
 use judging::judge_record;
@@ -23,19 +24,17 @@ pub fn step_tbl(w: &[u8]) -> Result<Phase, u32>
     }
     let t = names::find_table(commands::field_at(w, 0));
     if t < TABLES {
-        return Ok(Phase::Atr(t));
+        Ok(Phase::Atr(t))
+    } else {
+        Err(7)
     }
-    Err(7)
 }
 
 // "`atr` 8"
 pub fn step_atr(t: usize, found: bool) -> Result<Phase, u32>
     ensures { result ≡ choose found (Ok (P.Frm t)) (Err 8) }
 {
-    if found {
-        return Ok(Phase::Frm(t));
-    }
-    Err(8)
+    if found { Ok(Phase::Frm(t)) } else { Err(8) }
 }
 
 // "`frm` 9"
@@ -44,9 +43,10 @@ pub fn step_frm(w: &[u8], t: usize, o: &[u8; WIDEST]) -> Result<Phase, u32>
     ensures { result ≡ frm_step t (held t o.now) (fields w.now) }
 {
     if names::formats_match(w, t, o) {
-        return Ok(Phase::Rows(t, 0, 0));
+        Ok(Phase::Rows(t, 0, 0))
+    } else {
+        Err(9)
     }
-    Err(9)
 }
 
 // A record takes the mark that waits with it.
@@ -54,11 +54,10 @@ pub fn step_rec(w: &[u8], t: usize, o: &[u8; WIDEST], m: u64, n: usize) -> Resul
     requires { Stands t o.now × (n + 1 < 18446744073709551616) }
     ensures { result ≡ rec_step t (held t o.now) m n (fields w.now) }
 {
-    let v = judge_record(w, t, o, m);
-    if v == 0 {
-        return Ok(Phase::Rows(t, 0, n + 1));
+    match judge_record(w, t, o, m) {
+        0 => Ok(Phase::Rows(t, 0, n + 1)),
+        v => Err(v),
     }
-    Err(v)
 }
 
 // "A mark that is unreadable, not allowed, not rising, before `frm` or after `end` is 15 at its own line."
@@ -67,19 +66,14 @@ pub fn step_mark(p: Phase, o: &[u8; WIDEST], i: u64) -> Result<Phase, u32>
     ensures { result ≡ mark_step p (order_at p o.now) i }
 {
     match p {
-        Phase::Tbl => Err(15),
-        Phase::Atr(_) => Err(15),
-        Phase::Frm(_) => Err(15),
         Phase::Rows(t, m, n) => {
-            if !arrangement::may_mark(t, o, i) {
-                return Err(15);
+            if arrangement::may_mark(t, o, i) && m < i {
+                Ok(Phase::Rows(t, i, n))
+            } else {
+                Err(15)
             }
-            if m < i {
-                return Ok(Phase::Rows(t, i, n));
-            }
-            Err(15)
         }
-        Phase::Ended(_, _) => Err(15),
+        Phase::Tbl | Phase::Atr(_) | Phase::Frm(_) | Phase::Ended(_, _) => Err(15),
     }
 }
 
@@ -98,13 +92,11 @@ fn step_rows(w: &[u8], t: usize, o: &[u8; WIDEST], m: u64, n: usize, k: u32) -> 
     requires { Stands t o.now × (n + 1 < 18446744073709551616) }
     ensures { result ≡ line_step (P.Rows t m n) (held t o.now) k w.now }
 {
-    if k == commands::REC {
-        return step_rec(w, t, o, m, n);
+    match k {
+        commands::REC => step_rec(w, t, o, m, n),
+        commands::END => step_end(w, t, m, n),
+        _ => Err(6),
     }
-    if k == commands::END {
-        return step_end(w, t, m, n);
-    }
-    Err(6)
 }
 
 // A line of a known command k, other than `com`, with w after its first `;`: "known command out of its order" is 6.
@@ -112,27 +104,12 @@ pub fn step_line(w: &[u8], p: Phase, o: &[u8; WIDEST], found: bool, k: u32) -> R
     requires { Carries p o.now × (records_in p + 1 < 18446744073709551616) × Found p w.now found }
     ensures { result ≡ line_step p (order_at p o.now) k w.now }
 {
-    match p {
-        Phase::Tbl => {
-            if k == commands::TBL {
-                return step_tbl(w);
-            }
-            Err(6)
-        }
-        Phase::Atr(t) => {
-            if k == commands::ATR {
-                return step_atr(t, found);
-            }
-            Err(6)
-        }
-        Phase::Frm(t) => {
-            if k == commands::FRM {
-                return step_frm(w, t, o);
-            }
-            Err(6)
-        }
-        Phase::Rows(t, m, n) => step_rows(w, t, o, m, n, k),
-        Phase::Ended(_, _) => Err(6),
+    match (p, k) {
+        (Phase::Tbl, commands::TBL) => step_tbl(w),
+        (Phase::Atr(t), commands::ATR) => step_atr(t, found),
+        (Phase::Frm(t), commands::FRM) => step_frm(w, t, o),
+        (Phase::Rows(t, m, n), _) => step_rows(w, t, o, m, n, k),
+        _ => Err(6),
     }
 }
 
@@ -140,7 +117,7 @@ pub fn step_line(w: &[u8], p: Phase, o: &[u8; WIDEST], found: bool, k: u32) -> R
 fn is_wide(latin: bool, k: u32) -> bool
     ensures { result ≡ (latin && eqb k Rec) }
 {
-    if latin { k == commands::REC } else { false }
+    latin && k == commands::REC
 }
 
 // "in that line the first of 4, 5, 6, then" its command's own: c is the line's content.
@@ -174,27 +151,25 @@ pub fn step_content(
 // What a line leads to, and which column stands where after it.
 #[derive(Clone, Copy)]
 pub struct Moved {
-    pub step: Result<Phase, u32>,
+    pub phase: Phase,
     pub order: [u8; WIDEST],
 }
 
 // "The reading of `atr` must now say which column stands where": where that line is due, a line's names are read, and once.
-pub fn step(l: &[u8], p: Phase, o: [u8; WIDEST], latin: bool) -> Moved
+pub fn step(l: &[u8], p: Phase, o: [u8; WIDEST], latin: bool) -> Result<Moved, u32>
     requires { Carries p o × (records_in p + 1 < 18446744073709551616) }
-    ensures { (result.step ≡ step latin p (order_at p o) l.now)
-        × ((q : Phase) → result.step ≡ Ok q → Carried p q (order_at p o) (content l.now) result.order) }
+    ensures { (phase_of result ≡ step latin p (order_at p o) l.now)
+        × ((m : Moved) → result ≡ Ok m → Carried p m.phase (order_at p o) (content l.now) m.order) }
 {
     let c = lines::content_of(l);
     if let Phase::Atr(t) = p {
-        let a = names::arrange(lines::rest_of(c), t);
-        let order = a.order;
-        return Moved {
-            step: step_content(c, p, &o, a.found, latin),
-            order: order,
-        };
+        let arranged = names::arrange(lines::rest_of(c), t);
+        let phase = step_content(c, p, &o, arranged.is_some(), latin)?;
+        return Ok(Moved {
+            phase,
+            order: arranged.unwrap_or(o),
+        });
     }
-    Moved {
-        step: step_content(c, p, &o, false, latin),
-        order: o,
-    }
+    let phase = step_content(c, p, &o, false, latin)?;
+    Ok(Moved { phase, order: o })
 }

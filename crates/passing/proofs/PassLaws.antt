@@ -32,19 +32,6 @@ plain_shape (x ∷ y ∷ []) w e h = absurd (omega (arith, h.0))
 plain_shape (x ∷ y ∷ z ∷ []) w e h = absurd (omega (arith, h.0))
 plain_shape (x ∷ y ∷ z ∷ u ∷ c) w e h = rw (e, h.1, h.2, h.3, h.4)
 
-pub plain_bytes : (c : Bytes) → 4 ≤ length c
-    → (((eqb (get_or c 0 0) 114 && eqb (get_or c 1 0) 101) && eqb (get_or c 2 0) 99) && eqb (get_or c 3 0) 59) ≡ true
-    → (4 ≤ length c) × (get_or c 0 0 ≡ 114) × (get_or c 1 0 ≡ 101) × (get_or c 2 0 ≡ 99) × (get_or c 3 0 ≡ 59)
-plain_bytes c h e =
-    let x = and_left _ (eqb (get_or c 3 0) 59) e in
-    let y = and_left _ (eqb (get_or c 2 0) 99) x in (
-      h,
-      eqb-true (get_or c 0 0) 114 (and_left _ (eqb (get_or c 1 0) 101) y),
-      eqb-true (get_or c 1 0) 101 (and_right (eqb (get_or c 0 0) 114) _ y),
-      eqb-true (get_or c 2 0) 99 (and_right (eqb (get_or c 0 0) 114 && eqb (get_or c 1 0) 101) _ x),
-      eqb-true (get_or c 3 0) 59 (and_right ((eqb (get_or c 0 0) 114 && eqb (get_or c 1 0) 101) && eqb (get_or c 2 0) 99) _ e),
-    )
-
 module _ (w : Bytes) where
   abbrev line : Bytes
   line = 114 ∷ 101 ∷ 99 ∷ 59 ∷ w

@@ -11,22 +11,17 @@ fn body_size(w: &[u8]) -> Option<usize>
 {
     let mut met = false;
     let mut n: usize = 0;
-    let mut i = 0;
-    while i < w.len() {
-        let b = w[i];
-        i += 1;
+    for b in w {
         if met {
-            if b != 34 {
+            if *b != 34 {
                 return None;
             }
             met = false;
             n += 1; // the pair
+        } else if *b == 34 {
+            met = true;
         } else {
-            if b == 34 {
-                met = true;
-            } else {
-                n += 1;
-            }
+            n += 1;
         }
     }
     if met { Some(n) } else { None }
@@ -35,13 +30,10 @@ fn body_size(w: &[u8]) -> Option<usize>
 pub fn text_size(f: &[u8]) -> Option<usize>
     ensures { result ≡ size_of (text_of f.now) }
 {
-    if f.len() == 0 {
-        return None;
+    match f {
+        [34, body @ ..] => body_size(body),
+        _ => None,
     }
-    if f[0] != 34 {
-        return None;
-    }
-    body_size(&f[1..])
 }
 
 // "A text of spaces only is empty": nothing but the opening quote is left before the closing one.
@@ -49,10 +41,7 @@ pub fn is_empty_text(f: &[u8]) -> bool
     ensures { result ≡ no_bytes (record_text f.now) }
 {
     match text_size(f) {
-        Some(_) => {
-            let e = f.len() - 1;
-            lines::kept(&f[..e]) == 1
-        }
+        Some(_) => lines::kept(&f[..f.len() - 1]) == 1,
         None => false,
     }
 }

@@ -7,11 +7,11 @@ use Prim.Native.Nat.{ℕ, suc, ◌+◌, ◌-◌, ◌<◌, ◌≤◌}
 use native.Mathlib.Omega.{arith}
 use borrow.Author.Tests.{eq-eqb, ne_eqb, eqb-true}
 use lib.Dec.{eqb}
-use lib.ListN.{length, take, drop, get_or, length-append}
+use lib.ListN.{length, take, drop, length-append}
 use Rattle.page.specs.Bytes.{Bytes, bytes}
 use Rattle.page.specs.Lines.{lines, content, command, rest, Rec}
 use Rattle.page.specs.Fields.{fields}
-use Rattle.page.specs.Tables.{width, table_at, table_named, columns}
+use Rattle.page.specs.Tables.{width, table_at, columns}
 use Rattle.page.specs.Order.{Order, arranged, by_column, column_in}
 use Rattle.page.specs.Section.{rec_verdict}
 use Rattle.page.specs.Records.{Record, values_of, waits, record_in, table_index, atr_in, order_in}
@@ -29,7 +29,7 @@ use Rattle.names.proofs.ToldLaws.{told_order}
 use Rattle.cut.specs.Walk.{section_size, section_from}
 use Rattle.frames.specs.Lines.{line_with}
 use Rattle.frames.proofs.LineLaws.{line_with_is}
-use Rattle.output.proofs.PutLaws.{Todo}
+use Rattle.names.proofs.TitleLaws.{table_from}
 use Rattle.recording.specs.Said.{rows_of, passes, passing, said, said_in, passes_in, PassingIn}
 use Rattle.copies.specs.Changed.{stays_in, kept_records, kept_content, kept_tables, changed_records, changed_content, changed_tables}
 use Rattle.copies.specs.Planned.{record_plan, section_plan, record_by, records_by, content_by, tables_by}
@@ -74,11 +74,6 @@ pub rows_end : (s : Bytes) (at t : ℕ) (o : Order) (m : ℕ) → length s ≤ a
 unfolding rows_of
 rows_end s at t o m h = rw (lines_end s at h)
 
--- where the whole has room, what is put next has
-first_fits : {l : Bytes} {i : ℕ} {form m : Bytes} {j : ℕ} {r : Bytes} (a b : Bytes) (k n : ℕ) → r ≡ a ++ b → Todo l i form m j r → i + length form + k < n
-    → j + length a + k < n
-first_fits a b k n e t h = omega (arith, t.next, ap length e, length-append a b)
-
 -- the records that stay, one by one
 
 records_append : (ends : LineEnd) (a b : List Record) → records_form ends (a ++ b) ≡ records_form ends a ++ records_form ends b
@@ -103,13 +98,6 @@ module _ (p : Plan) (t : Bytes) (n : ℕ) where
       let z : p.rec - n - length a ≡ p.rec - k = omega arith in
       rw (e, kept_first p.stays v rest, changed_append p.strip (p.rec - n) p.field t a (kept_records p.stays rest), z)
       (records_append p.ends (changed_records p.strip (p.rec - n) p.field t a) (changed_records p.strip (p.rec - k) p.field t (kept_records p.stays rest)))
-
-  pub records_fit : (vs : List Record) (v : Record) (rest : List Record) → vs ≡ v ∷ rest
-      → {l : Bytes} {i : ℕ} {form m : Bytes} {j : ℕ} (k top : ℕ) → Todo l i form m j (records_by p n t vs) → i + length form + k < top
-      → j + length (records_by p n t (v ∷ [])) + k < top
-  records_fit vs v rest e k top x h =
-      let d = n + length (kept_records p.stays (v ∷ [])) in
-      first_fits (records_by p n t (v ∷ [])) (records_by p d t rest) k top (records_more vs v rest d e refl) x h
 
   pub records_end : (vs : List Record) → vs ≡ [] → records_by p n t vs ≡ []
   unfolding records_by kept_records changed_records records_form
@@ -150,13 +138,13 @@ changed_count strip r f x (v ∷ vs) = ap suc (changed_count strip (r - 1) f x v
 
 -- a section
 
-pub table_first : (s : Bytes) (e : ℕ) → 0 < length s → e ≡ 0 + line_size (drop 0 s)
-    → table_named (get_or (fields (rest (content (take e s)))) 0 []) ≡ table_index (lines s)
+-- of a section that stands alone
+pub table_alone : (s : Bytes) → 0 < length s → table_index (section_from s 0).lines ≡ table_index (lines s)
 unfolding table_index
-table_first s e h q =
-    let z : e - 0 ≡ e = omega arith in
-    let x : lines s ≡ take e s ∷ lines (drop e s) = rw z at (cut_at s 0 e h q) in
-    rw x
+table_alone s h =
+    let e = line_size (drop 0 s) in
+    let x : lines s ≡ take (0 + e - 0) s ∷ lines (drop (0 + e) s) = cut_at s 0 (0 + e) h refl in
+    rw x (table_from s 0 h (0 + e) refl)
 
 -- the order that its records are read by
 
@@ -179,11 +167,6 @@ module _ (p : Plan) (x : Bytes) (ls : List Bytes) where
       let vs = kept_records p.stays (rows_of (table_index ls) (order_in ls) 0 ls) in
       rw (d, e, q, z, changed_count p.strip p.rec p.field x vs, line_with_is p.ends "end" (decimal (length vs) ∷ []))
 
-  pub content_length : (t : ℕ) (o : Order) → t ≡ table_index ls → o ≡ order_in ls
-      → length (table_head p.ends (table_at t)) + length (records_by p 0 x (rows_of t o 0 ls)) ≤ length (content_by p x (said ls))
-  content_length t o e q =
-      rw (sym (content_is t o (length (kept_records p.stays (rows_of t o 0 ls))) e q refl)) (simp length-append (omega arith))
-
 -- the sections of a file
 
 pub tables_begin : (p : Plan) (x : Bytes) (ys zs : List Section) → zs ≡ ys → tables_by p 0 x (map said_in ys) ≡ tables_by p 0 x (map said_in zs)
@@ -200,12 +183,6 @@ module _ (p : Plan) (x : Bytes) (n : ℕ) where
   tables_more ys y rest q ls e d l =
       let z : p.section - n - 1 ≡ p.section - (n + 1) = omega arith in
       rw (e, d, z, l)
-
-  pub tables_fit : (ys : List Section) (y : Section) (rest : List Section) (q : Plan) (ls : List Bytes) → ys ≡ y ∷ rest → q ≡ section_plan p n → y.lines ≡ ls
-      → {l : Bytes} {h : ℕ} {form m : Bytes} {j : ℕ} (more top : ℕ) → Todo l h form m j (tables_by p n x (map said_in ys)) → h + length form + more < top
-      → j + length (content_by q x (said ls)) + more < top
-  tables_fit ys y rest q ls e d l more top t h =
-      first_fits (content_by q x (said ls)) (tables_by p (n + 1) x (map said_in rest)) more top (tables_more ys y rest q ls e d l) t h
 
   pub tables_end : (ys : List Section) → ys ≡ [] → tables_by p n x (map said_in ys) ≡ []
   unfolding tables_by kept_tables changed_tables tables_form

@@ -1,6 +1,6 @@
 -- The machine at a place of a section's bytes, and how fast it counts. Assumes nothing.
 use Rattle.std.specs.Prelude.{Err, Ok, Result}
-use mathlib.Core.Path.{◌≡◌, ap, sym, ◌∙◌}
+use mathlib.Core.Path.{◌≡◌, refl, ap, sym, ◌∙◌}
 use mathlib.Core.Bool.{Bool, true, false}
 use mathlib.Core.List.{List}
 use Prim.Native.Nat.{ℕ, ◌+◌, ◌-◌, ◌<◌, ◌≤◌}
@@ -56,6 +56,15 @@ module _ (p : Phase) (t m k : ℕ) (a : List ℕ) (e : p ≡ P.Rows t m k) where
 pub run_end : (s : Bytes) (at : ℕ) (latin : Bool) (p : Phase) (o : Order) (n : ℕ) → length s ≤ at → run latin p o n (lines (drop at s)) ≡ finish p n
 unfolding run
 run_end s at latin p o n h = rw (lines_end s at h)
+
+-- a section that ends without `end`
+pub finish_early : (p : Phase) (n : ℕ) → ((t k : ℕ) → p ≡ P.Ended t k → ⊥) → refused (table_in p) 6 n ≡ finish p n
+unfolding finish table_in
+finish_early P.Tbl n h = refl
+finish_early (P.Atr t) n h = refl
+finish_early (P.Frm t) n h = refl
+finish_early (P.Rows t m k) n h = refl
+finish_early (P.Ended t k) n h = absurd (h t k refl)
 
 -- a step counts at most one record
 data Small (m : ℕ) : Result Phase ℕ → Type 0 where

@@ -10,11 +10,7 @@ use page::{Refusal, Row};
 pub fn section(file: &[u8], i: usize) -> Result<Row, Refusal>
     ensures { result ≡ section_of file.now i }
 {
-    match locate(file, i) {
-        Ok(at) => {
-            let latin = headers::read_charset(file);
-            Ok(read_section(file, at, latin))
-        }
-        Err(x) => Err(x),
-    }
+    let at = locate(file, i)?;
+    let latin = headers::read_charset(file);
+    Ok(read_section(file, at, latin))
 }

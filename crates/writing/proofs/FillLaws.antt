@@ -86,8 +86,8 @@ module _ (s : Bytes) (i r f : ℕ) (t : Bytes) where
       }
 
 module _ (s : Bytes) (i r f : ℕ) (t : Bytes) (q : Refusal) (e : q ≡ fill_refusal s i r f t) where
-  pub fill_ready : q.number ≡ 0 → ((file_refusal s).number ≡ 0) × (length t ≤ 40)
-  fill_ready z = let x = fillable s i r f t (sym (ap (λ (y : Refusal). y.number) e) ∙ z) in (x.file, x.size)
+  pub fill_ready : q.number ≡ 0 → (file_refusal s).number ≡ 0
+  fill_ready z = (fillable s i r f t (sym (ap (λ (y : Refusal). y.number) e) ∙ z)).file
 
   filled : q.number ≡ 0 → Beside (fill i r f t) t
   filled z =

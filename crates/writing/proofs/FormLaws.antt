@@ -2,18 +2,19 @@
 use Rattle.std.specs.Prelude.{Result}
 use mathlib.Core.Path.{◌≡◌, refl, ap, sym, ◌∙◌}
 use mathlib.Core.Bool.{Bool, true, false}
-use mathlib.Core.List.{[], ◌∷◌, ◌++◌, map}
-use Prim.Native.Nat.{ℕ, ◌-◌}
+use mathlib.Core.List.{List, [], ◌∷◌, ◌++◌, map}
+use Prim.Native.Nat.{ℕ, suc, ◌-◌, ◌≤◌}
 use native.Mathlib.Omega.{arith}
 use borrow.Author.Tests.{eqb-true}
 use lib.Dec.{eqb}
 use lib.ListN.{length}
 use Rattle.page.specs.Bytes.{Bytes, bytes}
-use Rattle.page.specs.Cut.{sections, header_lines}
+use Rattle.page.specs.Cut.{Section, sections, header_lines}
 use Rattle.page.specs.Head.{head_values, header_values}
 use Rattle.page.specs.Model.{model_of, Changes, nothing, strip, changed, kept}
 use Rattle.page.specs.Answers.{earlier, answered}
-use Rattle.page.specs.File.{file_refusal}
+use Rattle.page.specs.File.{limit, header_refusal, file_refusal, section_refusal, found}
+use Rattle.page.specs.Trailer.{trailer_of}
 use Rattle.page.specs.Form.{decimal, head_form, form_of}
 use Rattle.page.specs.Writing.{put_refusal, put_of, put_after, form_by, write_form, write_of, write_after, strip_form, strip_of, strip_after}
 use Rattle.page.specs.declared.Header.{Header}
@@ -34,10 +35,19 @@ use Rattle.copies.specs.Planned.{tables_by}
 use Rattle.copies.proofs.KeptLaws.{kept_count}
 use Rattle.recording.proofs.SectionLaws.{changed_tables_count}
 use Rattle.writing.proofs.SoundLaws.{accepted_said}
-use Rattle.writing.proofs.RoomLaws.{said_length}
+use Rattle.page.proofs.LimitLaws.{header_short}
+use Rattle.laws.proofs.Earlier.{earlier_none}
 use Rattle.writing.proofs.HeadLaws.{head_placed}
 use Rattle.writing.proofs.HeaderLaws.{header_texts}
 use Rattle.writing.proofs.ModelLaws.{coded, Beside, planned}
+
+said_length : (xs : List Section) → length (map said_in xs) ≡ length xs
+said_length [] = refl
+said_length (x ∷ xs) = ap suc (said_length xs)
+
+pub accepted_short : (s : Bytes) → (file_refusal s).number ≡ 0 → length s ≤ limit
+unfolding file_refusal
+accepted_short s h = header_short s (earlier_none (header_refusal s) (earlier (found (trailer_of s)) (section_refusal s)) h).0
 
 module _ (s : Bytes) (h : (file_refusal s).number ≡ 0) (p : Plan) (t : Bytes) where
   head_is : head_raw p.ends s (header_values (header_lines s)) ≡ head_form p.ends (head_values (header_lines s))

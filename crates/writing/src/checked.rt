@@ -1,5 +1,5 @@
 // Writing, stripping and filling into lent output, whole or not at all, where it is known what refuses them.
-ghost use Rattle.std.specs.Prelude.{◌≡◌, ◌≤◌, length};
+ghost use Rattle.std.specs.Prelude.{◌≡◌, length};
 ghost use Rattle.page.specs.File.{file_refusal};
 ghost use Rattle.page.specs.Model.{model_of};
 ghost use Rattle.page.specs.Form.{form_of};
@@ -9,7 +9,7 @@ ghost use Rattle.copies.specs.Changed.{changed_model};
 
 use crate::file::put_form;
 use copies::Plan;
-use output::refuse_room;
+use output::{Output, refuse_room};
 use page::{LineEnd, Refusal, Stays};
 
 // The planned form at the front of `out`, unless something refuses it: the measuring pass is the writing pass with nothing lent.
@@ -20,18 +20,21 @@ fn hand_form(
     plan: Plan,
     text: &[u8],
 ) -> Result<usize, Refusal>
-    requires { refusal.number ≡ 0 → ((file_refusal s.now).number ≡ 0) × (length text.now ≤ 40) }
+    requires { refusal.number ≡ 0 → (file_refusal s.now).number ≡ 0 }
     ensures { Wrote refusal (form_of plan.ends (changed_model plan text.now (model_of s.now))) out.old out.new result }
 {
     if refusal.number != 0 {
         return Err(refusal);
     }
-    let need = put_form(&mut out[..0], s, plan, text);
-    let room = refuse_room(need, out.len());
-    if room.number != 0 {
-        return Err(room);
-    }
-    Ok(put_form(out, s, plan, text))
+    let mut measured = Output {
+        room: &mut [],
+        at: 0,
+    };
+    put_form(&mut measured, s, plan, text);
+    refuse_room(measured.at, out.len())?;
+    let mut written = Output { room: out, at: 0 };
+    put_form(&mut written, s, plan, text);
+    Ok(written.at)
 }
 
 // "Only a file with verdict 0 is written; else its verdict is given."

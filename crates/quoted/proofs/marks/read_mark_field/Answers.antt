@@ -6,8 +6,8 @@ use Rattle.page.proofs.MarkLaws.{mark_between}
 use Rattle.quoted.proofs.SizeLaws.{size_some, size_none}
 use Rattle.quoted.proofs.marks.read_mark_field.Goals as goal
 
-pub overflow_sub-e : goal.overflow_sub-e
-overflow_sub-e c =
+pub overflow_sub-f : goal.overflow_sub-f
+overflow_sub-f c =
     let f = c.args.f.now in
     omega (arith, text_long f _ (size_some (text_of f) _ (sym c.text_size.ensures ∙ c.in-Some.is)))
 

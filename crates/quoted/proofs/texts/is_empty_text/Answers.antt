@@ -1,23 +1,14 @@
-use Prim.Native.Nat.{◌-◌, ◌≤◌}
 use mathlib.Core.Path.{sym, ◌∙◌}
 use native.Mathlib.Omega.{arith}
-use lib.ListN.{length}
-use lib.Seq.{length-take-le}
 use Rattle.page.specs.Fields.{text_of}
 use Rattle.page.proofs.TextLaws.{text_long}
 use Rattle.quoted.proofs.SizeLaws.{size_some, empty_kept, empty_not}
 use Rattle.quoted.proofs.texts.is_empty_text.Goals as goal
 
-pub overflow_sub-e : goal.overflow_sub-e
-overflow_sub-e c =
+pub slice_bounds-kept-count : goal.slice_bounds-kept-count
+slice_bounds-kept-count c =
     let f = c.args.f.now in
     omega (arith, text_long f _ (size_some (text_of f) _ (sym c.text_size.ensures ∙ c.in-Some.is)))
-
-pub slice_bounds-kept-end : goal.slice_bounds-kept-end
-slice_bounds-kept-end c =
-    let f = c.args.f.now in
-    let le : length f - 1 ≤ length f = omega arith in
-    sym (length-take-le _ f le)
 
 pub returns-in-Some : goal.returns-in-Some
 returns-in-Some c =
