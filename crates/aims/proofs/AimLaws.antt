@@ -15,7 +15,8 @@ use Rattle.page.specs.Fields.{fields}
 use Rattle.page.specs.Tables.{MOST, TABLES, table_at, width}
 use Rattle.page.specs.Order.{Order, arranged}
 use Rattle.page.specs.File.{any, by_primary, lost, first_record, filed_of}
-use Rattle.page.specs.Answers.{sound}
+use Rattle.std.specs.Prelude.{Result, Ok, Err}
+use Rattle.page.specs.Answers.{answered}
 use Rattle.page.specs.declared.Refusal.{Refusal}
 use Rattle.page.proofs.TableLaws.{references_le}
 use Rattle.choices.specs.declared.Choice.{Choice}
@@ -148,44 +149,18 @@ module _ (aims : Aims) (t : ℕ) where
 
 -- section after section
 module _ (s : Bytes) (seats : Seats) (z : Ready s seats) where
-  pub looked_none : (n : ℕ) → n ≡ 0 → Looked s seats n (record { number = 0; section = 0; line = 0 })
-  looked_none n z = record { none = λ e. (refl, λ m h. absurd (omega arith)); some = λ n. absurd (n refl) }
+  -- the sections before section i lose nothing
+  module _ (i : ℕ) (y : (m : ℕ) → m < i → lost_line s seats (seat_at seats m) ≡ 0) where
+    pub looked_next : lost_line s seats (seat_at seats i) ≡ 0 → Looked s seats (i + 1) (Ok (tt {0}))
+    looked_next f = below_more _ _ y f
 
-  module _ (n : ℕ) (k : n ≡ 0 → ⊥) (r : Refusal) (y : Looked s seats (n - 1) r) where
-    pub looked_some : (r.number ≡ 0 → ⊥) → Looked s seats n r
-    looked_some e = record { none = λ q. absurd (e q); some = y.some }
+    pub looked_here : i < seats.count → (l : ℕ) → (0 < l) × (lost_line s seats (seat_at seats i) ≡ l)
+        → (n : ℕ) → Looked s seats n (Err (record { number = 20; section = i + 1; line = l }))
+    looked_here h l q n =
+        let p : (l - 1) + 1 ≡ l = omega (arith, q.0) in
+        (sym (rw p at (lost_at s seats z i (l - 1) h y (q.1 ∙ sym p))), refl)
 
-    module _ (e : r.number ≡ 0) (l : ℕ) (q : l ≡ lost_line s seats (seat_at seats (n - 1))) where
-      pub looked_more : l ≡ 0 → Looked s seats n r
-      looked_more f =
-          let o : n ≡ (n - 1) + 1 = omega arith in
-          let b = y.none e in
-          record { none = λ q2. (b.0, λ m h. below_more _ _ b.1 (sym q ∙ f) m (omega arith)); some = λ x. absurd (x e) }
-
-      pub looked_lost : (l ≡ 0 → ⊥) → n ≤ seats.count → Looked s seats n (record { number = 20; section = n; line = l })
-      looked_lost f h =
-          let o : (n - 1) + 1 ≡ n = omega arith in
-          let p : (l - 1) + 1 ≡ l = omega arith in
-          let a = lost_at s seats z (n - 1) (l - 1) (omega arith) (y.none e).1 (sym q ∙ sym p) in
-          record { none = λ x. absurd (omega arith); some = λ x. sym (rw (o, p) at a) }
-
-  module _ (n : ℕ) (y : Looked s seats n sound) (l : ℕ) (q : l ≡ lost_line s seats (seat_at seats n)) where
-    pub looked_next : l ≡ 0 → Looked s seats (n + 1) sound
-    looked_next f =
-        record { none = λ e. (refl, λ m h. below_more _ _ (y.none refl).1 (sym q ∙ f) m (omega arith)); some = λ x. absurd (x refl) }
-
-    pub looked_here : (l ≡ 0 → ⊥) → n < seats.count → (k : ℕ) → Looked s seats k (record { number = 20; section = n + 1; line = l })
-    looked_here f h k =
-        let p : (l - 1) + 1 ≡ l = omega arith in
-        let a = lost_at s seats z n (l - 1) h (y.none refl).1 (sym q ∙ sym p) in
-        record { none = λ x. absurd (omega arith); some = λ x. sym (rw p at a) }
-
-  pub looked_end : (n : ℕ) → Looked s seats n sound → seats.count ≤ n → Looked s seats seats.count sound
-  looked_end n y h = record { none = λ e. (refl, λ m l. (y.none refl).1 m (omega arith)); some = λ x. absurd (x refl) }
-
-  pub looked_all : (r : Refusal) → Looked s seats seats.count r → r ≡ first_record 20 (λ before. lost (filed_of s)) [] (filed_of s)
-  looked_all r y = by (eqb r.number 0) refl
-    where
-      by : (b : Bool) → eqb r.number 0 ≡ b → r ≡ first_record 20 (λ before. lost (filed_of s)) [] (filed_of s)
-      by true e = let b = y.none (eqb-true r.number 0 e) in b.0 ∙ sym (lost_none s seats z b.1)
-      by false e = y.some (eqb-false r.number 0 e)
+  pub looked_all : (r : Result (Unit {0}) Refusal) → Looked s seats seats.count r → r ≡ answered (first_record 20 (λ before. lost (filed_of s)) [] (filed_of s)) (tt {0})
+  unfolding answered
+  looked_all (Ok x) y = rw (lost_none s seats z y)
+  looked_all (Err e) y = rw (sym y.0, y.1)
