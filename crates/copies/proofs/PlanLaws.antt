@@ -1,9 +1,10 @@
 -- The plan of a record and of a section, and what it changes where none is named. Assumes nothing.
-use Rattle.std.proofs.Common.{◌≡◌, ℕ, ◌+◌, ◌-◌, List, [], ◌∷◌, Bool, ap, arith, refl, ◌⊎◌, inl, inr}
+use Rattle.std.proofs.Common.{◌≡◌, ℕ, ◌+◌, ◌-◌, List, [], ◌∷◌, Bool, ap, arith, refl, ◌⊎◌, inl, inr, true, false}
+use lib.Dec.{eqb}
 use borrow.Author.Tests.{eq-eqb, ne_eqb}
-use Rattle.page.specs.Bytes.{Bytes}
+use Rattle.page.specs.Bytes.{Bytes, pick}
 use Rattle.page.specs.Records.{Record}
-use Rattle.copies.specs.Changed.{changed_datum, changed_values, changed_records}
+use Rattle.copies.specs.Changed.{strips, section_of, record_of, field_of, text_of, changed_datum, changed_values, changed_records}
 use Rattle.copies.specs.Planned.{record_change, section_change, record_plan, section_plan}
 use Rattle.copies.specs.declared.plan.Change.{Change}
 use Rattle.copies.specs.declared.plan.Change.TheVariants as C
@@ -58,3 +59,33 @@ pub records_alike : (strip : Bool) (f g : ℕ) (t u : Bytes) (rs : List Record) 
 unfolding changed_records
 records_alike strip f g t u [] = refl
 records_alike strip f g t u (v ∷ vs) = rw (values_alike strip t u v, records_alike strip f g t u vs)
+
+-- the plan of a record or a section says of it what the whole plan says
+
+pick_same : (b : Bool) (k : ℕ) → k ≡ pick b k k
+pick_same true k = refl
+pick_same false k = refl
+
+pub record_says : {A : Type 0} (F : Bool → ℕ → Bytes → A) → ((s : Bool) (t u : Bytes) → F s 0 t ≡ F s 0 u) → (c : Change) (n : ℕ)
+    → F (strips (record_change c n)) (field_of (record_change c n)) (text_of (record_change c n))
+    ≡ F (strips c) (pick (eqb (record_of c - n) 1) (field_of c) 0) (text_of c)
+record_says F e C.Nothing n = ap (λ (k : ℕ). F false k []) (pick_same (eqb (0 - n) 1) 0)
+record_says F e C.Strip n = ap (λ (k : ℕ). F true k []) (pick_same (eqb (0 - n) 1) 0)
+record_says F e (C.Fill x) n = by (eqb (x.rec - n) 1)
+  where
+    by : (b : Bool) → F (strips (pick b (C.Fill x) C.Nothing)) (field_of (pick b (C.Fill x) C.Nothing)) (text_of (pick b (C.Fill x) C.Nothing))
+        ≡ F false (pick b x.field 0) x.text.now
+    by true = refl
+    by false = e false [] x.text.now
+
+pub section_says : {A : Type 0} (F : Bool → ℕ → ℕ → Bytes → A) → ((s : Bool) (f g : ℕ) (t u : Bytes) → F s 0 f t ≡ F s 0 g u) → (c : Change) (n : ℕ)
+    → F (strips (section_change c n)) (record_of (section_change c n)) (field_of (section_change c n)) (text_of (section_change c n))
+    ≡ F (strips c) (pick (eqb (section_of c - n) 1) (record_of c) 0) (field_of c) (text_of c)
+section_says F e C.Nothing n = ap (λ (k : ℕ). F false k 0 []) (pick_same (eqb (0 - n) 1) 0)
+section_says F e C.Strip n = ap (λ (k : ℕ). F true k 0 []) (pick_same (eqb (0 - n) 1) 0)
+section_says F e (C.Fill x) n = by (eqb (x.section - n) 1)
+  where
+    by : (b : Bool) → F (strips (pick b (C.Fill x) C.Nothing)) (record_of (pick b (C.Fill x) C.Nothing)) (field_of (pick b (C.Fill x) C.Nothing)) (text_of (pick b (C.Fill x) C.Nothing))
+        ≡ F false (pick b x.rec 0) x.field x.text.now
+    by true = refl
+    by false = e false 0 x.field [] x.text.now

@@ -29,18 +29,17 @@ fn put_staying(
     o: &[u8; WIDEST],
     listed: bool,
     m: u64,
-    plan: Plan,
-    text: &[u8],
+    plan: Plan<'_>,
 ) -> usize
     requires { Stands t o.now
         × (listed ≡ true → held t o.now ≡ listed_order t)
         × (rec_verdict t (held t o.now) m (fields w.now) ≡ 0)
         × (n < 18446744073709551615) }
-    ensures form { Puts out.old (records_by plan n text.now (row t (held t o.now) m w.now ∷ [])) out.new }
-    ensures count { result ≡ n + length (kept_records plan.stays (row t (held t o.now) m w.now ∷ [])) }
+    ensures form { Puts out.old (records_by plan.entry n (row t (held t o.now) m w.now ∷ [])) out.new }
+    ensures count { result ≡ n + length (kept_records plan.entry.stays (row t (held t o.now) m w.now ∷ [])) }
 {
     if does_stay(plan.stays) {
-        put_record(out, w, t, o, listed, m, plan_record(plan, n), text);
+        put_record(out, w, t, o, listed, m, plan_record(plan, n));
         return n + 1;
     }
     n
@@ -48,17 +47,10 @@ fn put_staying(
 
 // "records keep their order": s is the bytes of a section of table t, in the order o, whose records all passed their rules. How many were
 // written.
-fn put_records(
-    out: &mut Output<'_>,
-    s: &[u8],
-    t: usize,
-    o: &[u8; WIDEST],
-    plan: Plan,
-    text: &[u8],
-) -> usize
+fn put_records(out: &mut Output<'_>, s: &[u8], t: usize, o: &[u8; WIDEST], plan: Plan<'_>) -> usize
     requires { Stands t o.now × (passes t (held t o.now) 0 (lines s.now) ≡ true) }
-    ensures form { Puts out.old (records_by plan 0 text.now (rows_of t (held t o.now) 0 (lines s.now))) out.new }
-    ensures count { result ≡ length (kept_records plan.stays (rows_of t (held t o.now) 0 (lines s.now))) }
+    ensures form { Puts out.old (records_by plan.entry 0 (rows_of t (held t o.now) 0 (lines s.now))) out.new }
+    ensures count { result ≡ length (kept_records plan.entry.stays (rows_of t (held t o.now) 0 (lines s.now))) }
 {
     let listed = is_listed(o, t);
     let mut m = 0;
@@ -66,7 +58,7 @@ fn put_records(
     for line in lines_of(s) {
         let x = lines::content_of(line.bytes);
         if commands::command_of(x) == commands::REC {
-            n = put_staying(out, n, lines::rest_of(x), t, o, listed, m, plan, text);
+            n = put_staying(out, n, lines::rest_of(x), t, o, listed, m, plan);
             m = 0;
         } else {
             m = quoted::wait_on(x, m);
@@ -76,13 +68,13 @@ fn put_records(
 }
 
 // s is the bytes of a section whose records all passed their rules.
-pub fn put_section(out: &mut Output<'_>, s: &[u8], plan: Plan, text: &[u8])
+pub fn put_section(out: &mut Output<'_>, s: &[u8], plan: Plan<'_>)
     requires { (0 < length s.now) × (passing (lines s.now) ≡ true) }
-    ensures { Puts out.old (content_by plan text.now (said (lines s.now))) out.new }
+    ensures { Puts out.old (content_by plan.entry (said (lines s.now))) out.new }
 {
     let t = names::table_at(s, 0);
     put_table_head(out, plan.ends, t);
     let o = names::find_order(s, t);
-    let n = put_records(out, s, t, &o, plan, text);
+    let n = put_records(out, s, t, &o, plan);
     put_count_line(out, plan.ends, b"end", n as u64);
 }

@@ -15,16 +15,16 @@ use output::Output;
 use recording::put_section;
 
 // "sections keep their order": the records of every section passed their rules. How many sections there are.
-fn put_sections(out: &mut Output<'_>, s: &[u8], plan: Plan, text: &[u8]) -> usize
+fn put_sections(out: &mut Output<'_>, s: &[u8], plan: Plan<'_>) -> usize
     requires { Passing s.now }
-    ensures form { Puts out.old (tables_by plan 0 text.now (map said_in (sections s.now))) out.new }
+    ensures form { Puts out.old (tables_by plan.entry 0 (map said_in (sections s.now))) out.new }
     ensures count { result ≡ length (sections s.now) }
 {
     let mut a = cut::find_section(s, 0);
     let mut n = 0;
     while a < s.len() {
         let e = cut::section_end(s, a);
-        put_section(out, &s[a..e], plan_section(plan, n), text);
+        put_section(out, &s[a..e], plan_section(plan, n));
         a = cut::find_section(s, e);
         n += 1;
     }
@@ -32,11 +32,11 @@ fn put_sections(out: &mut Output<'_>, s: &[u8], plan: Plan, text: &[u8]) -> usiz
 }
 
 // The planned form of an accepted file.
-pub fn put_form(out: &mut Output<'_>, s: &[u8], plan: Plan, text: &[u8])
+pub fn put_form(out: &mut Output<'_>, s: &[u8], plan: Plan<'_>)
     requires { (file_refusal s.now).number ≡ 0 }
-    ensures { Puts out.old (form_of plan.ends (changed_model plan text.now (model_of s.now))) out.new }
+    ensures { Puts out.old (form_of plan.entry.ends (changed_model plan.entry (model_of s.now))) out.new }
 {
     put_head(out, plan.ends, s, headers::read_values(s));
-    let n = put_sections(out, s, plan, text);
+    let n = put_sections(out, s, plan);
     put_count_line(out, plan.ends, b"eof", n as u64);
 }

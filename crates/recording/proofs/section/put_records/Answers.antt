@@ -40,7 +40,7 @@ loop-line-preserved-then-command_of-eq-REC c =
       few = omega (arith, count_most a.plan.stays l.n _ _ r.count, t.some);
       sound = passes_more a.s.now _ _ t.before t.size a.t o l.m _ x q l.invariant.sound;
       count = omega (arith, rows_count a.plan.stays _ _ _ y, r.count, l.invariant.count);
-      form = next_by (records_more a.plan a.text.now l.n _ _ _ _ y r.count) l.invariant.form r.form;
+      form = next_by (records_more a.plan l.n _ _ _ _ y r.count) l.invariant.form r.form;
     }
 
 pub loop-line-preserved : goal.loop-line-preserved
@@ -58,7 +58,7 @@ loop-line-preserved c =
       few = omega (arith, t.some);
       sound = rw c.wait_on-m.ensures (passes_other a.s.now _ _ t.before t.size a.t o l.m _ x q l.invariant.sound);
       count = rw c.wait_on-m.ensures (omega (arith, ap (λ (vs : List Record). length (kept_records a.plan.stays vs)) y, l.invariant.count));
-      form = rw c.wait_on-m.ensures (left_is (ap (λ (vs : List Record). records_by a.plan l.n a.text.now vs) y) l.invariant.form);
+      form = rw c.wait_on-m.ensures (left_is (ap (λ (vs : List Record). records_by a.plan l.n vs) y) l.invariant.form);
     }
 
 pub returns-clause-form : goal.returns-clause-form
@@ -66,7 +66,7 @@ returns-clause-form c =
     let a = c.args in
     let l = c.loop-line in
     let y = rows_end a.s.now l.line-iterator.at a.t (held a.t a.o.now) l.m (rw l.invariant.bytes at c.in-None.ensures.steps.2) in
-    at_end (records_end a.plan a.text.now l.n _ y) l.invariant.form
+    at_end (records_end a.plan l.n _ y) l.invariant.form
 
 pub returns-clause-count : goal.returns-clause-count
 returns-clause-count c =

@@ -17,5 +17,5 @@ invariant-loop-line l =
       few : l.n ≤ at;
       sound : passes l.t o l.m (lines (drop at l.s)) ≡ true;
       count : l.n + length (kept_records l.plan.stays (rows_of l.t o l.m (lines (drop at l.s)))) ≡ length (kept_records l.plan.stays (rows_of l.t o 0 (lines l.s)));
-      form : Todo l.initial.out (records_by l.plan 0 l.text (rows_of l.t o 0 (lines l.s))) l.out (records_by l.plan l.n l.text (rows_of l.t o l.m (lines (drop at l.s))));
+      form : Todo l.initial.out (records_by l.plan 0 (rows_of l.t o 0 (lines l.s))) l.out (records_by l.plan l.n (rows_of l.t o l.m (lines (drop at l.s))));
     }

@@ -26,5 +26,5 @@ returns c =
     let o = c.find_order-o in
     let z = t.ensures ∙ table_alone a.s.now q.0 in
     let e = order_told ls t.result o.result z o.ensures q.1 in
-    put_as (content_is a.plan a.text.now ls t.result (held t.result o.result) _ z e c.put_records-n.ensures.count)
+    put_as (content_is a.plan ls t.result (held t.result o.result) _ z e c.put_records-n.ensures.count)
     (puts c.put_table_head.ensures (puts c.put_records-n.ensures.form c.put_count_line.ensures))

@@ -8,7 +8,7 @@ pub returns-then-does_stay-clause-form : goal.returns-then-does_stay-clause-form
 returns-then-does_stay-clause-form c =
     let a = c.args in
     let v = row a.t (held a.t a.o.now) a.m a.w.now in
-    put_as (record_stays a.plan a.text.now a.n v _ (c.does_stay.ensures v) c.if-does_stay.true _ c.plan_record.ensures) c.put_record.ensures
+    put_as (record_stays a.plan a.n v _ (c.does_stay.ensures v) c.if-does_stay.true _ c.plan_record.ensures) c.put_record.ensures
 
 pub returns-then-does_stay-clause-count : goal.returns-then-does_stay-clause-count
 returns-then-does_stay-clause-count c =
@@ -20,7 +20,7 @@ pub returns-clause-form : goal.returns-clause-form
 returns-clause-form c =
     let a = c.args in
     let v = row a.t (held a.t a.o.now) a.m a.w.now in
-    put_as (record_goes a.plan a.text.now a.n v _ (c.does_stay.ensures v) c.if-does_stay.false) put_none
+    put_as (record_goes a.plan a.n v _ (c.does_stay.ensures v) c.if-does_stay.false) put_none
 
 pub returns-clause-count : goal.returns-clause-count
 returns-clause-count c =

@@ -9,4 +9,4 @@ hand_form-requires c =
 
 pub returns : goal.returns
 returns c =
-    strip_done _ _ _ _ _ _ c.requires c.hand_form.ensures
+    strip_done _ _ _ _ _ c.requires c.hand_form.ensures

@@ -9,4 +9,4 @@ hand_form-requires c =
 
 pub returns : goal.returns
 returns c =
-    write_done _ _ _ _ _ _ c.requires c.hand_form.ensures
+    write_done _ _ _ _ _ c.requires c.hand_form.ensures

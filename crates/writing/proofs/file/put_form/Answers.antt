@@ -14,5 +14,5 @@ pub returns : goal.returns
 unfolding bytes
 returns c =
     let a = c.args in
-    put_as (form_is a.s.now c.requires a.plan a.text.now _ _ c.read_values.ensures c.put_sections-n.ensures.count)
+    put_as (form_is a.s.now c.requires a.plan _ _ c.read_values.ensures c.put_sections-n.ensures.count)
     (puts c.put_head.ensures (puts c.put_sections-n.ensures.form c.put_count_line.ensures))

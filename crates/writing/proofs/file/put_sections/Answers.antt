@@ -19,7 +19,7 @@ loop-a-init c =
       settled = f.settled;
       passing = rw y c.requires;
       count = omega (arith, ap length y);
-      form = left_is (tables_begin a.plan a.text.now (sections s) _ y) begin;
+      form = left_is (tables_begin a.plan (sections s) _ y) begin;
     }
 
 pub put_section-requires : goal.put_section-requires
@@ -42,7 +42,7 @@ loop-a-preserved c =
     let l = c.loop-a in
     let e = c.section_end-e in
     let g = walk_here s l.a c.loop-a-test.true l.invariant.settled in
-    let z = tables_more a.plan a.text.now l.n _ _ _ _ _ g c.plan_section.ensures (lines_from s l.a e.result e.ensures.0) in
+    let z = tables_more a.plan l.n _ _ _ _ _ g c.plan_section.ensures (lines_from s l.a e.result e.ensures.0) in
     let f = c.find_section-a-in-loop-a.ensures in
     let y = f.same ∙ ap (sections_from s) e.ensures.0 in
     record {
@@ -58,7 +58,7 @@ pub returns-clause-form : goal.returns-clause-form
 returns-clause-form c =
     let a = c.args in
     let l = c.loop-a in
-    at_end (tables_end a.plan a.text.now l.n _ (sections_end a.s.now l.a c.loop-a-test.false)) l.invariant.form
+    at_end (tables_end a.plan l.n _ (sections_end a.s.now l.a c.loop-a-test.false)) l.invariant.form
 
 pub returns-clause-count : goal.returns-clause-count
 returns-clause-count c =

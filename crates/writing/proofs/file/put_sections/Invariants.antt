@@ -16,7 +16,7 @@ invariant-loop-a l =
       settled : Settled l.s l.a;
       passing : PassingIn (sections_from l.s l.a);
       count : l.n + length (sections_from l.s l.a) ≡ length (sections l.s);
-      form : Todo l.initial.out (tables_by l.plan 0 l.text (map said_in (sections l.s))) l.out (tables_by l.plan l.n l.text (map said_in (sections_from l.s l.a)));
+      form : Todo l.initial.out (tables_by l.plan 0 (map said_in (sections l.s))) l.out (tables_by l.plan l.n (map said_in (sections_from l.s l.a)));
     }
 
 abbrev pub decreases-loop-a : goal.decreases-loop-a
