@@ -1,4 +1,4 @@
-// The line cursor.
+// The line cursor, a struct by value, whose method hands back the line's span and the moved cursor: the iterator goes by it.
 ghost use Rattle.std.specs.Prelude.{◌≡◌};
 ghost use Rattle.lines.specs.Lines.{line_at};
 

@@ -3,7 +3,7 @@ ghost use Rattle.std.specs.Prelude.{◌≡◌, ◌+◌, ◌-◌, ◌^◌, ◌<�
 ghost use Rattle.std.specs.Iterator.{at_most};
 ghost use Rattle.lines.specs.Lines.{GivesLine};
 
-use crate::ends::line_end;
+use crate::cursor::Cursor;
 
 // A whole line, and where it begins.
 #[derive(Clone, Copy)]
@@ -57,11 +57,11 @@ impl<'a> Iterator for Lines<'a> {
         if s.len() <= at {
             return None;
         }
-        let to = line_end(s, at);
-        self.at = to;
+        let walked = Cursor { at }.line(s);
+        self.at = walked.next.at;
         Some(Line {
             at,
-            bytes: &s[at..to],
+            bytes: &s[at..walked.span.to],
         })
     }
 }
