@@ -59,12 +59,11 @@ fn text_slowly(w: &[u8], at: usize, size: u64) -> Reading
         × (result.field ≡ later_field (span_from w.now at).from (text_field size (words_of (field_from w.now at))))
         × (result.clean ≡ false) }
 {
-    let e = commands::field_end(w, at);
-    let sp = lines::trim_in(w, at, e);
-    let f = read_text_field(w, sp.from, sp.to, size);
+    let end = commands::field_end(w, at);
+    let part = lines::trim_in(w, at, end);
     Reading {
-        field: f,
-        end: e,
+        field: read_text_field(w, part.from, part.to, size),
+        end,
         clean: false,
     }
 }
@@ -75,16 +74,13 @@ fn text_from(w: &[u8], at: usize, size: u64, wide: bool) -> Reading
         × (result.field ≡ later_field (span_from w.now at).from (text_field size (words_of (field_from w.now at))))
         × (result.clean ≡ true → all (allowed wide) (take (result.end - at) (drop at w.now)) ≡ true) }
 {
-    let t = text_at(w, at, wide);
-    if !t.met {
-        return text_slowly(w, at, size);
-    }
-    let e = t.end;
-    let f = judge_text(w, t.from, e, t.size, size);
-    Reading {
-        field: f,
-        end: e,
-        clean: true,
+    match text_at(w, at, wide) {
+        Some(text) => Reading {
+            field: judge_text(w, text.from, text.end, text.size, size),
+            end: text.end,
+            clean: true,
+        },
+        None => text_slowly(w, at, size),
     }
 }
 
@@ -94,14 +90,11 @@ fn number_from(w: &[u8], at: usize, column: Column) -> Reading
         × (result.field ≡ field_of column (field_from w.now at))
         × (result.clean ≡ true → (wide : Bool) → all (allowed wide) (take (result.end - at) (drop at w.now)) ≡ true) }
 {
-    let c = number_at(w, at);
-    let n = c.number;
-    let e = c.end;
-    let f = judge_number(w, at, e, n, column);
+    let read = number_at(w, at);
     Reading {
-        field: f,
-        end: e,
-        clean: c.clean,
+        field: judge_number(w, at, read.end, read.number, column),
+        end: read.end,
+        clean: read.clean,
     }
 }
 
@@ -114,9 +107,10 @@ pub fn read_field(w: &[u8], at: usize, column: Column, wide: bool) -> Reading
         × (result.clean ≡ true → all (allowed wide) (take (result.end - at) (drop at w.now)) ≡ true) }
 {
     if column.text {
-        return text_from(w, at, column.hi, wide);
+        text_from(w, at, column.hi, wide)
+    } else {
+        number_from(w, at, column)
     }
-    number_from(w, at, column)
 }
 
 // The value of a number that was found in its range, and 0 for any other.
@@ -125,7 +119,6 @@ pub fn worth(number: Number) -> u64
 {
     match number {
         Number::Plus(n) => n,
-        Number::Minus(_) => 0,
-        Number::Nothing => 0,
+        Number::Minus(_) | Number::Nothing => 0,
     }
 }
