@@ -8,7 +8,6 @@ ghost use Rattle.commands.specs.Commands.{code};
 use crate::names::{form_named, is_ascii_name, is_latin_name};
 use commands::{Command, count_fields, field_at};
 use dates::{is_date, is_time};
-use lines::equal;
 
 fn is_text(f: &[u8]) -> bool
     ensures { result ≡ is_text (text_of f.now) }
@@ -16,18 +15,18 @@ fn is_text(f: &[u8]) -> bool
     quoted::text_size(f).is_some()
 }
 
-#[tactic(auto, unfolding(page::specs::Bytes::bytes))]
+#[tactic(auto, using(page::proofs::ChainLaws::same_is), unfolding(page::specs::Bytes::bytes))]
 fn is_clock(f: &[u8]) -> bool
     ensures { result ≡ same f.now (bytes "HH:MM:SS") }
 {
-    equal(f, b"HH:MM:SS")
+    f == b"HH:MM:SS".as_slice()
 }
 
-#[tactic(auto, unfolding(page::specs::Bytes::bytes))]
+#[tactic(auto, using(page::proofs::ChainLaws::same_is), unfolding(page::specs::Bytes::bytes))]
 fn is_mode(f: &[u8]) -> bool
     ensures { result ≡ (same f.now (bytes "free") || same f.now (bytes "aligned")) }
 {
-    equal(f, b"free") || equal(f, b"aligned")
+    f == b"free".as_slice() || f == b"aligned".as_slice()
 }
 
 // The date's form that a `mod` line states, or 0 if it breaks a rule.

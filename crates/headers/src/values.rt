@@ -18,13 +18,12 @@ fn rest_in(h: &[u8], k: Command) -> &[u8]
     requires { code k < 16 }
     ensures { result.now ≡ (line_of (code k) 0 (lines h.now)).rest }
 {
-    let l = find_line(h, k);
-    let a = l.from;
-    let e = l.to;
-    &h[a..e]
+    let rest = find_line(h, k);
+    &h[rest.from..rest.to]
 }
 
 // Field i of the line of command k, the first counted as 0.
+#[tactic(auto, unfolding(page::specs::Head::field_in))]
 fn field_in(h: &[u8], k: Command, i: usize) -> &[u8]
     requires { code k < 16 }
     ensures { result.now ≡ field_in (code k) i (lines h.now) }
@@ -32,6 +31,7 @@ fn field_in(h: &[u8], k: Command, i: usize) -> &[u8]
     commands::field_at(rest_in(h, k), i)
 }
 
+#[tactic(auto, unfolding(page::specs::Head::latin_in))]
 fn charset_in(h: &[u8]) -> bool
     ensures { result ≡ latin_in (lines h.now) }
 {
@@ -39,6 +39,7 @@ fn charset_in(h: &[u8]) -> bool
 }
 
 // A date's form is what `mod` states.
+#[tactic(auto, unfolding(page::specs::Head::form_in))]
 fn date_in(h: &[u8]) -> Date
     ensures { result ≡ date_of (form_in (lines h.now)) (field_in Src 1 (lines h.now)) }
 {
@@ -63,21 +64,24 @@ fn text_in(h: &[u8], k: Command) -> Span
     let f = commands::find_field(&h[a..e], 0);
     Span {
         from: a + (f.from + 1),
-        to: a + lines::one_less(f.to),
+        to: a + f.to.saturating_sub(1),
     }
 }
 
 // "Whether `dve` and `fft` stand is kept."
+#[tactic(auto, unfolding(page::specs::Head::span_if))]
 fn state_text(h: &[u8], k: Command) -> Option<Span>
     requires { (code k < 16) × (length h.now ≤ limit) }
     ensures { result ≡ span_if (code k) (lines h.now) }
 {
     if crate::find::stands_in(h, k) {
-        return Some(text_in(h, k));
+        Some(text_in(h, k))
+    } else {
+        None
     }
-    None
 }
 
+#[tactic(auto, unfolding(page::specs::Head::header_values))]
 fn values_in(h: &[u8]) -> Header
     requires { length h.now ≤ limit }
     ensures { result ≡ header_values (lines h.now) }
@@ -91,14 +95,14 @@ fn values_in(h: &[u8]) -> Header
     let dve = state_text(h, Command::Dve);
     let fft = state_text(h, Command::Fft);
     Header {
-        source: source,
-        date: date,
-        time: time,
-        latin: latin,
-        ver: ver,
-        ifv: ifv,
-        dve: dve,
-        fft: fft,
+        source,
+        date,
+        time,
+        latin,
+        ver,
+        ifv,
+        dve,
+        fft,
     }
 }
 
