@@ -165,9 +165,10 @@ pub fn step(l: &[u8], p: Phase, o: [u8; WIDEST], latin: bool) -> Result<Moved, u
     if let Phase::Atr(t) = p {
         let arranged = names::arrange(lines::rest_of(c), t);
         let phase = step_content(c, p, &o, arranged.is_some(), latin)?;
+        let stated = arranged.unwrap_or(o);
         return Ok(Moved {
             phase,
-            order: arranged.unwrap_or(o),
+            order: stated,
         });
     }
     let phase = step_content(c, p, &o, false, latin)?;

@@ -23,7 +23,7 @@ returns-in-Atr c =
     let a = c.args in
     let w = sym c.content_of-c.ensures in
     let e : step a.latin a.p (order_at a.p a.o) a.l.now ≡ Ok c.in_ok-phase.phase = rw (c.in-Atr.is, w) (sym c.step_content.ensures ∙ c.in_ok-phase.was) in
-    rw c.unwrap_or.ensures
+    rw c.unwrap_or-stated.ensures
     (ok_moves e
     (carry_atr a.latin c.in-Atr.t a.p c.in_ok-phase.phase a.o c.arrange-arranged.result a.l.now c.in-Atr.is (rw (w, sym c.rest_of.ensures) c.arrange-arranged.ensures) e))
 
