@@ -77,7 +77,8 @@ fn take_text(w: &[u8], at: usize) -> Taken
     }
 }
 
-// The field that begins at a place as a choice takes it; 0 where it does not.
+// The field that begins at a place as a choice takes it; 0 where it does not. A kind stays the digit that a choice packs and
+// `Numbers.gather` reads.
 fn take_field(w: &[u8], at: usize, kind: u64) -> Taken
     requires { at ≤ length w.now }
     ensures { (result.end ≡ at + field_size false (drop at w.now))

@@ -61,6 +61,7 @@ fn note_target(g: &mut [u32], h: u64, at: usize, marked: bool) {
     }
 }
 
+// Not by `Lines`: the walk that hashes a line finds where it ends.
 fn note_targets(w: &[u8], t: usize, choice: Choice, marked: bool, g: &mut [u32]) {
     let mut from = 0;
     while from < w.len() {

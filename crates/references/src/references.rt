@@ -148,11 +148,9 @@ impl<'a> Section<'a> {
             known,
             recent: None,
         };
-        let mut n = 0;
-        for line in lines_of(self.bytes) {
-            n += 1;
+        for (i, line) in lines_of(self.bytes).enumerate() {
             let Some(next) = self.read_line(line, seen, g) else {
-                return Some(n);
+                return Some(i + 1);
             };
             seen = next;
         }

@@ -41,7 +41,8 @@ fn find_part<'a>(s: &'a [u8], seat: &Seat, choice: Choice) -> &'a [u8]
     &s[from..to]
 }
 
-// "each at the first record in file order that breaks it"
+// "each at the first record in file order that breaks it": a scan of sections and lines, left by a label at the first offender, is the form
+// that document 01 names for it.
 pub fn first_repeat(s: &[u8], seats: &Seats, second: bool) -> Result<(), Refusal>
     requires { Ready s.now seats.now }
     ensures { result ≡ answered (first_record (repeat_number second) (repeats (by_key second)) [] (filed_of s.now)) tt }

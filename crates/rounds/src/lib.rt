@@ -70,13 +70,11 @@ fn mark_doubts(w: &[u8], pass: Pass, t: &mut [u64], doubts: &mut [u64]) -> bool
     requires { (0 < length t.old) × (0 < length doubts.old) }
     ensures { Doubted pass.choice (lines w.now) pass.lane pass.lanes pass.last (length doubts.old) doubts.new result }
 {
-    let mut i = 0;
     let mut some = false;
-    for line in lines_of(w) {
+    for (i, line) in lines_of(w).enumerate() {
         if i == pass.last {
             return some;
         }
-        i += 1;
         if mark_line(line.bytes, pass, t, doubts) {
             some = true;
         }
@@ -99,8 +97,7 @@ fn settle_doubts(w: &[u8], choice: Choice, last: usize, doubts: &[u64], t: &mut 
     requires { (0 < length doubts.now) × (0 < length t.old) }
     ensures { Settled choice (lines w.now) (length doubts.now) doubts.now last result }
 {
-    let mut i = 0;
-    for line in lines_of(w) {
+    for (i, line) in lines_of(w).enumerate() {
         if i == last {
             return last;
         }
@@ -109,7 +106,6 @@ fn settle_doubts(w: &[u8], choice: Choice, last: usize, doubts: &[u64], t: &mut 
         {
             return i;
         }
-        i += 1;
     }
     last
 }

@@ -18,7 +18,7 @@ pub struct Seat {
     pub order: [u8; WIDEST],
 }
 
-// The sections in file order, and the section of each table, from 1, or 0.
+// The sections in file order, and the section of each table, from 1, or 0: `Seating.Seated` speaks of these numbers.
 #[derive(Clone, Copy)]
 pub struct Seats {
     pub count: usize,

@@ -6,7 +6,7 @@ use mathlib.Core.Path.{◌≡◌}
 use lib.ListN.{length}
 use Rattle.rounds.proofs.settle_doubts.Given as goal
 
-abbrev pub invariant-loop-line : goal.invariant-loop-line
-invariant-loop-line l =
-    (l.line-iterator.bytes.now ≡ l.w) × (l.i ≤ l.last) × (length l.t ≡ length l.initial.t)
-    × Stands l.w l.line-iterator.at l.i × Told l.choice (lines l.w) (length l.doubts) l.doubts (length l.initial.t) l.t l.i
+abbrev pub invariant-loop-i : goal.invariant-loop-i
+invariant-loop-i l =
+    (l.i-iterator.iter.bytes.now ≡ l.w) × (l.i-iterator.count ≤ l.last) × (length l.t ≡ length l.initial.t)
+    × Stands l.w l.i-iterator.iter.at l.i-iterator.count × Told l.choice (lines l.w) (length l.doubts) l.doubts (length l.initial.t) l.t l.i-iterator.count

@@ -8,10 +8,10 @@ use Rattle.aims.specs.Aims.{lacks_any}
 use Rattle.references.specs.Recently.{Recently}
 use Rattle.references.proofs.references.Section.find_lost.Given as goal
 
-abbrev pub invariant-loop-line : goal.invariant-loop-line
-invariant-loop-line l =
+abbrev pub invariant-loop-i : goal.invariant-loop-i
+invariant-loop-i l =
     let w = l.self.bytes.now in
-    let at = l.line-iterator.at in
-    (l.line-iterator.bytes.now ≡ w) × (l.n ≤ at) × Starts w at
-    × (first_line (lacks_any l.self.aims l.self.table) (lines (take at w)) l.n (lines (drop at w)) ≡ first_line (lacks_any l.self.aims l.self.table) [] 0 (lines w))
+    let at = l.i-iterator.iter.at in
+    (l.i-iterator.iter.bytes.now ≡ w) × (l.i-iterator.count ≤ at) × Starts w at
+    × (first_line (lacks_any l.self.aims l.self.table) (lines (take at w)) l.i-iterator.count (lines (drop at w)) ≡ first_line (lacks_any l.self.aims l.self.table) [] 0 (lines w))
     × Recently l.self.aims l.seen.recent
