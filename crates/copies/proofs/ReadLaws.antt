@@ -3,7 +3,7 @@ use Rattle.std.specs.Prelude.{None, Option, Some}
 use mathlib.Core.Path.{◌≡◌, refl, ap, sym, ◌∙◌}
 use mathlib.Core.Bool.{Bool, true, false}
 use mathlib.Core.List.{[], ◌∷◌, ◌++◌}
-use Prim.Native.Nat.{ℕ, ◌+◌, ◌-◌, ◌*◌, ◌<◌, ◌≤◌}
+use Prim.Native.Nat.{ℕ, ◌+◌, ◌-◌, ◌<◌, ◌≤◌}
 use native.Mathlib.Omega.{arith}
 use borrow.Author.Tests.{ne_eqb, eqb-true, leb-true}
 use lib.Dec.{eqb, leb}
@@ -25,7 +25,6 @@ use Rattle.page.proofs.FieldLaws.{end_in, span_in, span_part, field_span_in, fie
 use Rattle.page.proofs.TextLaws.{text_quoted, text_long, text_between, record_text_is, text_kept, unpadded_there, words_there, unpadded_in}
 use Rattle.digits.specs.Runs.{field_from}
 use Rattle.doubling.specs.Raw.{raw_text}
-use Rattle.doubling.proofs.TextLaws.{quoted_length}
 
 -- a text as it stands between its quotes: its own bytes, each quote doubled
 record Stored (f : Bytes) (x : Wording) : Type 0 where
@@ -107,7 +106,6 @@ pub record Words (c : Column) (f w : Bytes) (sp : Span) : Type 0 where
   pub begins : sp.from ≤ sp.to
   pub within : sp.to ≤ length w
   pub raw : raw_text (part sp w) ≡ quoted (own_bytes (record_text f))
-  pub short : length (raw_text (part sp w)) ≤ 2 * c.hi + 2
 
 spanned : (w : Bytes) (at : ℕ) → at ≤ length w
     → ((span_from w at).from ≤ (span_from w at).to) × ((span_from w at).to ≤ length w) × (part (span_from w at) w ≡ field_from w at)
@@ -145,7 +143,6 @@ module _ (c : Column) (w : Bytes) (at : ℕ) (h : at ≤ length w) (ok : field_n
             begins = rw y (omega (arith, t.begins));
             within = rw y (omega (arith, t.within));
             raw = r ∙ ap (λ (o : Option Wording). quoted (own_bytes (own_of o))) (sym q);
-            short = omega (arith, ap length r, quoted_length x.own);
           }
       by v (a_number n k l q) e = absurd (let y : ◌≡◌ {A = ℕ} 0 1 = cc in omega arith)
       by v (no_number k l) e = absurd (let y : ◌≡◌ {A = ℕ} 0 1 = cc in omega arith)

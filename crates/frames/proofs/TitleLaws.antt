@@ -1,22 +1,16 @@
--- Laws of the lines that begin a section: their fields one by one, and how long they are at most, computed over the list of tables.
--- Assumes nothing.
+-- Laws of the lines that begin a section: their fields one by one. Assumes nothing.
 use mathlib.Core.Path.{◌≡◌, refl, sym}
 use mathlib.Core.Bool.{Bool, true, false}
-use mathlib.Core.List.{List, [], ◌++◌, map, append_assoc, append-nil}
+use mathlib.Core.List.{List, [], ◌++◌, append_assoc, append-nil}
 use Prim.Native.Nat.{ℕ, ◌+◌, ◌<◌, ◌≤◌}
 use native.Mathlib.Numerals.{add-one}
-use native.Mathlib.Omega.{arith}
-use borrow.Author.Tests.{leb-true}
-use lib.Dec.{leb}
-use lib.ListN.{length, get_or, drop, length-append, length-map, get_or-map, drop_of_length-le}
+use lib.ListN.{length, get_or, drop, length-map, get_or-map, drop_of_length-le}
 use lib.Seq.{drop-cons}
 use Rattle.page.specs.Bytes.{Bytes, bytes}
-use Rattle.page.specs.Tables.{Named, Table, all_tables, no_column, table_at, columns, width, column_at, name_at}
-use Rattle.page.specs.Form.{line_end, separated, line, decimal, decimal_in, format_text, table_head}
+use Rattle.page.specs.Tables.{no_column, table_at, columns, width, column_at, name_at}
+use Rattle.page.specs.Form.{line_end, separated, line, format_text, table_head}
 use Rattle.page.specs.declared.LineEnd.{LineEnd}
 use Rattle.page.specs.declared.Column.{Column}
-use Rattle.page.proofs.LineEndLaws.{line_end_length}
-use Rattle.page.proofs.TableLaws.{each, each_at, table_test}
 use Rattle.frames.specs.Lines.{line_with}
 use Rattle.frames.specs.Titles.{tbl_line, title_of, title_at, titles}
 
@@ -53,54 +47,11 @@ pub title_name : (formats : Bool) (t k : ℕ) (w : Bytes) → formats ≡ false 
 unfolding title_at name_at
 title_name formats t k w e f = rw (e, f)
 
--- how long they are
-
-abbrev title_small : Table → Bool
-title_small x = leb (length (bytes x.name)) 32
-
-pub title_length : (t : ℕ) → length (bytes (table_at t).name) ≤ 32
-unfolding all_tables each bytes
-title_length t = leb-true (length (bytes (table_at t).name)) 32 (table_test title_small refl refl t)
-
-pub name_length : (t k : ℕ) → length (bytes (name_at t k)) ≤ 32
-unfolding all_tables each bytes name_at columns
-name_length t k =
-    let small : Named → Bool = λ c. leb (length (bytes c.name)) 32 in
-    leb-true (length (bytes (name_at t k))) 32
-    (each_at small no_column refl (columns t) (table_test (λ (x : Table). each small x.columns) refl refl t) k)
-
--- the names or the formats of a table
-abbrev LONGEST : ℕ
-LONGEST = 320
-
-abbrev titles_small : Bool → Table → Bool
-titles_small formats x = leb (length (separated (map (title_of formats) x.columns))) LONGEST
-
-pub titles_length : (formats : Bool) (t : ℕ) → length (separated (titles formats t)) ≤ LONGEST
-unfolding all_tables each bytes separated titles columns format_text decimal decimal_in
-titles_length true t = leb-true (length (separated (titles true t))) LONGEST (table_test (titles_small true) refl refl t)
-titles_length false t = leb-true (length (separated (titles false t))) LONGEST (table_test (titles_small false) refl refl t)
-
 pub tbl_is : (ends : LineEnd) (t : ℕ) (w : Bytes) → w ≡ bytes (table_at t).name → bytes "tbl; " ++ (w ++ line_end ends) ≡ tbl_line ends t
 unfolding bytes tbl_line line separated
 tbl_is ends t w e = rw e (simp append-nil)
-
-pub tbl_length : (ends : LineEnd) (t : ℕ) → length (tbl_line ends t) ≤ 39
-unfolding bytes tbl_line line separated
-tbl_length ends t = simp length-append (omega (arith, title_length t, line_end_length ends))
-
-pub titles_line_length : (ends : LineEnd) (word : Bytes) (formats : Bool) (t : ℕ) → length (line_with ends word (titles formats t)) ≤ length word + (LONGEST + 2)
-titles_line_length ends word formats t =
-    rw (← titles_line ends word (titles formats t)) (simp length-append (omega (arith, titles_length formats t, line_end_length ends)))
 
 pub table_head_is : (ends : LineEnd) (t : ℕ)
     → tbl_line ends t ++ (line_with ends (bytes "atr") (titles false t) ++ line_with ends (bytes "frm") (titles true t)) ≡ table_head ends (table_at t)
 unfolding table_head tbl_line line line_with titles columns
 table_head_is ends t = refl
-
-pub table_head_length : (ends : LineEnd) (t : ℕ) → length (table_head ends (table_at t)) ≤ 689
-unfolding bytes
-table_head_length ends t =
-    rw (← table_head_is ends t)
-    (simp length-append
-    (omega (arith, tbl_length ends t, titles_line_length ends (bytes "atr") false t, titles_line_length ends (bytes "frm") true t)))

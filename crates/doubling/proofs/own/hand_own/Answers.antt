@@ -12,4 +12,4 @@ returns-in_err-refuse_room c =
 pub returns : goal.returns
 returns c =
     fits _ _ _ c.if-refusal-ne0.false refl c.put_own.ensures c.refuse_room.ensures c.in_ok-refuse_room.was refl refl c.put_own-2.ensures
-        (search rules)
+    (search rules)
