@@ -14,7 +14,7 @@ use crate::places::{is_quoted, is_triple, number_at};
 use calendar::is_real_date;
 use page::{Date, Time};
 
-// The form DD.MM.YYYY is 1, YYYY/MM/DD is 2.
+// The form DD.MM.YYYY is 1, YYYY/MM/DD is 2: a number, as `date_shape` and `date_of` have it.
 #[tactic(auto, unfolding(page::specs::Dates::date_shape))]
 fn is_date_shape(f: &[u8], form: u32) -> bool
     ensures { result ≡ date_shape form f.now }

@@ -69,6 +69,7 @@ pub fn all_allowed(c: &[u8], wide: bool) -> bool
     }
     let last = n - 16;
     let mut i = 0;
+    // No chunks: the last sixteen begin among those before them, where chunks would leave a rest.
     while i < n {
         let at = i.min(last);
         if !pass_block(&Allowed { wide }, c, at) {

@@ -41,6 +41,7 @@ fn walk_body(w: &[u8], from: usize, wide: bool) -> Option<Body>
 {
     let mut size: usize = 0;
     let mut i = from;
+    // No `for`: a doubled quote is passed in one step of two.
     while i < w.len() {
         let b = w[i];
         if b == 34 {
