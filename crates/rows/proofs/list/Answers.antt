@@ -1,15 +1,15 @@
-use Rattle.std.proofs.Common.{◌≡◌, ◌+◌, ◌<◌, ◌≤◌, length, refl, sym, ap, ◌∙◌, arith, rules}
+use Rattle.std.proofs.Common.{◌≡◌, ◌<◌, length, sym, ap, ◌∙◌, arith}
 use Rattle.std.proofs.Common.{ℕ, Bool, List}
 use Rattle.page.specs.Bytes.{Bytes}
 use Rattle.page.specs.declared.Row.{Row}
 use Rattle.page.specs.Answers.{earlier}
 use Rattle.page.specs.File.{file_refusal}
 use Rattle.page.specs.declared.Refusal.{Refusal}
-use Rattle.steps.specs.Steps.{Begins, at_of, start_of}
+use Rattle.steps.specs.Steps.{at_of, start_of}
 use Rattle.steps.specs.declared.Start.{Start}
 use Rattle.steps.specs.declared.Step.{Step}
-use Rattle.rows.specs.Walk.{step_of, step_at, row_at, sound_at, filled}
-use Rattle.rows.proofs.WalkLaws.{start_room, start_rows, start_at, start_refusal, begins_at, step_here, known_at, sound_none, filled_none, filled_length, filled_step, filled_all}
+use Rattle.rows.specs.Walk.{step_of, step_at, sound_at, filled}
+use Rattle.rows.proofs.WalkLaws.{start_room, start_rows, start_at, start_refusal, begins_at, step_here, known_at, sound_none, filled_none, filled_step, filled_all}
 use Rattle.rows.proofs.list.Goals as goal
 
 pub loop-i-init : goal.loop-i-init

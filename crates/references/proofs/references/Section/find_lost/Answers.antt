@@ -1,5 +1,4 @@
-use mathlib.Core.Path.{◌≡◌, refl, sym, ◌∙◌}
-use borrow.Author.Rules.{rules}
+use mathlib.Core.Path.{refl, sym, ◌∙◌}
 use native.Mathlib.Omega.{arith}
 use Rattle.page.specs.Lines.{lines}
 use Rattle.scans.proofs.ScanLaws.{starts_first, starts_next, line_more, line_hit, line_end}
