@@ -36,15 +36,15 @@ returns-in-Rows-default c = rw c.in-Rows-default.is-0 c.step_rows.ensures
 
 pub returns-in_default : goal.returns-in_default
 unfolding line_step choose
-returns-in_default c = rw (c.in_default.is-0, apart c.args.k Tbl c.in_default.is-1.1)
+returns-in_default c = rw (c.in_default.is-0, apart c.args.k Tbl c.in_default.not-Tbl-1)
 
 pub returns-in_default-2 : goal.returns-in_default-2
 unfolding line_step choose
-returns-in_default-2 c = rw (c.in_default.is-0, apart c.args.k Atr c.in_default.is-1.1)
+returns-in_default-2 c = rw (c.in_default.is-0, apart c.args.k Atr c.in_default.not-Atr-1)
 
 pub returns-in_default-3 : goal.returns-in_default-3
 unfolding line_step choose
-returns-in_default-3 c = rw (c.in_default.is-0, apart c.args.k Frm c.in_default.is-1.1)
+returns-in_default-3 c = rw (c.in_default.is-0, apart c.args.k Frm c.in_default.not-Frm-1)
 
 pub returns-in_default-4 : goal.returns-in_default-4
 unfolding line_step choose
