@@ -1,7 +1,7 @@
 -- Commands are the same where their numbers are. Assumes nothing.
-use Rattle.std.proofs.Common.{◌≡◌, ◌∙◌, Bool, true, false, not, ℕ, suc, eqb, refl, sym, ap, ap₂}
+use Rattle.std.proofs.Common.{◌≡◌, ◌∙◌, Bool, true, false, not, [], ◌∷◌, ℕ, suc, eqb, get_or, refl, sym, ap, ap₂}
 use Rattle.std.proofs.Math.Dec.{eqb-suc-suc}
-use borrow.Author.Tests.{not-true, not-false}
+use borrow.Author.Tests.{ne_eqb, not-true, not-false}
 use denote.Enum.Bare.{sameb}
 use denote.Enum.Declared.{tag_of}
 use Rattle.commands.specs.contracts.command.Command.{the_type}
@@ -29,6 +29,32 @@ tag_next Missing = refl
 
 pub same_code : (k j : Command) → sameb the_type k j ≡ eqb (code k) (code j)
 same_code k j = sym (eqb-suc-suc (tag_of the_type k) (tag_of the_type j)) ∙ ap₂ eqb (tag_next k) (tag_next j)
+
+-- a command is one with its number
+abbrev named : ℕ → Command
+named n =
+    get_or (Missing ∷ Mod ∷ Src ∷ Chs ∷ Ver ∷ Ifv ∷ Dve ∷ Fft ∷ Tbl ∷ Atr ∷ Frm ∷ Rec ∷ End ∷ Com ∷ Eof ∷ Unknown ∷ []) n Missing
+
+named_code : (k : Command) → named (code k) ≡ k
+named_code Mod = refl
+named_code Src = refl
+named_code Chs = refl
+named_code Ver = refl
+named_code Ifv = refl
+named_code Dve = refl
+named_code Fft = refl
+named_code Tbl = refl
+named_code Atr = refl
+named_code Frm = refl
+named_code Rec = refl
+named_code End = refl
+named_code Com = refl
+named_code Eof = refl
+named_code Unknown = refl
+named_code Missing = refl
+
+pub apart : (k j : Command) → (k ≡ j → ⊥) → eqb (code k) (code j) ≡ false
+apart k j n = ne_eqb (code k) (code j) (λ e. n (sym (named_code k) ∙ ap named e ∙ named_code j))
 
 -- what `k == j` answers, of a command whose number is n
 pub is_command : (k j : Command) (n : ℕ) (r : Bool) → r ≡ sameb the_type k j → code k ≡ n → r ≡ eqb n (code j)

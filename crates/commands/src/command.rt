@@ -1,6 +1,6 @@
 // A line's command.
-ghost use Rattle.std.specs.Prelude.{◌≡◌, true, ◌<◌, eqb};
-ghost use Rattle.page.specs.Lines.{content, find, known, Mod, Rec, command, clean};
+ghost use Rattle.std.specs.Prelude.{◌≡◌, true, ◌<◌, eqb, ltb};
+ghost use Rattle.page.specs.Lines.{content, find, known, Mod, Rec, Unknown, command, clean};
 ghost use Rattle.page.specs.Cut.{begins_table, begins_end};
 ghost use Rattle.commands.specs.Commands.{code, key_of, find_key, Set};
 
@@ -105,6 +105,15 @@ impl Command {
             return set_command(c);
         }
         seek_command(c)
+    }
+
+    pub fn is_known(self) -> bool
+        ensures { result ≡ ltb (code self) Unknown }
+    {
+        match self {
+            Command::Unknown | Command::Missing => false,
+            _ => true,
+        }
     }
 }
 

@@ -1,5 +1,6 @@
 // The machine of a section: what each line leads to.
 ghost use Rattle.std.specs.Prelude.{◌≡◌, ◌&&◌, ◌+◌, ◌<◌, eqb, Err, Ok};
+ghost use Rattle.commands.specs.Commands.{code};
 ghost use Rattle.page.specs.Lines.{content, rest, Rec};
 ghost use Rattle.page.specs.Fields.{fields};
 ghost use Rattle.page.specs.Marks.{remark_of};
@@ -10,6 +11,7 @@ ghost use Rattle.machine.specs.Carries.{records_in, order_at, Carries, Found, Ca
 ghost use Rattle.machine.specs.Moves.{phase_of};
 ghost use Rattle.machine.specs.declared.machine.Moved.{Moved};
 
+use commands::Command;
 use counts::step_end;
 use judging::judge_record;
 use page::{Phase, Remark};
@@ -88,36 +90,36 @@ pub fn step_com(w: &[u8], p: Phase, o: &[u8; WIDEST]) -> Result<Phase, u32>
     }
 }
 
-fn step_rows(w: &[u8], t: usize, o: &[u8; WIDEST], m: u64, n: usize, k: u32) -> Result<Phase, u32>
+fn step_rows(w: &[u8], t: usize, o: &[u8; WIDEST], m: u64, n: usize, k: Command) -> Result<Phase, u32>
     requires { Stands t o.now × (n + 1 < 18446744073709551616) }
-    ensures { result ≡ line_step (P.Rows t m n) (held t o.now) k w.now }
+    ensures { result ≡ line_step (P.Rows t m n) (held t o.now) (code k) w.now }
 {
     match k {
-        commands::REC => step_rec(w, t, o, m, n),
-        commands::END => step_end(w, t, m, n),
+        Command::Rec => step_rec(w, t, o, m, n),
+        Command::End => step_end(w, t, m, n),
         _ => Err(6),
     }
 }
 
 // A line of a known command k, other than `com`, with w after its first `;`: "known command out of its order" is 6.
-pub fn step_line(w: &[u8], p: Phase, o: &[u8; WIDEST], found: bool, k: u32) -> Result<Phase, u32>
+pub fn step_line(w: &[u8], p: Phase, o: &[u8; WIDEST], found: bool, k: Command) -> Result<Phase, u32>
     requires { Carries p o.now × (records_in p + 1 < 18446744073709551616) × Found p w.now found }
-    ensures { result ≡ line_step p (order_at p o.now) k w.now }
+    ensures { result ≡ line_step p (order_at p o.now) (code k) w.now }
 {
     match (p, k) {
-        (Phase::Tbl, commands::TBL) => step_tbl(w),
-        (Phase::Atr(t), commands::ATR) => step_atr(t, found),
-        (Phase::Frm(t), commands::FRM) => step_frm(w, t, o),
+        (Phase::Tbl, Command::Tbl) => step_tbl(w),
+        (Phase::Atr(t), Command::Atr) => step_atr(t, found),
+        (Phase::Frm(t), Command::Frm) => step_frm(w, t, o),
         (Phase::Rows(t, m, n), _) => step_rows(w, t, o, m, n, k),
         _ => Err(6),
     }
 }
 
 // "in `rec` lines under ISO8859-1 also every byte 161..255"
-fn is_wide(latin: bool, k: u32) -> bool
-    ensures { result ≡ (latin && eqb k Rec) }
+fn is_wide(latin: bool, k: Command) -> bool
+    ensures { result ≡ (latin && eqb (code k) Rec) }
 {
-    latin && k == commands::REC
+    latin && k == Command::Rec
 }
 
 // "in that line the first of 4, 5, 6, then" its command's own: c is the line's content.
@@ -131,18 +133,18 @@ pub fn step_content(
     requires { Carries p o.now × (records_in p + 1 < 18446744073709551616) × Found p (rest c.now) found }
     ensures { result ≡ content_step latin p (order_at p o.now) c.now }
 {
-    let k = commands::command_of(c);
+    let k = Command::of(c);
     if !lines::all_allowed(c, is_wide(latin, k)) {
         return Err(4);
     }
     if lines::is_blank(c) {
         return Ok(p);
     }
-    if commands::UNKNOWN <= k {
+    if !k.is_known() {
         return Err(5);
     }
     let w = lines::rest_of(c);
-    if k == commands::COM {
+    if k == Command::Com {
         return step_com(w, p, o);
     }
     step_line(w, p, o, found, k)

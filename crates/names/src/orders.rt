@@ -7,6 +7,7 @@ ghost use Rattle.page.specs.Records.{atr_in};
 ghost use Rattle.names.specs.Told.{column_named, Arranges, Told};
 
 use arrangement::list_columns;
+use commands::Command;
 use lines::lines_of;
 use tables::{WIDEST, find_name, find_width};
 
@@ -60,9 +61,8 @@ fn find_names(s: &[u8]) -> &[u8]
     ensures { result.now ≡ atr_in (lines s.now) }
 {
     for line in lines_of(s) {
-        let c = lines::content_of(line.bytes);
-        if commands::command_of(c) == commands::ATR {
-            return lines::rest_of(c);
+        if commands::begins_with(line.bytes, Command::Atr) {
+            return lines::rest_of(lines::content_of(line.bytes));
         }
     }
     &s[..0]

@@ -8,6 +8,7 @@ ghost use Rattle.page.specs.Section.{content_step, step, run};
 ghost use Rattle.page.specs.declared.Phase.TheVariants as P;
 ghost use Rattle.arrangement.specs.Orders.{held, Stands};
 
+use commands::Command;
 use lines::lines_from;
 use tables::WIDEST;
 
@@ -24,7 +25,7 @@ fn passes_other(c: &[u8], t: usize, o: &[u8; WIDEST], m: u64, latin: bool) -> bo
     requires { Stands t o.now }
     ensures { result ≡ true → (n : ℕ) → content_step latin (P.Rows t m n) (held t o.now) c.now ≡ Ok (P.Rows t 0 (n + 1)) }
 {
-    commands::command_of(c) == commands::REC
+    Command::of(c) == Command::Rec
         && lines::all_allowed(&c[..lines::find_semicolon(c)], latin)
         && judging::passes(lines::rest_of(c), t, o, m, latin)
 }

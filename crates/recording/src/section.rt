@@ -57,7 +57,7 @@ fn put_records(out: &mut Output<'_>, s: &[u8], t: usize, o: &[u8; WIDEST], plan:
     let mut n = 0;
     for line in lines_of(s) {
         let x = lines::content_of(line.bytes);
-        if commands::command_of(x) == commands::REC {
+        if commands::is_record(line.bytes) {
             n = put_staying(out, n, lines::rest_of(x), t, o, listed, m, plan);
             m = 0;
         } else {

@@ -121,11 +121,10 @@ impl<'a> Section<'a> {
         ensures found { is_some result ≡ not (lacks_some self.now.aims self.now.table line.entry.bytes.now) }
         ensures recent { IfSome result (λ x. Recently self.now.aims x.recent) }
     {
-        let c = lines::content_of(line.bytes);
-        if commands::command_of(c) != commands::REC {
+        if !commands::is_record(line.bytes) {
             return Some(seen);
         }
-        let f = lines::rest_of(c);
+        let f = lines::rest_of(lines::content_of(line.bytes));
         let n = tables::count_references(self.table);
         let mut known = seen.known;
         let mut recent = seen.recent;

@@ -137,14 +137,10 @@ any_some f d p (x ∷ xs) i h =
     let b : f x ≡ p i = rw a at (h 0 (omega arith)) in
     rw (b, any_some f d p xs (suc i) (λ j l. h (suc j) (omega arith) ∙ ap p (let n : i + suc j ≡ suc i + j = omega arith in n)))
 
--- a line's content c, its command k, what follows its `;`, and what that has in the fields of a choice
-module _ (q : Choice) (l c : Bytes) (k : ℕ) (a : c ≡ content l) (b : k ≡ command c) (e : k ≡ 11) where
-  pub recorded : is_record l ≡ true
-  recorded = rw (sym a, sym b) (eq-eqb k Rec e)
-
-  pub keyed : (w : Bytes) → w ≡ rest c → (x : List ℕ) → x ≡ gathered q (fields w) → x ≡ line_key q l
-  unfolding line_key
-  keyed w r x y = y ∙ ap (λ (v : Bytes). gathered q (fields v)) (r ∙ ap rest a)
+-- a line's content c, what follows its `;`, and what that has in the fields of a choice
+pub keyed : (q : Choice) (l c : Bytes) → c ≡ content l → (w : Bytes) → w ≡ rest c → (x : List ℕ) → x ≡ gathered q (fields w) → x ≡ line_key q l
+unfolding line_key
+keyed q l c a w r x y = y ∙ ap (λ (v : Bytes). gathered q (fields v)) (r ∙ ap rest a)
 
 -- a line that is no record, and one that is, by what it has in the fields of a choice
 module _ (q : Choice) (l : Bytes) where

@@ -12,11 +12,11 @@ use lines::lines_of;
 pub fn key_in(line: &[u8], choice: Choice) -> Option<Key>
     ensures { MatchOption result (is_record line.now ≡ false) (λ k. (is_record line.now ≡ true) × (k.k ≡ line_key choice line.now)) }
 {
-    let c = lines::content_of(line);
-    if commands::command_of(c) != commands::REC {
+    if !commands::is_record(line) {
         return None;
     }
-    Some(keys::read_chosen(lines::rest_of(c), choice))
+    let fields = lines::rest_of(lines::content_of(line));
+    Some(keys::read_chosen(fields, choice))
 }
 
 // Is a line a record that has a key in the fields of a choice?

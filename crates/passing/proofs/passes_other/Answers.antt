@@ -1,16 +1,18 @@
 use mathlib.Core.Path.{sym, ◌∙◌}
 use Prim.Native.Nat.{◌≤◌}
 use native.Mathlib.Omega.{arith}
-use borrow.Author.Tests.{ne_eqb}
+use borrow.Author.Tests.{eqb-true}
 use lib.ListN.{length}
 use lib.Seq.{length-take-le}
-use Rattle.page.specs.Lines.{semicolon}
+use Rattle.commands.specs.declared.command.Command.TheVariants.{Rec}
+use Rattle.commands.proofs.CodeLaws.{is_command}
+use Rattle.page.specs.Lines.{semicolon, command}
 use Rattle.page.proofs.TestLaws.{false_true}
 use Rattle.page.proofs.ScanLaws.{until_le}
 use Rattle.arrangement.specs.Orders.{held}
 use Rattle.passing.proofs.PassLaws.{other_step}
 use Rattle.passing.proofs.passes_other.Goals as goal
-use Rattle.passing.proofs.passes_other.Goals.{then-command_of-eq-REC, else-command_of-eq-REC}
+use Rattle.passing.proofs.passes_other.Goals.{then-eq, else-eq}
 
 pub slice_bounds-all_allowed-end : goal.slice_bounds-all_allowed-end
 slice_bounds-all_allowed-end c =
@@ -21,10 +23,10 @@ slice_bounds-all_allowed-end c =
 pub returns-then-all_allowed : goal.returns-then-all_allowed
 returns-then-all_allowed c =
     let a = c.args in
-    elim c.if-command_of-eq-REC.branch [
-      | then-command_of-eq-REC w ↦
-          let k = sym c.command_of.ensures ∙ w.if-command_of-eq-REC.true in
+    elim c.if-eq.branch [
+      | then-eq w ↦
+          let k = eqb-true (command a.c.now) 11 (sym (is_command _ Rec _ _ c.eq.ensures c.of.ensures) ∙ w.if-eq.true) in
           let g = sym w.all_allowed.ensures ∙ sym w.value-is ∙ c.if-all_allowed.true in
           λ e n. other_step a.c.now k a.latin a.t (held a.t a.o.now) a.m n (rw w.find_semicolon.ensures at g) (rw c.rest_of.ensures at (sym c.passes.ensures ∙ e))
-      | else-command_of-eq-REC w ↦ false_true (sym (ne_eqb _ 11 w.if-command_of-eq-REC.false) ∙ sym w.value-is ∙ c.if-all_allowed.true)
+      | else-eq w ↦ false_true (sym w.if-eq.false ∙ sym w.value-is ∙ c.if-all_allowed.true)
     ]

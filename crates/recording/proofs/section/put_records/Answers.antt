@@ -1,5 +1,6 @@
 use Rattle.std.proofs.Common.{rules, ◌≡◌, ◌<◌, ap, sym, ◌∙◌, arith, List, length}
-use Rattle.page.specs.Lines.{command, Rec}
+use borrow.Author.Tests.{eqb-true, eqb-false}
+use Rattle.page.specs.Lines.{content, command, Rec}
 use Rattle.page.specs.Records.{Record}
 use Rattle.arrangement.specs.Orders.{held}
 use Rattle.output.proofs.OutputLaws.{left_is, next_by, at_end}
@@ -20,18 +21,18 @@ put_staying-n-requires c =
     let k : l.n < 18446744073709551615 = search rules in (
       c.requires.0,
       c.is_listed-listed.ensures,
-      passes_here a.s.now _ _ t.before t.size a.t (held a.t a.o.now) l.m _ x (sym c.command_of.ensures ∙ c.if-command_of-eq-REC.true) l.invariant.sound _ c.rest_of.ensures,
+      passes_here a.s.now _ _ t.before t.size a.t (held a.t a.o.now) l.m _ x (ap command c.content_of-x.ensures ∙ eqb-true (command (content c.in-Some.line.bytes.now)) 11 (sym c.is_record.ensures ∙ c.if-is_record.true)) l.invariant.sound _ c.rest_of.ensures,
       k,
     )
 
-pub loop-line-preserved-then-command_of-eq-REC : goal.loop-line-preserved-then-command_of-eq-REC
-loop-line-preserved-then-command_of-eq-REC c =
+pub loop-line-preserved-then-is_record : goal.loop-line-preserved-then-is_record
+loop-line-preserved-then-is_record c =
     let a = c.args in
     let o = held a.t a.o.now in
     let l = c.loop-line in
     let t = rw l.invariant.bytes at c.in-Some.ensures.steps.1 in
     let x = rw t.bytes at c.content_of-x.ensures in
-    let q = sym c.command_of.ensures ∙ c.if-command_of-eq-REC.true in
+    let q = ap command c.content_of-x.ensures ∙ eqb-true (command (content c.in-Some.line.bytes.now)) 11 (sym c.is_record.ensures ∙ c.if-is_record.true) in
     let y = rows_more a.s.now _ _ t.before t.size a.t o l.m _ x q _ c.rest_of.ensures in
     let r = c.put_staying-n.ensures in
     record {
@@ -50,7 +51,7 @@ loop-line-preserved c =
     let l = c.loop-line in
     let t = rw l.invariant.bytes at c.in-Some.ensures.steps.1 in
     let x = rw t.bytes at c.content_of-x.ensures in
-    let q : command c.content_of-x.result.now ≡ Rec → ⊥ = λ e. c.if-command_of-eq-REC.false (c.command_of.ensures ∙ e) in
+    let q : command c.content_of-x.result.now ≡ Rec → ⊥ = λ e. eqb-false (command (content c.in-Some.line.bytes.now)) 11 (sym c.is_record.ensures ∙ c.if-is_record.false) (sym (ap command c.content_of-x.ensures) ∙ e) in
     let y = rows_other a.s.now _ _ t.before t.size a.t o l.m _ x q in
     record {
       bytes = search rules;
