@@ -90,7 +90,14 @@ pub fn step_com(w: &[u8], p: Phase, o: &[u8; WIDEST]) -> Result<Phase, u32>
     }
 }
 
-fn step_rows(w: &[u8], t: usize, o: &[u8; WIDEST], m: u64, n: usize, k: Command) -> Result<Phase, u32>
+fn step_rows(
+    w: &[u8],
+    t: usize,
+    o: &[u8; WIDEST],
+    m: u64,
+    n: usize,
+    k: Command,
+) -> Result<Phase, u32>
     requires { Stands t o.now × (n + 1 < 18446744073709551616) }
     ensures { result ≡ line_step (P.Rows t m n) (held t o.now) (code k) w.now }
 {
@@ -102,7 +109,13 @@ fn step_rows(w: &[u8], t: usize, o: &[u8; WIDEST], m: u64, n: usize, k: Command)
 }
 
 // A line of a known command k, other than `com`, with w after its first `;`: "known command out of its order" is 6.
-pub fn step_line(w: &[u8], p: Phase, o: &[u8; WIDEST], found: bool, k: Command) -> Result<Phase, u32>
+pub fn step_line(
+    w: &[u8],
+    p: Phase,
+    o: &[u8; WIDEST],
+    found: bool,
+    k: Command,
+) -> Result<Phase, u32>
     requires { Carries p o.now × (records_in p + 1 < 18446744073709551616) × Found p w.now found }
     ensures { result ≡ line_step p (order_at p o.now) (code k) w.now }
 {
