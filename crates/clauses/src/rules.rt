@@ -51,6 +51,7 @@ fn holds_source(w: &[u8], form: u32) -> bool
         && is_time(field_at(w, 2))
 }
 
+// Not one with `holds_text`: a test as an argument would be longer than the second function.
 #[tactic(auto, unfolding(page::specs::Header::chs_ok))]
 fn holds_charset(w: &[u8]) -> bool
     ensures { result ≡ chs_ok (fields w.now) }

@@ -76,6 +76,7 @@ pub fn all_written(w: &[u8]) -> bool
     ensures { result ≡ true → Whole w.now }
 {
     let mut p = 0;
+    // No `for` over the fields: what stands as it is written says where its field ends.
     while p <= w.len() {
         let Some(e) = written_end(w, p) else {
             return false;

@@ -63,6 +63,7 @@ pub fn ends_at(w: &[u8], at: usize) -> bool
     w.len() <= at || w[at] == 59
 }
 
+// Not one with the text fields' `text_slowly`: they agree in where a field ends, and in nothing that they read.
 fn number_slowly(w: &[u8], at: usize) -> Counted
     requires { at ≤ length w.now }
     ensures { (result.end ≡ at + field_size false (drop at w.now))

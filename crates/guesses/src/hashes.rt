@@ -68,6 +68,7 @@ pub fn hash_line(w: &[u8], at: usize, choice: Choice) -> Hashed {
     let mut slots = choice.slots % 2305843009213693952 * 8;
     let mut hash: u64 = 0;
     let mut next = at;
+    // No `for`: the digits that are left say whether the walk goes on.
     while 0 < rest {
         let x = read_digits(w, next);
         next = x.next;

@@ -110,6 +110,7 @@ pub fn read_chosen(w: &[u8], choice: Choice) -> Key
         kinds: mut rest,
         mut slots,
     } = choice;
+    // No `for`: the digits that are left say whether the walk goes on.
     while 0 < rest && at <= w.len() {
         let kind = rest % 4;
         let n = (slots % 8) as usize;

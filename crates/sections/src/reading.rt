@@ -57,6 +57,7 @@ pub fn read_lines(s: &[u8], latin: bool) -> Outcome
     let mut n: usize = 0;
     let mut p = Phase::Tbl;
     let mut o = list_columns();
+    // No `for` over the lines: whole runs of records are passed between two of them.
     loop {
         let r = skip_records(s, at, p, &o, latin);
         n += r.count;
