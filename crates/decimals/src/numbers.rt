@@ -13,7 +13,7 @@ fn digit_of(n: u64) -> u8
     48 + (n % 10) as u8
 }
 
-// At most k + 1 digits.
+// At most k + 1 digits, the first put first: by recursion, as in the definition `decimal_in`, since a loop would need an array for them.
 fn put_digits(out: &mut Output<'_>, k: usize, n: u64)
     ensures { Puts out.old (decimal_in k n) out.new }
 {

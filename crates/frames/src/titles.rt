@@ -18,7 +18,8 @@ fn put_tbl_line(out: &mut Output<'_>, ends: LineEnd, t: usize)
     out.put_line_end(ends);
 }
 
-// What is said of a column: its format, "with the sizes above", or its name.
+// What is said of a column: its format, "with the sizes above", or its name. `formats` is a flag as in the definition `title_of`: a closure in
+// its place would need a clause of its own on what it puts.
 fn put_title(out: &mut Output<'_>, t: usize, k: usize, formats: bool)
     ensures { Puts out.old (title_at formats t k) out.new }
 {
