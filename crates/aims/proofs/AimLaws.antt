@@ -2,6 +2,7 @@
 use mathlib.Core.Path.{◌≡◌, refl, ap, sym, ◌∙◌}
 use mathlib.Core.Bool.{Bool, true, false, not}
 use mathlib.Core.List.{List, [], ◌∷◌, ◌++◌}
+use mathlib.Core.Logic.{◌⊎◌}
 use Prim.Native.Nat.{ℕ, zero, suc, ◌+◌, ◌-◌, ◌<◌, ◌≤◌}
 use native.Mathlib.Omega.{arith}
 use borrow.Author.Count.{below_more}
@@ -11,10 +12,11 @@ use lib.ListN.{length, get_or, take, drop}
 use Rattle.page.specs.Bytes.{Bytes, pick}
 use Rattle.page.specs.Lines.{lines, content, command, rest, Rec}
 use Rattle.page.specs.Fields.{fields}
-use Rattle.page.specs.Tables.{MOST, table_at, width}
+use Rattle.page.specs.Tables.{MOST, TABLES, table_at, width}
 use Rattle.page.specs.Order.{Order, arranged}
 use Rattle.page.specs.File.{any, by_primary, lost, first_record, filed_of}
-use Rattle.page.specs.Answers.{sound}
+use Rattle.std.specs.Prelude.{Result, Ok, Err}
+use Rattle.page.specs.Answers.{answered}
 use Rattle.page.specs.declared.Refusal.{Refusal}
 use Rattle.page.proofs.TableLaws.{references_le}
 use Rattle.choices.specs.declared.Choice.{Choice}
@@ -30,33 +32,47 @@ use Rattle.seats.specs.declared.seating.Seats.{Seats}
 use Rattle.scans.specs.Scan.{is_record, first_line, some}
 use Rattle.seats.specs.Seating.{seat_at, seat_order, Ready, Ordered}
 use Rattle.seats.specs.Faults.{misses, loses, loses_any, lost_line, Looked}
-use Rattle.aims.specs.Aims.{aim_at, reached, lacks, lacks_some, lacks_any, Aimed, Within, Aiming}
-use Rattle.aims.proofs.LostLaws.{place_few, place_table, reaches_none, reaches_some, lost_none, lost_at}
-use Rattle.seats.proofs.RepeatLaws.{seat_bounds}
+use Rattle.aims.specs.Aims.{aim_at, reached, lacks, lacks_some, lacks_any, Aimed, Aiming}
+use Rattle.aims.proofs.LostLaws.{place_few, place_table, place_none, reaches_none, reaches_some, lost_none, lost_at}
+use Rattle.seats.proofs.RepeatLaws.{seat_bounds, seat_ordered}
 
 pub few_references : (t n : ℕ) → n ≡ length (table_at t).references → n ≤ MOST
 few_references t n e = let l = references_le t in omega arith
 
-module _ (s : Bytes) (seats : Seats) (z : Ready s seats) (t : ℕ) (o : Order) (y : arranged (width t) o ≡ true)
-    (r : ℕ) (g : Choice) (w : g ≡ refer_choice t r o) (u : ℕ) (x : u ≡ target_at t r) (p : ℕ) (q : p ≡ get_or seats.place u 0) where
-  -- a target without a section
-  pub aimed_none : p ≡ 0 → Aimed s seats t o r (record { refer = g; target = u; from = 0; to = 0; key = record { kinds = 0; slots = 0 } })
-  unfolding reached lines any
-  aimed_none e = record { low = omega arith; high = omega arith; is = λ fs. reaches_none s seats z t o r fs u x p q e }
+-- where the section of a table stands, and in which order its columns
+module _ (s : Bytes) (seats : Seats) (z : Ready s seats) (u : ℕ) (n : 0 < get_or seats.place u 0) (a : Seat) (e : a ≡ seat_at seats (get_or seats.place u 0 - 1)) where
+  some_place : get_or seats.place u 0 ≡ 0 → ⊥
+  some_place q = omega arith
 
-  pub aimed_some : (p ≡ 0 → ⊥) → (a : Seat) → a ≡ seat_at seats (p - 1) → (h : List ℕ) → Ordered s (seat_at seats (p - 1)) h
-      → (k : Choice) → k ≡ key_choice by_primary u (held u h) → Aimed s seats t o r (record { refer = g; target = u; from = a.from; to = a.to; key = k })
+  pub target_bounds : (a.from ≤ a.to) × (a.to ≤ length s)
+  target_bounds = seat_bounds s seats z (get_or seats.place u 0 - 1) (place_few s seats z u (get_or seats.place u 0) refl some_place) a e
+
+  pub target_ordered : Ordered s a a.order
+  target_ordered = seat_ordered s seats z (get_or seats.place u 0 - 1) (place_few s seats z u (get_or seats.place u 0) refl some_place) a e
+
+  target_order : held u a.order ≡ seat_order s (seat_at seats (get_or seats.place u 0 - 1))
+  target_order =
+      let m : a.table ≡ u = ap (λ (c : Seat). c.table) e ∙ place_table s seats z u (get_or seats.place u 0) refl some_place in
+      ap (λ (c : ℕ). held c a.order) (sym m) ∙ target_ordered.is ∙ ap (seat_order s) e
+
+module _ (s : Bytes) (seats : Seats) (z : Ready s seats) (t : ℕ) (o : Order) (y : arranged (width t) o ≡ true)
+    (r : ℕ) (g : Choice) (w : g ≡ refer_choice t r o) (u : ℕ) (x : u ≡ target_at t r) where
+  -- a target without a section
+  pub aimed_none : (a : Aim) → (get_or seats.place u 0 ≡ 0) ⊎ (TABLES < get_or seats.place u 0) → a.part.now ≡ [] → Aimed s seats t o r a
+  unfolding reached lines any
+  aimed_none a e b =
+      record { is = λ fs. rw b (reaches_none s seats z t o r fs u x (get_or seats.place u 0) refl (place_none s seats z u (get_or seats.place u 0) refl e)) }
+
+  pub aimed_some : (n : 0 < get_or seats.place u 0) (a : Seat) (e : a ≡ seat_at seats (get_or seats.place u 0 - 1)) (b : Aim) → b.refer ≡ g
+      → b.part.now ≡ take (a.to - a.from) (drop a.from s) → b.key ≡ key_choice by_primary u (held u a.order) → Aimed s seats t o r b
   unfolding reached
-  aimed_some n a e h v k f =
-      let b = seat_bounds s seats z (p - 1) (place_few s seats z u p q n) a e in
-      let m : (seat_at seats (p - 1)).table ≡ u = place_table s seats z u p q n in
-      let d : held u h ≡ seat_order s (seat_at seats (p - 1)) = ap (λ (c : ℕ). held c h) (sym m) ∙ v.is in
+  aimed_some n a e b i j k =
+      let d = target_order s seats z u n a e in
       record {
-        low = b.0;
-        high = b.1;
         is = λ fs.
-            reaches_some s seats z t o r fs u x p q n a e k (f ∙ ap (key_choice by_primary u) d) (gathered g fs)
-            (ap (λ (c : Choice). gathered c fs) w ∙ gathered_reference t r o y 0 fs);
+            rw (i, j)
+            (reaches_some s seats z t o r fs u x (get_or seats.place u 0) refl (some_place s seats z u n a e) a e b.key (k ∙ ap (key_choice by_primary u) d) (gathered g fs)
+            (ap (λ (c : Choice). gathered c fs) w ∙ gathered_reference t r o y 0 fs));
       }
 
 pub aiming_three : (s : Bytes) (seats : Seats) (t : ℕ) (o : Order) (aims : Aims) → Aimed s seats t o 0 (aim_at aims 0) → Aimed s seats t o 1 (aim_at aims 1) → Aimed s seats t o 2 (aim_at aims 2) → Aiming s seats t o aims
@@ -68,28 +84,19 @@ aiming_three s seats t o aims a b c = record { each = by }
     by (suc (suc zero)) h = c
     by (suc (suc (suc r))) h = absurd (omega arith)
 
-pub aims_within : {s : Bytes} {seats : Seats} {t : ℕ} {o : Order} {aims : Aims} → Aiming s seats t o aims → Within s aims
-aims_within z = record { each = λ r h. ((z.each r h).low, (z.each r h).high) }
-
-pub aim_bounds : {s : Bytes} {aims : Aims} → Within s aims → (r : ℕ) → r < MOST → (a : Aim) → a ≡ aim_at aims r → (a.from ≤ a.to) × (a.to ≤ length s)
-aim_bounds z r h a e = rw e (z.each r h)
-
-pub reached_at : (s : Bytes) (aims : Aims) (r : ℕ) (a : Aim) → a ≡ aim_at aims r → (k : List ℕ) (x : Bool) → x ≡ reached s a k → x ≡ reached s (aim_at aims r) k
-reached_at s aims r a e k x q = q ∙ ap (λ (y : Aim). reached s y k) e
-
 some_same : (p q : ℕ → Bool) (i n : ℕ) → ((k : ℕ) → k < i + n → p k ≡ q k) → some p i n ≡ some q i n
 unfolding some
 some_same p q i zero h = refl
 some_same p q i (suc n) h = rw (h i (omega arith), some_same p q (suc i) n (λ k l. h k (omega arith)))
 
 -- a line that lacks a record by its aims loses it
-pub loses_is : {s : Bytes} {seats : Seats} {t : ℕ} {o : Order} {aims : Aims} → Aiming s seats t o aims → (l : Bytes) → loses s seats t o l ≡ lacks_some s aims t l
+pub loses_is : {s : Bytes} {seats : Seats} {t : ℕ} {o : Order} {aims : Aims} → Aiming s seats t o aims → (l : Bytes) → loses s seats t o l ≡ lacks_some aims t l
 unfolding loses lacks_some misses lacks
 loses_is {s} {seats} {t} {o} {aims} z l =
     let n = length (table_at t).references in
     let fs = fields (rest (content l)) in
     let few : n ≤ MOST = few_references t n refl in
-    ap (λ (b : Bool). pick (is_record l) b false) (some_same (misses s seats t o fs) (lacks s aims fs) 0 n (λ k h. ap not ((z.each k (omega arith)).is fs)))
+    ap (λ (b : Bool). pick (is_record l) b false) (some_same (misses s seats t o fs) (lacks aims fs) 0 n (λ k h. ap not ((z.each k (omega arith)).is fs)))
 
 line_same : (f g : List Bytes → Bytes → Bool) → ((b : List Bytes) (l : Bytes) → f b l ≡ g b l) → (b : List Bytes) (n : ℕ) (ls : List Bytes) → first_line f b n ls ≡ first_line g b n ls
 unfolding first_line
@@ -97,12 +104,11 @@ line_same f g h b n [] = refl
 line_same f g h b n (l ∷ ls) = rw (h b l, line_same f g h (b ++ l ∷ []) (suc n) ls)
 
 -- the first line of a seat that lacks a record is the first that loses one
-pub lost_by : (s : Bytes) (seats : Seats) (i : ℕ) (a : Seat) → a ≡ seat_at seats i → (h : List ℕ) → Ordered s (seat_at seats i) h → (aims : Aims) → Aiming s seats a.table (held a.table h) aims
-    → (n : ℕ) → first_line (lacks_any s aims a.table) [] 0 (lines (take (a.to - a.from) (drop a.from s))) ≡ n → lost_line s seats (seat_at seats i) ≡ n
+pub lost_by : (s : Bytes) (seats : Seats) (i : ℕ) (a : Seat) → a ≡ seat_at seats i → Ordered s a a.order → (aims : Aims) → Aiming s seats a.table (held a.table a.order) aims
+    → (n : ℕ) → first_line (lacks_any aims a.table) [] 0 (lines (take (a.to - a.from) (drop a.from s))) ≡ n → lost_line s seats (seat_at seats i) ≡ n
 unfolding lost_line
-lost_by s seats i a e h y aims z n q =
-    let o : seat_order s a ≡ held a.table h = rw e (sym y.is) in
-    rw (sym e, o) (line_same (loses_any s seats a.table (held a.table h)) (lacks_any s aims a.table) (λ b l. loses_is z l) [] 0 (lines (take (a.to - a.from) (drop a.from s))) ∙ q)
+lost_by s seats i a e y aims z n q =
+    rw (sym e, sym y.is) (line_same (loses_any s seats a.table (held a.table a.order)) (lacks_any aims a.table) (λ b l. loses_is z l) [] 0 (lines (take (a.to - a.from) (drop a.from s))) ∙ q)
 
 -- a table without references loses nothing
 neither : (b : Bool) → pick b false false ≡ false
@@ -126,61 +132,35 @@ lost_nothing s seats i a e n x z =
     (line_same (loses_any s seats a.table (seat_order s a)) (λ before l. false) (λ b l. loses_none s seats a.table (seat_order s a) l (sym x ∙ z)) [] 0 (lines (take (a.to - a.from) (drop a.from s)))
     ∙ never [] 0 (lines (take (a.to - a.from) (drop a.from s))))
 
-module _ (s : Bytes) (aims : Aims) (t : ℕ) where
+module _ (aims : Aims) (t : ℕ) where
   pub lacks_is : (fs : List Bytes) (k : ℕ) (a : Aim) → a ≡ aim_at aims k → (key : List ℕ) → key ≡ gathered a.refer fs
-      → (x b : Bool) → x ≡ reached s (aim_at aims k) key → not x ≡ b → lacks s aims fs k ≡ b
+      → (x b : Bool) → x ≡ reached (aim_at aims k) key → not x ≡ b → lacks aims fs k ≡ b
   unfolding lacks
-  lacks_is fs k a y key e x b q f = rw (sym y) (rw (sym e) (ap not (ap (λ (c : Aim). reached s c key) y ∙ sym q) ∙ f))
+  lacks_is fs k a y key e x b q f = rw (sym y) (rw (sym e) (ap not (ap (λ (c : Aim). reached c key) y ∙ sym q) ∙ f))
 
   module _ (l c : Bytes) (k : ℕ) (a : c ≡ content l) (b : k ≡ command c) where
-    pub lacks_other : (k ≡ 11 → ⊥) → lacks_some s aims t l ≡ false
+    pub lacks_other : (k ≡ 11 → ⊥) → lacks_some aims t l ≡ false
     unfolding lacks_some
     lacks_other n = rw (sym a, sym b, ne_eqb k Rec n)
 
-    pub lacks_record : k ≡ 11 → (f : Bytes) → f ≡ rest c → (n : ℕ) → n ≡ length (table_at t).references → lacks_some s aims t l ≡ some (lacks s aims (fields f)) 0 n
+    pub lacks_record : k ≡ 11 → (f : Bytes) → f ≡ rest c → (n : ℕ) → n ≡ length (table_at t).references → lacks_some aims t l ≡ some (lacks aims (fields f)) 0 n
     unfolding lacks_some
     lacks_record e f x n y = rw (x, y, a, ap command (sym a) ∙ sym b, eq-eqb k Rec e)
 
 -- section after section
 module _ (s : Bytes) (seats : Seats) (z : Ready s seats) where
-  pub looked_none : (n : ℕ) → n ≡ 0 → Looked s seats n (record { number = 0; section = 0; line = 0 })
-  looked_none n z = record { none = λ e. (refl, λ m h. absurd (omega arith)); some = λ n. absurd (n refl) }
+  -- the sections before section i lose nothing
+  module _ (i : ℕ) (y : (m : ℕ) → m < i → lost_line s seats (seat_at seats m) ≡ 0) where
+    pub looked_next : lost_line s seats (seat_at seats i) ≡ 0 → Looked s seats (i + 1) (Ok (tt {0}))
+    looked_next f = below_more _ _ y f
 
-  module _ (n : ℕ) (k : n ≡ 0 → ⊥) (r : Refusal) (y : Looked s seats (n - 1) r) where
-    pub looked_some : (r.number ≡ 0 → ⊥) → Looked s seats n r
-    looked_some e = record { none = λ q. absurd (e q); some = y.some }
+    pub looked_here : i < seats.count → (l : ℕ) → (0 < l) × (lost_line s seats (seat_at seats i) ≡ l)
+        → (n : ℕ) → Looked s seats n (Err (record { number = 20; section = i + 1; line = l }))
+    looked_here h l q n =
+        let p : (l - 1) + 1 ≡ l = omega (arith, q.0) in
+        (sym (rw p at (lost_at s seats z i (l - 1) h y (q.1 ∙ sym p))), refl)
 
-    module _ (e : r.number ≡ 0) (l : ℕ) (q : l ≡ lost_line s seats (seat_at seats (n - 1))) where
-      pub looked_more : l ≡ 0 → Looked s seats n r
-      looked_more f =
-          let o : n ≡ (n - 1) + 1 = omega arith in
-          let b = y.none e in
-          record { none = λ q2. (b.0, λ m h. below_more _ _ b.1 (sym q ∙ f) m (omega arith)); some = λ x. absurd (x e) }
-
-      pub looked_lost : (l ≡ 0 → ⊥) → n ≤ seats.count → Looked s seats n (record { number = 20; section = n; line = l })
-      looked_lost f h =
-          let o : (n - 1) + 1 ≡ n = omega arith in
-          let p : (l - 1) + 1 ≡ l = omega arith in
-          let a = lost_at s seats z (n - 1) (l - 1) (omega arith) (y.none e).1 (sym q ∙ sym p) in
-          record { none = λ x. absurd (omega arith); some = λ x. sym (rw (o, p) at a) }
-
-  module _ (n : ℕ) (y : Looked s seats n sound) (l : ℕ) (q : l ≡ lost_line s seats (seat_at seats n)) where
-    pub looked_next : l ≡ 0 → Looked s seats (n + 1) sound
-    looked_next f =
-        record { none = λ e. (refl, λ m h. below_more _ _ (y.none refl).1 (sym q ∙ f) m (omega arith)); some = λ x. absurd (x refl) }
-
-    pub looked_here : (l ≡ 0 → ⊥) → n < seats.count → (k : ℕ) → Looked s seats k (record { number = 20; section = n + 1; line = l })
-    looked_here f h k =
-        let p : (l - 1) + 1 ≡ l = omega arith in
-        let a = lost_at s seats z n (l - 1) h (y.none refl).1 (sym q ∙ sym p) in
-        record { none = λ x. absurd (omega arith); some = λ x. sym (rw p at a) }
-
-  pub looked_end : (n : ℕ) → Looked s seats n sound → seats.count ≤ n → Looked s seats seats.count sound
-  looked_end n y h = record { none = λ e. (refl, λ m l. (y.none refl).1 m (omega arith)); some = λ x. absurd (x refl) }
-
-  pub looked_all : (r : Refusal) → Looked s seats seats.count r → r ≡ first_record 20 (λ before. lost (filed_of s)) [] (filed_of s)
-  looked_all r y = by (eqb r.number 0) refl
-    where
-      by : (b : Bool) → eqb r.number 0 ≡ b → r ≡ first_record 20 (λ before. lost (filed_of s)) [] (filed_of s)
-      by true e = let b = y.none (eqb-true r.number 0 e) in b.0 ∙ sym (lost_none s seats z b.1)
-      by false e = y.some (eqb-false r.number 0 e)
+  pub looked_all : (r : Result (Unit {0}) Refusal) → Looked s seats seats.count r → r ≡ answered (first_record 20 (λ before. lost (filed_of s)) [] (filed_of s)) (tt {0})
+  unfolding answered
+  looked_all (Ok x) y = rw (lost_none s seats z y)
+  looked_all (Err e) y = rw (sym y.0, y.1)

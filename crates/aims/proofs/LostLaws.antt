@@ -2,6 +2,7 @@
 use mathlib.Core.Path.{◌≡◌, refl, ap, sym, ◌∙◌}
 use mathlib.Core.Bool.{Bool, true, false, not}
 use mathlib.Core.List.{List, [], map}
+use mathlib.Core.Logic.{◌⊎◌, ⊎_elim}
 use Prim.Native.Nat.{ℕ, zero, suc, ◌+◌, ◌-◌, ◌<◌}
 use native.Mathlib.Omega.{arith}
 use borrow.Author.Tests.{eq-eqb, ne_eqb}
@@ -10,7 +11,7 @@ use lib.ListN.{length, get_or}
 use Rattle.page.specs.Bytes.{Bytes, bytes, pick}
 use Rattle.page.specs.Lines.{content, rest}
 use Rattle.page.specs.Fields.{fields}
-use Rattle.page.specs.Tables.{Reference, table_at, columns, width, table_named}
+use Rattle.page.specs.Tables.{TABLES, Reference, table_at, columns, width, table_named}
 use Rattle.page.specs.Order.{Order, arranged, by_column, column_in}
 use Rattle.page.specs.Cut.{Section, sections}
 use Rattle.page.specs.Head.{latin_of}
@@ -173,6 +174,10 @@ module _ (s : Bytes) (r : Seats) (z : Ready s r) where
         by : (p : ℕ) → p ≡ get_or r.place u 0 → (p ≡ 0 → ⊥) → (get_or r.seats (p - 1) no_seat).table ≡ u
         by zero q n = absurd (n refl)
         by (suc k) q n = let w = z.seated.taken u k (sym q) in let o : suc k - 1 ≡ k = omega arith in rw o w.1
+
+  -- a table's place is none, or one of the seats
+  pub place_none : (u p : ℕ) → p ≡ get_or r.place u 0 → (p ≡ 0) ⊎ (TABLES < p) → p ≡ 0
+  place_none u p q e = ⊎_elim (λ a. a) (λ b. absurd (let n : p ≡ 0 → ⊥ = λ c. omega arith in omega (arith, place_few u p q n, z.few))) e
 
   module _ (t : ℕ) (o : Order) (k : ℕ) (fs : List Bytes) (u : ℕ) (x : u ≡ target_at t k) (p : ℕ) (q : p ≡ get_or r.place u 0) where
     pub reaches_none : p ≡ 0 → reaches s r t o fs k ≡ false

@@ -1,98 +1,77 @@
 // Where the references of a table go: asked for once a section.
 #![tactic(auto)]
 
-ghost use Rattle.std.specs.Prelude.{◌≡◌, get_or};
+ghost use Rattle.std.specs.Prelude.{◌≡◌};
 ghost use Rattle.arrangement.specs.Orders.{held, Stands};
 ghost use Rattle.seats.specs.Seating.{Ready};
 ghost use Rattle.aims.specs.Aims.{aim_at, Aimed, Aiming};
 
-use choices::Choice;
-use seats::{Seats, find_order, find_seat};
-use tables::{TABLES, WIDEST};
+use choices::{Choice, choose_key, choose_reference};
+use seats::{Seat, Seats};
 
 // A reference's fields, its target by its place in the list of tables, the bytes of the target's section, none if it has no section, and
 // the fields of the target's key.
 #[derive(Clone, Copy)]
-pub struct Aim {
+pub struct Aim<'a> {
     pub refer: Choice,
     pub target: usize,
-    pub from: usize,
-    pub to: usize,
+    pub part: &'a [u8],
     pub key: Choice,
 }
 
 // Each has its own field, not a place in an array, so that what a loop needs of them stays in the machine's registers.
 #[derive(Clone, Copy)]
-pub struct Aims {
-    pub first: Aim,
-    pub second: Aim,
-    pub third: Aim,
+pub struct Aims<'a> {
+    pub first: Aim<'a>,
+    pub second: Aim<'a>,
+    pub third: Aim<'a>,
 }
 
-// The section of a table, from 1, or 0.
-fn find_place(seats: Seats, t: usize) -> usize
-    ensures { result ≡ get_or seats.place t 0 }
-{
-    let all = seats.place;
-    if t < TABLES {
-        return all[t];
+impl<'a> Aims<'a> {
+    pub fn aim(&self, r: usize) -> Aim<'a>
+        ensures { result ≡ aim_at self.now r }
+    {
+        match r {
+            0 => self.first,
+            1 => self.second,
+            _ => self.third,
+        }
     }
-    0
 }
 
-// Of a section of table t whose columns stand in the order o.
-fn take_aim(s: &[u8], seats: Seats, t: usize, r: usize, o: &[u8; WIDEST]) -> Aim
-    requires { Ready s.now seats × Stands t o.now }
-    ensures { Aimed s.now seats t (held t o.now) r result }
+// Of the section at a seat.
+fn take_aim<'a>(s: &'a [u8], seats: &Seats, seat: &Seat, r: usize) -> Aim<'a>
+    requires { Ready s.now seats.now × Stands seat.now.table seat.now.order }
+    ensures { Aimed s.now seats.now seat.now.table (held seat.now.table seat.now.order) r result }
 {
-    let refer = choices::choose_reference(t, r, o);
-    let u = tables::find_target(t, r);
-    let k = find_place(seats, u);
-    if k == 0 {
+    let refer = choose_reference(seat.table, r, &seat.order);
+    let target = tables::find_target(seat.table, r);
+    let Some(there) = seats.seat_of(target) else {
         return Aim {
-            refer: refer,
-            target: u,
-            from: 0,
-            to: 0,
+            refer,
+            target,
+            part: &s[..0],
             key: Choice { kinds: 0, slots: 0 },
         };
-    }
-    let seat = find_seat(seats, k - 1);
-    let from = seat.from;
-    let to = seat.to;
-    let order = find_order(s, seats, k - 1);
-    let key = choices::choose_key(u, false, &order);
+    };
+    let key = choose_key(target, false, &there.order);
+    let from = there.from;
+    let to = there.to;
     Aim {
-        refer: refer,
-        target: u,
-        from: from,
-        to: to,
-        key: key,
+        refer,
+        target,
+        part: &s[from..to],
+        key,
     }
 }
 
-pub fn take_aims(s: &[u8], seats: Seats, t: usize, o: &[u8; WIDEST]) -> Aims
-    requires { Ready s.now seats × Stands t o.now }
-    ensures { Aiming s.now seats t (held t o.now) result }
+pub fn take_aims<'a>(s: &'a [u8], seats: &Seats, seat: &Seat) -> Aims<'a>
+    requires { Ready s.now seats.now × Stands seat.now.table seat.now.order }
+    ensures { Aiming s.now seats.now seat.now.table (held seat.now.table seat.now.order) result }
 {
-    let a = take_aim(s, seats, t, 0, o);
-    let b = take_aim(s, seats, t, 1, o);
-    let c = take_aim(s, seats, t, 2, o);
     Aims {
-        first: a,
-        second: b,
-        third: c,
+        first: take_aim(s, seats, seat, 0),
+        second: take_aim(s, seats, seat, 1),
+        third: take_aim(s, seats, seat, 2),
     }
-}
-
-pub fn find_aim(aims: Aims, r: usize) -> Aim
-    ensures { result ≡ aim_at aims r }
-{
-    if r == 0 {
-        return aims.first;
-    }
-    if r == 1 {
-        return aims.second;
-    }
-    aims.third
 }

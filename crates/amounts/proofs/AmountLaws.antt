@@ -3,29 +3,16 @@
 use mathlib.Core.Path.{◌≡◌, refl, sym}
 use mathlib.Core.Bool.{Bool, true, false}
 use mathlib.Core.List.{[], ◌∷◌}
-use Prim.Native.Nat.{ℕ, ◌<◌, ◌≤◌}
+use Prim.Native.Nat.{ℕ}
 use native.Mathlib.Omega.{arith}
-use borrow.Author.Tests.{ne_eqb, le-leb, lt-leb}
+use borrow.Author.Tests.{ne_eqb}
 use lib.ListN.{length}
 use Rattle.page.specs.Bytes.{Bytes, pick}
 use Rattle.page.specs.Fields.{digits, number_of}
-use Rattle.page.specs.Section.{day_field, number_field, left_out, field_of}
+use Rattle.page.specs.Section.{number_field, left_out, field_of}
 use Rattle.page.specs.declared.Column.{Column}
 use Rattle.page.specs.declared.Field.TheVariants as F
 use Rattle.page.specs.declared.Number.TheVariants as N
-
-module _ (day : Bool) (lo hi n : ℕ) where
-  pub number_under : n < lo → number_field day lo hi (N.Plus n) ≡ F.Refused 13
-  unfolding number_field
-  number_under h = rw (lt-leb lo n h)
-
-  pub number_over : lo ≤ n → hi < n → number_field day lo hi (N.Plus n) ≡ F.Refused 13
-  unfolding number_field
-  number_over h k = rw (le-leb lo n h, lt-leb n hi k)
-
-  pub number_fits : lo ≤ n → n ≤ hi → number_field day lo hi (N.Plus n) ≡ day_field day n
-  unfolding number_field
-  number_fits h k = rw (le-leb lo n h, le-leb n hi k)
 
 -- an empty field has no number
 pub no_number : (w : Bytes) → length w ≡ 0 → number_of w ≡ N.Nothing

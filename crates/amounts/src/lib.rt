@@ -18,40 +18,35 @@ fn judge_nothing(w: &[u8], from: usize, to: usize, optional: bool) -> Field
     requires { (from ≤ to) × (to ≤ length w.now) }
     ensures { result ≡ pick (left_out optional (trim (take (to - from) (drop from w.now)))) F.Missing (F.Refused 12) }
 {
-    if !optional {
-        return Field::Refused(12);
+    if optional && lines::trimmed(&w[from..to]).is_empty() {
+        Field::Missing
+    } else {
+        Field::Refused(12)
     }
-    let f = lines::trimmed(&w[from..to]);
-    if f.len() == 0 {
-        return Field::Missing;
-    }
-    Field::Refused(12)
 }
 
 // "26, no such day"
+#[tactic(auto, unfolding(page::specs::Section::day_field))]
 fn judge_day(n: u64, day: bool) -> Field
     ensures { result ≡ day_field day n }
 {
-    if !day {
-        return Field::Number(n);
+    if !day || is_real_day(n) {
+        Field::Number(n)
+    } else {
+        Field::Refused(26)
     }
-    if is_real_day(n) {
-        return Field::Number(n);
-    }
-    Field::Refused(26)
 }
 
 // 13, "26, no such day, at its field directly after 13"
+#[tactic(auto, unfolding(page::specs::Section::number_field))]
 fn judge_amount(n: u64, lo: u64, hi: u64, day: bool) -> Field
     ensures { result ≡ number_field day lo hi (N.Plus n) }
 {
-    if n < lo {
-        return Field::Refused(13);
+    if n < lo || hi < n {
+        Field::Refused(13)
+    } else {
+        judge_day(n, day)
     }
-    if hi < n {
-        return Field::Refused(13);
-    }
-    judge_day(n, day)
 }
 
 // 12, 13, 26: a number column's field is the part of w from one place to another, and reads as this number.

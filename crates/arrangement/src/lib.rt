@@ -27,15 +27,12 @@ pub fn find_place(o: &[u8; WIDEST], t: usize, c: usize) -> usize
     ensures { result ≡ place c (held t o.now) }
 {
     let n = find_width(t);
-    let mut p: usize = 0;
-    while p < n {
-        let x = o[p] as usize;
-        if x == c {
+    for p in 0..n {
+        if o[p] as usize == c {
             return p;
         }
-        p += 1;
     }
-    p
+    n
 }
 
 // Is this document 01's own order?
@@ -44,15 +41,7 @@ pub fn is_listed(o: &[u8; WIDEST], t: usize) -> bool
     ensures { result ≡ true → held t o.now ≡ listed_order t }
 {
     let n = find_width(t);
-    let mut p: usize = 0;
-    while p < n {
-        let x = o[p] as usize;
-        if x != p {
-            return false;
-        }
-        p += 1;
-    }
-    true
+    o[..n] == LISTED[..n]
 }
 
 // The column, from 1, of field m, from 1; 0: none.
@@ -79,8 +68,5 @@ pub fn may_mark(t: usize, o: &[u8; WIDEST], i: u64) -> bool
         return false;
     }
     let p = i as usize - 1;
-    if find_width(t) <= p {
-        return false;
-    }
-    is_fillable(t, o[p] as usize)
+    p < find_width(t) && is_fillable(t, o[p] as usize)
 }

@@ -1,7 +1,7 @@
 -- Bits that are set stay set: what a table of bits says of the hashes put there. Assumes nothing.
 use Prim.Native.Nat.{ℕ, ◌*◌, ◌/◌, ◌%◌, ◌<◌, ◌≤◌, min, max}
 use mathlib.Core.Path.{◌≡◌, refl}
-use mathlib.Core.Bool.{Bool, true, false, false≢true}
+use mathlib.Core.Bool.{Bool, true, false}
 use mathlib.Core.List.{List}
 use mathlib.Core.Logic.{◌⊎◌, ⊎_elim}
 use native.Mathlib.Omega.{arith}
@@ -71,9 +71,9 @@ lane_lt h n p =
 module _ (n h m : ℕ) where
   -- its words, by other names
   module _ (i : ℕ) (u : i ≡ word_of h n) where
-    pub probed_first : (t : List ℕ) → (bit_and (get_or t i 0) m ≡ m → ⊥) → Probed t n h m false
+    pub probed_first : (t : List ℕ) → (bit_and (get_or t i 0) m ≡ m → ⊥) → Probed t n h m (eqb (bit_and (get_or t i 0) m) m)
     unfolding Has In
-    probed_first t d = record { holds = λ e. absurd (false≢true e); absent = λ e x. d (rw u x.0) }
+    probed_first t d = record { holds = λ e. absurd (d (eqb-true _ _ e)); absent = λ e x. d (rw u x.0) }
 
     module _ (j : ℕ) (v : j ≡ word_of (h / 256) n) where
       pub probed : (t : List ℕ) → bit_and (get_or t i 0) m ≡ m → Probed t n h m (eqb (bit_and (get_or t j 0) m) m)
@@ -89,10 +89,3 @@ module _ (n h m : ℕ) where
             holds = (rw (← u) (q.keeps _ _ p.holds), rw (← v) q.holds);
             fresh = λ x y. ⊎_elim (λ z. p.fresh z (rw u y.0)) (λ z. q.fresh z (rw v (p.keeps _ _ y.1))) (f x);
           }
-
-  -- the bits, by another name
-  pub added_as : (k : ℕ) (t₀ t : List ℕ) (r : Bool) → m ≡ k → Added t₀ n h m r t → Added t₀ n h k r t
-  added_as k t₀ t r e a = rw e at a
-
-  pub probed_as : (k : ℕ) (t : List ℕ) (r : Bool) → m ≡ k → Probed t n h m r → Probed t n h k r
-  probed_as k t r e a = rw e at a

@@ -1,22 +1,23 @@
 // Tables of bits that hashes are put into: a hash whose bits are not all set was never put there.
-ghost use Rattle.std.specs.Prelude.{◌≡◌, ◌<◌, ◌≤◌, ◌^◌, length};
+ghost use Rattle.std.specs.Prelude.{◌≡◌, ◌<◌, length};
 ghost use Rattle.bits.specs.Bits.{two_of, four_of, word_of, lane_of, Touched, Added, Probed};
 
 // In which of n rounds a hash is looked at.
-pub fn find_lane(h: u64, n: u64) -> u64
-    requires { n < 2 ^ 32 }
+pub fn find_lane(h: u64, n: u32) -> u64
     ensures { result ≡ lane_of h n }
 {
-    h / 1125899906842624 % 256 * n / 256
+    h / 1125899906842624 % 256 * u64::from(n) / 256
 }
 
-fn choose_two(h: u64) -> u64
+// For a table that is to be crowded: few bits a hash.
+pub fn choose_two(h: u64) -> u64
     ensures { result ≡ two_of h }
 {
     1 << h / 268435456 % 64 | 1 << h / 17179869184 % 64
 }
 
-fn choose_four(h: u64) -> u64
+// For a table that stays sparse.
+pub fn choose_four(h: u64) -> u64
     ensures { result ≡ four_of h }
 {
     choose_two(h) | 1 << h / 1099511627776 % 64 | 1 << h / 70368744177664 % 64
@@ -41,46 +42,23 @@ fn set_bits(t: &mut [u64], i: usize, m: u64) -> bool
     old & m == m
 }
 
-// Sets the bits m in the two words of a hash, of n words. Were they all set?
-fn put_bits(t: &mut [u64], n: usize, h: u64, m: u64) -> bool
-    requires { (0 < n) × (n ≤ length t.old) }
-    ensures { Added t.old n h m result t.new }
+// Sets the bits m in the two words of a hash. Were they all set? A slice, so that one function serves tables of each size: that it has a
+// word each caller shows.
+pub fn put_hash(t: &mut [u64], h: u64, m: u64) -> bool
+    requires { 0 < length t.old }
+    ensures { Added t.old (length t.old) h m result t.new }
 {
+    let n = t.len();
     let a = set_bits(t, choose_word(h, n), m);
     let b = set_bits(t, choose_word(h / 256, n), m);
-    if a {
-        return b;
-    }
-    false
+    a && b
 }
 
-// For a table that is to be crowded: few bits a hash.
-pub fn put_two(t: &mut [u64], n: usize, h: u64) -> bool
-    requires { (0 < n) × (n ≤ length t.old) }
-    ensures { Added t.old n h (two_of h) result t.new }
+// Are the bits m set in the two words of a hash?
+pub fn has_hash(t: &[u64], h: u64, m: u64) -> bool
+    requires { 0 < length t.now }
+    ensures { Probed t.now (length t.now) h m result }
 {
-    let m = choose_two(h);
-    put_bits(t, n, h, m)
-}
-
-// For a table that stays sparse.
-pub fn put_four(t: &mut [u64], n: usize, h: u64) -> bool
-    requires { (0 < n) × (n ≤ length t.old) }
-    ensures { Added t.old n h (four_of h) result t.new }
-{
-    let m = choose_four(h);
-    put_bits(t, n, h, m)
-}
-
-pub fn has_four(t: &[u64], n: usize, h: u64) -> bool
-    requires { (0 < n) × (n ≤ length t.now) }
-    ensures { Probed t.now n h (four_of h) result }
-{
-    let m = choose_four(h);
-    let a = t[choose_word(h, n)] & m;
-    if a != m {
-        return false;
-    }
-    let b = t[choose_word(h / 256, n)] & m;
-    b == m
+    let n = t.len();
+    t[choose_word(h, n)] & m == m && t[choose_word(h / 256, n)] & m == m
 }

@@ -3,4 +3,4 @@
 
 mod bits;
 
-pub use bits::{choose_word, find_lane, has_four, put_four, put_two};
+pub use bits::{choose_four, choose_two, choose_word, find_lane, has_hash, put_hash};

@@ -6,18 +6,14 @@ ghost use Rattle.page.specs.Dates.{leap, days_in, real_date, real_day};
 
 use page::Date;
 
+#[tactic(auto, unfolding(page::specs::Dates::leap))]
 fn is_leap(year: u64) -> bool
     ensures { result ≡ leap year }
 {
-    if year % 4 != 0 {
-        return year % 400 == 0;
-    }
-    if year % 100 != 0 {
-        return true;
-    }
-    year % 400 == 0
+    (year % 4 == 0 && year % 100 != 0) || year % 400 == 0
 }
 
+#[tactic(auto, unfolding(page::specs::Dates::days_in))]
 fn days_in_february(year: u64) -> u64
     ensures { result ≡ days_in year 2 }
 {
@@ -25,42 +21,27 @@ fn days_in_february(year: u64) -> u64
 }
 
 // 0 for a month that there is not. A `match`, of which nothing is built on the stack for each record.
+#[tactic(auto, unfolding(page::specs::Dates::days_in))]
 fn days_in(year: u64, month: u64) -> u64
     ensures { result ≡ days_in year month }
 {
     match month {
-        1 => 31,
+        1 | 3 | 5 | 7 | 8 | 10 | 12 => 31,
+        4 | 6 | 9 | 11 => 30,
         2 => days_in_february(year),
-        3 => 31,
-        4 => 30,
-        5 => 31,
-        6 => 30,
-        7 => 31,
-        8 => 31,
-        9 => 30,
-        10 => 31,
-        11 => 30,
-        12 => 31,
         _ => 0,
     }
 }
 
+#[tactic(auto, unfolding(page::specs::Dates::real_date))]
 pub fn is_real_date(d: Date) -> bool
     ensures { result ≡ real_date d }
 {
-    let year = d.year;
-    let month = d.month;
-    let day = d.day;
-    if year < 1 {
-        return false;
-    }
-    if day < 1 {
-        return false;
-    }
-    day <= days_in(year, month)
+    1 <= d.year && 1 <= d.day && d.day <= days_in(d.year, d.month)
 }
 
 // "the number's value read as YYYYMMDD with leading zeros optional"
+#[tactic(auto, unfolding(page::specs::Dates::real_day, page::specs::Dates::day_of))]
 pub fn is_real_day(n: u64) -> bool
     ensures { result ≡ real_day n }
 {

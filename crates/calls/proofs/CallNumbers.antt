@@ -1,4 +1,5 @@
 -- Each number of the calls other than `check`, exactly: its condition holds, and none that is asked before it. Assumes nothing.
+use Rattle.std.specs.Prelude.{Err}
 use mathlib.Core.Path.{◌≡◌, refl, ap, sym, ◌∙◌}
 use mathlib.Core.Bool.{Bool, true, false, not, ◌||◌}
 use mathlib.Core.List.{List}
@@ -23,11 +24,6 @@ use Rattle.page.specs.Writing.{put_refusal}
 use Rattle.page.specs.Refusals.{Refused, section_numbers, header_numbers, file_numbers, gives, OneOf, SoundOr}
 use Rattle.page.specs.declared.Refusal.{Refusal}
 use Rattle.page.specs.declared.Finding.{Finding}
-use Rattle.page.specs.declared.Checked.TheVariants as C
-use Rattle.page.specs.declared.Listed.TheVariants as L
-use Rattle.page.specs.declared.Got.TheVariants as G
-use Rattle.page.specs.declared.Written.TheVariants as W
-use Rattle.page.specs.declared.Handed.TheVariants as Ha
 use Rattle.verdicts.specs.Headers.{HeaderFault}
 use Rattle.calls.specs.Turns.{Outside, Within}
 use Rattle.laws.proofs.Decides.{Decides, holds, fails, one_of, below}
@@ -36,7 +32,7 @@ use Rattle.verdicts.proofs.Headers.{header_refused_exactly, header_settled}
 use Rattle.grammar.proofs.Refuses.{refuses_exactly, refused_ranged, section_settled}
 use Rattle.verdicts.proofs.Numbers.{exactly_section}
 use Rattle.calls.proofs.PromisesListing.{header_told, file_told}
-use Rattle.calls.proofs.CallAnswers.{some_number, written_exactly, handed_exactly, got_exactly, listed_exactly, checked_exactly}
+use Rattle.calls.proofs.CallAnswers.{some_number, answered_exactly}
 use Rattle.calls.proofs.Turns.{earlier_exactly, turned, via, second, outside_d, within_not, not_within}
 use Rattle.laws.proofs.Earlier.{earlier_none}
 use Rattle.laws.proofs.Numbers.{other_number, apart}
@@ -116,15 +112,15 @@ find_24 s i =
     (second (if_exactly 24 (some_number 24 (omega arith)) (outside_d i (length (sections s)))))
 
 -- `section`: 24, "no such section"
-pub section_24 : (s : Bytes) (i : ℕ) → section_of s i ≡ L.Refused (refusal 24 0 0) ↔ (Open s × Outside i (length (sections s)))
+pub section_24 : (s : Bytes) (i : ℕ) → section_of s i ≡ Err (refusal 24 0 0) ↔ (Open s × Outside i (length (sections s)))
 unfolding section_of
-section_24 s i = via (listed_exactly (find_refusal s i) (refusal 24 0 0) (some_number 24 (omega arith)) (row_at s i)) (find_24 s i)
+section_24 s i = via (answered_exactly (find_refusal s i) (refusal 24 0 0) (some_number 24 (omega arith)) (row_at s i)) (find_24 s i)
 
 -- `list`: 21, "Too few rows"
-pub list_21 : (s : Bytes) (room : ℕ) → list_of s room ≡ C.Refused (refusal 21 0 0) ↔ (Open s × (room < length (sections s)))
+pub list_21 : (s : Bytes) (room : ℕ) → list_of s room ≡ Err (refusal 21 0 0) ↔ (Open s × (room < length (sections s)))
 unfolding list_of list_refusal any
 list_21 s room =
-    via (checked_exactly (earlier (list_refusal s room) (file_refusal s)) (refusal 21 0 0) (some_number 21 (omega arith)))
+    via (answered_exactly (earlier (list_refusal s room) (file_refusal s)) (refusal 21 0 0) (some_number 21 (omega arith)) tt)
     (via (λ e. into ((earlier_exactly (list_refusal s room) (file_refusal s) (refusal 21 0 0) (some_number 21 (omega arith))).0 e), λ e. (earlier_exactly (list_refusal s room) (file_refusal s) (refusal 21 0 0) (some_number 21 (omega arith))).1 (inl e))
     (via (after_header s (refuse_if (ltb room (length (sections s))) 21) (refusal 21 0 0) (some_number 21 (omega arith)) refl) (second (if_exactly 21 (some_number 21 (omega arith)) (below room (length (sections s)))))))
   where
@@ -303,9 +299,9 @@ value_refused_24 s i r f = (λ e. first ((earlier_exactly (find_refusal s i) _ (
         ))
 
 -- 24
-pub value_24 : (s : Bytes) (i r f : ℕ) → value_of s i r f ≡ G.Refused (refusal 24 0 0) ↔ Nowhere s i r f
+pub value_24 : (s : Bytes) (i r f : ℕ) → value_of s i r f ≡ Err (refusal 24 0 0) ↔ Nowhere s i r f
 unfolding value_of
-value_24 s i r f = via (got_exactly (value_refusal s i r f) (refusal 24 0 0) (some_number 24 (omega arith)) (value_at (section_at s i) r f)) (value_refused_24 s i r f)
+value_24 s i r f = via (answered_exactly (value_refusal s i r f) (refusal 24 0 0) (some_number 24 (omega arith)) (value_at (section_at s i) r f)) (value_refused_24 s i r f)
 
 pub if_number : (b : Bool) (u v : ℕ) → ¬ (v ≡ 0) → ¬ (u ≡ v) → (x : Refusal) → refuse_if b u ≡ x → ¬ (x.number ≡ v)
 unfolding refuse_if
@@ -313,11 +309,11 @@ if_number true u v z w x e h = w (ap (λ (q : Refusal). q.number) e ∙ h)
 if_number false u v z w x e h = z (sym (ap (λ (q : Refusal). q.number) e ∙ h))
 
 -- a section's numbers: its own verdict, with its place
-pub value_verdict : (s : Bytes) (i r f v j n : ℕ) → OneOf section_numbers v → value_of s i r f ≡ G.Refused (refusal v j n) ↔ SectionRefused s i v j n
+pub value_verdict : (s : Bytes) (i r f v j n : ℕ) → OneOf section_numbers v → value_of s i r f ≡ Err (refusal v j n) ↔ SectionRefused s i v j n
 unfolding value_of value_refusal any
 value_verdict s i r f v j n g =
     let z : ¬ (v ≡ 0) = other_number section_numbers v 0 g refl in
-    via (got_exactly (value_refusal s i r f) (refusal v j n) z (value_at (section_at s i) r f))
+    via (answered_exactly (value_refusal s i r f) (refusal v j n) z (value_at (section_at s i) r f))
     (after_verdict s i (refuse_if (outside r (row_at s i).records || outside f (width (table_index (section_at s i).lines))) 24) v j n g
     (if_number (outside r (row_at s i).records || outside f (width (table_index (section_at s i).lines))) 24 v z (λ e. other_number section_numbers v 24 g refl (sym e))))
 
@@ -334,10 +330,10 @@ value_other s i r f e =
     (if_number (outside r (row_at s i).records || outside f (width (table_index (section_at s i).lines))) 24 11 (some_number 11 (omega arith)) (λ (e : 24 ≡ 11). omega arith))).0 e in
     omega (arith, h.0.1, h.1.0)
 
-pub text_11 : (s : Bytes) (i r f room : ℕ) → text_out s i r f room ≡ Ha.Refused (refusal 11 0 0) ↔ (Given s i r f × (¬ IsText s i f))
+pub text_11 : (s : Bytes) (i r f room : ℕ) → text_out s i r f room ≡ Err (refusal 11 0 0) ↔ (Given s i r f × (¬ IsText s i f))
 unfolding text_out put_refusal text_refusal
 text_11 s i r f room =
-    via (handed_exactly (put_refusal (text_refusal s i r f) (own_text s i r f) room) (refusal 11 0 0) (some_number 11 (omega arith)) (copied (own_text s i r f) (text_owner s i r f)))
+    via (answered_exactly (put_refusal (text_refusal s i r f) (own_text s i r f) room) (refusal 11 0 0) (some_number 11 (omega arith)) (copied (own_text s i r f) (text_owner s i r f)))
     (via (outer, inner)
     (value_first, value_back))
   where
@@ -380,24 +376,24 @@ first_alone a b u x z other = (λ e. into b ((earlier_exactly a (refuse_if b u) 
     into false (inr e) = absurd (z (sym (ap (λ (q : Refusal). q.number) e.1)))
 
 pub text_else : (s : Bytes) (i r f room : ℕ) (x : Refusal) → ¬ (x.number ≡ 0) → ¬ (x ≡ refusal 11 0 0) → ¬ (x ≡ refusal 21 0 0) →
-    text_out s i r f room ≡ Ha.Refused x ↔ value_of s i r f ≡ G.Refused x
+    text_out s i r f room ≡ Err x ↔ value_of s i r f ≡ Err x
 unfolding text_out put_refusal text_refusal value_of
 text_else s i r f room x z other full =
-    via (handed_exactly (put_refusal (text_refusal s i r f) (own_text s i r f) room) x z (copied (own_text s i r f) (text_owner s i r f)))
+    via (answered_exactly (put_refusal (text_refusal s i r f) (own_text s i r f) room) x z (copied (own_text s i r f) (text_owner s i r f)))
     (via (first_alone (text_refusal s i r f) (ltb room (length (own_text s i r f)) || ltb limit (length (own_text s i r f))) 21 x z full)
     (via (first_alone (value_refusal s i r f) (not (column_at (table_index (section_at s i).lines) (f - 1)).text) 11 x z other)
-    ((got_exactly (value_refusal s i r f) x z (value_at (section_at s i) r f)).1, (got_exactly (value_refusal s i r f) x z (value_at (section_at s i) r f)).0)))
+    ((answered_exactly (value_refusal s i r f) x z (value_at (section_at s i) r f)).1, (answered_exactly (value_refusal s i r f) x z (value_at (section_at s i) r f)).0)))
 
 -- `table`
 
-pub table_first : (s : Bytes) (i room : ℕ) (x : Refusal) → ¬ (x.number ≡ 0) → ¬ (x ≡ refusal 21 0 0) → table_of s i room ≡ W.Refused x ↔ table_refusal s i ≡ x
+pub table_first : (s : Bytes) (i room : ℕ) (x : Refusal) → ¬ (x.number ≡ 0) → ¬ (x ≡ refusal 21 0 0) → table_of s i room ≡ Err x ↔ table_refusal s i ≡ x
 unfolding table_of cells_refusal
 table_first s i room x z full =
-    via (written_exactly (cells_refusal s i room) x z (length (cells_of (section_at s i))))
+    via (answered_exactly (cells_refusal s i room) x z (length (cells_of (section_at s i))))
     (first_alone (table_refusal s i) (ltb room (length (cells_of (section_at s i)))) 21 x z full)
 
 -- 24: no such section
-pub table_24 : (s : Bytes) (i room : ℕ) → table_of s i room ≡ W.Refused (refusal 24 0 0) ↔ (Open s × Outside i (length (sections s)))
+pub table_24 : (s : Bytes) (i room : ℕ) → table_of s i room ≡ Err (refusal 24 0 0) ↔ (Open s × Outside i (length (sections s)))
 unfolding table_refusal any
 table_24 s i room =
     via (table_first s i room (refusal 24 0 0) (some_number 24 (omega arith)) (λ e. let k : ◌≡◌ {A = ℕ} 24 21 = ap (λ (q : Refusal). q.number) e in omega arith))
@@ -413,7 +409,7 @@ table_24 s i room =
         absurd (other_number section_numbers 24 24 (refused_ranged (latin_of s) (section_at s i).lines h.1.0 24 0 h.1.1) refl refl)
 
 -- a section's numbers: its own verdict, with its place
-pub table_verdict : (s : Bytes) (i room v j n : ℕ) → OneOf section_numbers v → table_of s i room ≡ W.Refused (refusal v j n) ↔ SectionRefused s i v j n
+pub table_verdict : (s : Bytes) (i room v j n : ℕ) → OneOf section_numbers v → table_of s i room ≡ Err (refusal v j n) ↔ SectionRefused s i v j n
 unfolding table_refusal refuse_if any
 table_verdict s i room v j n g =
     via (table_first s i room (refusal v j n) z full)

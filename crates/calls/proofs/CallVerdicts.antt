@@ -1,5 +1,6 @@
 -- The numbers that calls give before they look further: 1 and 2 are the header's for every call, and the later ones the file's where a call
 -- answers for the file. Assumes nothing.
+use Rattle.std.specs.Prelude.{Err}
 use mathlib.Core.Path.{◌≡◌, refl, ap, sym, ◌∙◌}
 use mathlib.Core.Bool.{Bool, true, false, ◌||◌, false≢true}
 use mathlib.Core.Logic.{◌⊎◌, inl, inr, ◌↔◌}
@@ -21,16 +22,10 @@ use Rattle.page.specs.Writing.{put_refusal, put_of, write_form, write_of, strip_
 use Rattle.page.specs.Trailer.{trailer_of}
 use Rattle.page.specs.Refusals.{section_numbers, header_numbers, later_numbers, gives, OneOf, SoundOr}
 use Rattle.page.specs.declared.Refusal.{Refusal}
-use Rattle.page.specs.declared.Checked.TheVariants as C
-use Rattle.page.specs.declared.Headed.TheVariants as H
-use Rattle.page.specs.declared.Listed.TheVariants as L
-use Rattle.page.specs.declared.Got.TheVariants as G
-use Rattle.page.specs.declared.Written.TheVariants as W
-use Rattle.page.specs.declared.Handed.TheVariants as Ha
 use Rattle.laws.proofs.Decides.{below}
 use Rattle.grammar.proofs.Refuses.{refused_ranged}
 use Rattle.calls.proofs.PromisesListing.{file_ranged, header_told}
-use Rattle.calls.proofs.CallAnswers.{some_number, written_exactly, got_exactly, listed_exactly, headed_exactly, checked_exactly}
+use Rattle.calls.proofs.CallAnswers.{some_number, answered_exactly}
 use Rattle.calls.proofs.Turns.{earlier_exactly, via}
 use Rattle.calls.proofs.CallNumbers.{told_other, verdict_exactly, after_header, none_exactly, if_none, if_number, first_alone, table_first, text_else}
 use Rattle.laws.proofs.Numbers.{other_number, apart}
@@ -83,28 +78,28 @@ module _ (s : Bytes) (x : Refusal) (early : OneOf header_numbers x.number) where
   unfolding find_refusal any
   find_header i = further_big (header_refusal s) _ itself (big_if (outside i (length (sections s))) 24 refl)
 
-  pub header_of_header : header_of s ≡ H.Refused x ↔ header_refusal s ≡ x
+  pub header_of_header : header_of s ≡ Err x ↔ header_refusal s ≡ x
   unfolding header_of
-  header_of_header = headed_exactly (header_refusal s) x numbered (header_values (header_lines s))
+  header_of_header = answered_exactly (header_refusal s) x numbered (header_values (header_lines s))
 
-  pub section_header : (i : ℕ) → section_of s i ≡ L.Refused x ↔ header_refusal s ≡ x
+  pub section_header : (i : ℕ) → section_of s i ≡ Err x ↔ header_refusal s ≡ x
   unfolding section_of
-  section_header i = via (listed_exactly (find_refusal s i) x numbered (row_at s i)) (find_header i)
+  section_header i = via (answered_exactly (find_refusal s i) x numbered (row_at s i)) (find_header i)
 
-  pub value_header : (i r f : ℕ) → value_of s i r f ≡ G.Refused x ↔ header_refusal s ≡ x
+  pub value_header : (i r f : ℕ) → value_of s i r f ≡ Err x ↔ header_refusal s ≡ x
   unfolding value_of value_refusal any
   value_header i r f =
-      via (got_exactly (value_refusal s i r f) x numbered (value_at (section_at s i) r f))
+      via (answered_exactly (value_refusal s i r f) x numbered (value_at (section_at s i) r f))
       (further_big (find_refusal s i) _ (find_header i)
       (big_earlier (verdict_of i (row_at s i)) _ (big_verdict i) (big_if (outside r (row_at s i).records || outside f (width (table_index (section_at s i).lines))) 24 refl)))
 
-  pub text_header : (i r f room : ℕ) → text_out s i r f room ≡ Ha.Refused x ↔ header_refusal s ≡ x
+  pub text_header : (i r f room : ℕ) → text_out s i r f room ≡ Err x ↔ header_refusal s ≡ x
   unfolding any
   text_header i r f room =
       via (text_else s i r f room x numbered (λ e. other 11 refl (ap (λ (q : Refusal). q.number) e)) (λ e. other 21 refl (ap (λ (q : Refusal). q.number) e)))
       (value_header i r f)
 
-  pub table_header : (i room : ℕ) → table_of s i room ≡ W.Refused x ↔ header_refusal s ≡ x
+  pub table_header : (i room : ℕ) → table_of s i room ≡ Err x ↔ header_refusal s ≡ x
   unfolding table_refusal any
   table_header i room =
       via (table_first s i room x numbered (λ e. other 21 refl (ap (λ (q : Refusal). q.number) e)))
@@ -120,10 +115,10 @@ module _ (s : Bytes) (x : Refusal) (early : OneOf header_numbers x.number) where
       by (inl h) e = h
       by (inr h) e = absurd (told_other later_numbers (file_ranged s h.0) numbered (apart header_numbers later_numbers x.number refl early) e)
 
-  pub list_header : (room : ℕ) → list_of s room ≡ C.Refused x ↔ header_refusal s ≡ x
+  pub list_header : (room : ℕ) → list_of s room ≡ Err x ↔ header_refusal s ≡ x
   unfolding list_of list_refusal any
   list_header room =
-      via (checked_exactly (earlier (list_refusal s room) (file_refusal s)) x numbered)
+      via (answered_exactly (earlier (list_refusal s room) (file_refusal s)) x numbered tt)
       (λ e. by ((earlier_exactly (list_refusal s room) (file_refusal s) x numbered).0 e), λ e. (earlier_exactly (list_refusal s room) (file_refusal s) x numbered).1 (inl (begun.1 e)))
     where
       begun : earlier (header_refusal s) (refuse_if (ltb room (length (sections s))) 21) ≡ x ↔ header_refusal s ≡ x
@@ -134,10 +129,10 @@ module _ (s : Bytes) (x : Refusal) (early : OneOf header_numbers x.number) where
       by (inr e) = file_header.0 e.1
 
 -- `list`: what the file gives after 1 and 2 is the file's, if the rows suffice
-pub list_verdict : (s : Bytes) (room : ℕ) (x : Refusal) → OneOf later_numbers x.number → list_of s room ≡ C.Refused x ↔ ((length (sections s) ≤ room) × (file_refusal s ≡ x))
+pub list_verdict : (s : Bytes) (room : ℕ) (x : Refusal) → OneOf later_numbers x.number → list_of s room ≡ Err x ↔ ((length (sections s) ≤ room) × (file_refusal s ≡ x))
 unfolding list_of list_refusal any
 list_verdict s room x g =
-    via (checked_exactly (earlier (list_refusal s room) (file_refusal s)) x z)
+    via (answered_exactly (earlier (list_refusal s room) (file_refusal s)) x z tt)
     (λ e. into ((earlier_exactly (list_refusal s room) (file_refusal s) x z).0 e), λ h. (earlier_exactly (list_refusal s room) (file_refusal s) x z).1 (inr ((none_exactly (header_refusal s) _).1 (opens h.1, enough h.0), h.1)))
   where
     z : ¬ (x.number ≡ 0)
@@ -174,14 +169,14 @@ list_verdict s room x g =
 
 -- `write` and `strip`: "Only a file with verdict 0 is written; else its verdict is given."
 
-pub write_verdict : (s : Bytes) (room : ℕ) (x : Refusal) → ¬ (x.number ≡ 0) → ¬ (x ≡ refusal 21 0 0) → write_of s room ≡ W.Refused x ↔ file_refusal s ≡ x
+pub write_verdict : (s : Bytes) (room : ℕ) (x : Refusal) → ¬ (x.number ≡ 0) → ¬ (x ≡ refusal 21 0 0) → write_of s room ≡ Err x ↔ file_refusal s ≡ x
 unfolding write_of put_of put_refusal
 write_verdict s room x z full =
-    via (written_exactly (put_refusal (file_refusal s) (write_form s) room) x z (length (write_form s)))
+    via (answered_exactly (put_refusal (file_refusal s) (write_form s) room) x z (length (write_form s)))
     (first_alone (file_refusal s) (ltb room (length (write_form s)) || ltb limit (length (write_form s))) 21 x z full)
 
-pub strip_verdict : (s : Bytes) (room : ℕ) (x : Refusal) → ¬ (x.number ≡ 0) → ¬ (x ≡ refusal 21 0 0) → strip_of s room ≡ W.Refused x ↔ file_refusal s ≡ x
+pub strip_verdict : (s : Bytes) (room : ℕ) (x : Refusal) → ¬ (x.number ≡ 0) → ¬ (x ≡ refusal 21 0 0) → strip_of s room ≡ Err x ↔ file_refusal s ≡ x
 unfolding strip_of put_of put_refusal
 strip_verdict s room x z full =
-    via (written_exactly (put_refusal (file_refusal s) (strip_form s) room) x z (length (strip_form s)))
+    via (answered_exactly (put_refusal (file_refusal s) (strip_form s) room) x z (length (strip_form s)))
     (first_alone (file_refusal s) (ltb room (length (strip_form s)) || ltb limit (length (strip_form s))) 21 x z full)

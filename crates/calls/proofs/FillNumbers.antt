@@ -1,5 +1,6 @@
 -- Each number of a fill, exactly: "Order: verdict, 24, 23, 22, text empty 11, text byte not allowed in a `rec` 4, over 40 bytes 13, 21."
 -- Assumes nothing.
+use Rattle.std.specs.Prelude.{Err}
 use mathlib.Core.Path.{◌≡◌, refl, ap, sym, ◌∙◌}
 use mathlib.Core.Bool.{Bool, true, false, not, ◌||◌, false≢true}
 use mathlib.Core.List.{List, [], ◌∷◌}
@@ -24,13 +25,12 @@ use Rattle.page.specs.Rules.{none_left, one_more}
 use Rattle.page.specs.Refusals.{section_numbers, file_numbers, gives, OneOf}
 use Rattle.page.specs.declared.Refusal.{Refusal}
 use Rattle.page.specs.declared.Owner.{Owner}
-use Rattle.page.specs.declared.Written.TheVariants as W
 use Rattle.calls.specs.Turns.{Question, ask, first_refusal, Turn, Outside, fill_questions}
 use Rattle.laws.proofs.Decides.{Decides, fails, one_of, when, equal, below}
 use Rattle.laws.proofs.Tests.{is_d}
 use Rattle.calls.proofs.PromisesRoom.{TooLong}
 use Rattle.calls.proofs.Turns.{Numbered, earlier_exactly, after_exactly, turn_now, turn_next, turn_past, turned, via, second, outside_d}
-use Rattle.calls.proofs.CallAnswers.{some_number, written_exactly}
+use Rattle.calls.proofs.CallAnswers.{some_number, answered_exactly}
 use Rattle.calls.proofs.CallNumbers.{file_other}
 
 -- asked in one row
@@ -100,18 +100,18 @@ module _ (s : Bytes) (i r f : ℕ) (sent : Bytes) (room : ℕ) where
 
   -- the file's verdict, if it has one; else the first of the seven that refuses
   pub fill_exactly : (x : Refusal) → ¬ (x.number ≡ 0) →
-      fill_of s i r f sent room ≡ W.Refused x ↔ ((file_refusal s ≡ x) ⊎ (((file_refusal s).number ≡ 0) × (first_refusal (fill_questions s i r f t room) ≡ x)))
+      fill_of s i r f sent room ≡ Err x ↔ ((file_refusal s ≡ x) ⊎ (((file_refusal s).number ≡ 0) × (first_refusal (fill_questions s i r f t room) ≡ x)))
   unfolding fill_of put_of
   fill_exactly x z =
-      via (written_exactly (put_refusal (fill_refusal s i r f t) (fill_form s i r f t) room) x z (length (fill_form s i r f t)))
+      via (answered_exactly (put_refusal (fill_refusal s i r f t) (fill_form s i r f t) room) x z (length (fill_form s i r f t)))
       (via (λ e. sym in_order ∙ e, λ e. in_order ∙ e) (earlier_exactly (file_refusal s) (first_refusal (fill_questions s i r f t room)) x z))
 
   -- one of the seven, by its turn
   pub fill_turn : (v : ℕ) → OneOf section_numbers v ⊎ (gives file_numbers v ≡ false) → ¬ (v ≡ 0) →
-      fill_of s i r f sent room ≡ W.Refused (refusal v 0 0) ↔ (((file_refusal s).number ≡ 0) × Turn v (fill_questions s i r f t room))
+      fill_of s i r f sent room ≡ Err (refusal v 0 0) ↔ (((file_refusal s).number ≡ 0) × Turn v (fill_questions s i r f t room))
   unfolding fill_of put_of
   fill_turn v w z =
-      via (written_exactly (put_refusal (fill_refusal s i r f t) (fill_form s i r f t) room) (refusal v 0 0) z (length (fill_form s i r f t)))
+      via (answered_exactly (put_refusal (fill_refusal s i r f t) (fill_form s i r f t) room) (refusal v 0 0) z (length (fill_form s i r f t)))
       (via (λ e. sym in_order ∙ e, λ e. in_order ∙ e) (after_exactly (file_refusal s) v z (file_other s v w z) numbers))
 
   place_d : Decides (NoPlace s i r f) (fill_place s i r f)
@@ -138,45 +138,45 @@ module _ (s : Bytes) (i r f : ℕ) (sent : Bytes) (room : ℕ) where
   of_field a b c q = turn_next place_d a (turn_past (is_d (column_at (table_index (section_at s i).lines) (f - 1)).fillable) b (turn_past empty_d c q))
 
   -- 24: "no such section, record or field"
-  pub fill_24 : fill_of s i r f sent room ≡ W.Refused (refusal 24 0 0) ↔ (((file_refusal s).number ≡ 0) × NoPlace s i r f)
+  pub fill_24 : fill_of s i r f sent room ≡ Err (refusal 24 0 0) ↔ (((file_refusal s).number ≡ 0) × NoPlace s i r f)
   unfolding fill_questions any
   fill_24 = via (fill_turn 24 (inr refl) (some_number 24 (omega arith))) (second (turn_now place_d refl))
 
   -- 23: "field may not be filled"
-  pub fill_23 : fill_of s i r f sent room ≡ W.Refused (refusal 23 0 0) ↔ (((file_refusal s).number ≡ 0) × ((¬ NoPlace s i r f) × (¬ MayFill s i f)))
+  pub fill_23 : fill_of s i r f sent room ≡ Err (refusal 23 0 0) ↔ (((file_refusal s).number ≡ 0) × ((¬ NoPlace s i r f) × (¬ MayFill s i f)))
   unfolding fill_questions any
   fill_23 =
       via (fill_turn 23 (inr refl) (some_number 23 (omega arith)))
       (second (turn_next place_d refl (turn_now (turned (is_d (column_at (table_index (section_at s i).lines) (f - 1)).fillable)) refl)))
 
   -- 22: "field to fill is not empty"
-  pub fill_22 : fill_of s i r f sent room ≡ W.Refused (refusal 22 0 0) ↔ (((file_refusal s).number ≡ 0) × ((¬ NoPlace s i r f) × (MayFill s i f × (¬ IsEmpty s i r f))))
+  pub fill_22 : fill_of s i r f sent room ≡ Err (refusal 22 0 0) ↔ (((file_refusal s).number ≡ 0) × ((¬ NoPlace s i r f) × (MayFill s i f × (¬ IsEmpty s i r f))))
   unfolding fill_questions any
   fill_22 =
       via (fill_turn 22 (inr refl) (some_number 22 (omega arith)))
       (second (turn_next place_d refl (turn_past (is_d (column_at (table_index (section_at s i).lines) (f - 1)).fillable) refl (turn_now (turned empty_d) refl))))
 
   -- 11: "text empty"
-  pub fill_11 : fill_of s i r f sent room ≡ W.Refused (refusal 11 0 0) ↔ (((file_refusal s).number ≡ 0) × Blank s i r f (t ≡ []))
+  pub fill_11 : fill_of s i r f sent room ≡ Err (refusal 11 0 0) ↔ (((file_refusal s).number ≡ 0) × Blank s i r f (t ≡ []))
   unfolding fill_questions any
   fill_11 = via (fill_turn 11 (inl refl) (some_number 11 (omega arith))) (second (of_field refl refl refl (turn_now (nothing_d t) refl)))
 
   -- 4: "text byte not allowed in a `rec`"
-  pub fill_4 : fill_of s i r f sent room ≡ W.Refused (refusal 4 0 0) ↔ (((file_refusal s).number ≡ 0) × Blank s i r f ((¬ (t ≡ [])) × (¬ IsAllowed s t)))
+  pub fill_4 : fill_of s i r f sent room ≡ Err (refusal 4 0 0) ↔ (((file_refusal s).number ≡ 0) × Blank s i r f ((¬ (t ≡ [])) × (¬ IsAllowed s t)))
   unfolding fill_questions any
   fill_4 =
       via (fill_turn 4 (inl refl) (some_number 4 (omega arith)))
       (second (of_field refl refl refl (turn_next (nothing_d t) refl (turn_now (turned (is_d (all (allowed (latin_of s)) t))) refl))))
 
   -- 13: "over 40 bytes"
-  pub fill_13 : fill_of s i r f sent room ≡ W.Refused (refusal 13 0 0) ↔ (((file_refusal s).number ≡ 0) × Blank s i r f ((¬ (t ≡ [])) × (IsAllowed s t × (40 < length t))))
+  pub fill_13 : fill_of s i r f sent room ≡ Err (refusal 13 0 0) ↔ (((file_refusal s).number ≡ 0) × Blank s i r f ((¬ (t ≡ [])) × (IsAllowed s t × (40 < length t))))
   unfolding fill_questions any
   fill_13 =
       via (fill_turn 13 (inl refl) (some_number 13 (omega arith)))
       (second (of_field refl refl refl (turn_next (nothing_d t) refl (turn_past (is_d (all (allowed (latin_of s)) t)) refl (turn_now (below 40 (length t)) refl)))))
 
   -- 21: "the form is longer than the lent output or than 16,777,216 bytes"
-  pub fill_21 : fill_of s i r f sent room ≡ W.Refused (refusal 21 0 0) ↔
+  pub fill_21 : fill_of s i r f sent room ≡ Err (refusal 21 0 0) ↔
       (((file_refusal s).number ≡ 0) × Blank s i r f ((¬ (t ≡ [])) × (IsAllowed s t × ((¬ (40 < length t)) × TooLong (fill_form s i r f t) room))))
   unfolding fill_questions any
   fill_21 =

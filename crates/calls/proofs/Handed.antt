@@ -1,9 +1,9 @@
 -- The value that is handed out is the file's: of a sound section, the number that its record holds there, or that it is missing, or the text
 -- with its owner. Assumes nothing.
+use Rattle.std.specs.Prelude.{Err, Ok, Some}
 use mathlib.Core.Path.{◌≡◌, refl, ap, sym, ◌∙◌}
 use mathlib.Core.Bool.{Bool, true, false, not, false≢true}
 use mathlib.Core.List.{List, [], ◌∷◌, ◌++◌, map, append_assoc}
-use mathlib.Core.Option.{some}
 use Prim.Native.Nat.{ℕ, zero, suc, ◌+◌, ◌-◌, ◌<◌, ◌≤◌}
 use native.Mathlib.Omega.{arith}
 use lib.Dec.{eqb, ltb}
@@ -23,7 +23,7 @@ use Rattle.page.specs.Places.{Standing, field_span, stands, record_at, this_or}
 use Rattle.page.specs.Model.{Content, content_of, model_of, datum_at}
 use Rattle.page.specs.File.{row_given, row_of}
 use Rattle.page.specs.Form.{doubled}
-use Rattle.page.specs.Answers.{refuse_if, got, written}
+use Rattle.page.specs.Answers.{refuse_if, answered}
 use Rattle.page.specs.Reading.{no_section, section_at, row_at, later_field, field_at, valued, value_in, record_of, value_refusal, value_at, value_of}
 use Rattle.page.specs.Writing.{put_refusal, put_of}
 use Rattle.page.specs.Handing.{text_refusal, place_of, own_text, text_owner, copied, text_out, text_after}
@@ -39,10 +39,7 @@ use Rattle.page.specs.declared.Span.{Span}
 use Rattle.page.specs.declared.Text.{Text}
 use Rattle.page.specs.declared.Value.{Value}
 use Rattle.page.specs.declared.Value.TheVariants as Va
-use Rattle.page.specs.declared.Got.TheVariants as G
-use Rattle.page.specs.declared.Written.TheVariants as W
 use Rattle.page.specs.declared.Copied.{Copied}
-use Rattle.page.specs.declared.Handed.TheVariants as Ha
 use Rattle.page.proofs.LineLaws.{joined_lines, joined_append}
 use Rattle.page.proofs.ContentLaws.{rest_none}
 use Rattle.page.proofs.CutLaws.{section_stands}
@@ -116,7 +113,7 @@ section_lies s i r p h =
     rw (← e, ← t.place) at l
 
 -- a text's own bytes, a quote doubled, stand in its span
-span_bytes : (s : Bytes) (x : Standing) → Lies s x → (k : ℕ) → k < length (fields x.rest) → (u : Bytes) → record_text (get_or (fields x.rest) k []) ≡ some u →
+span_bytes : (s : Bytes) (x : Standing) → Lies s x → (k : ℕ) → k < length (fields x.rest) → (u : Bytes) → record_text (get_or (fields x.rest) k []) ≡ Some u →
     part (moved x.at (moved (field_span x.rest k).from (own_span (get_or (fields x.rest) k [])))) s ≡ doubled u
 span_bytes s x lies k h u e =
     let i = field_span_in x.rest k h in
@@ -188,7 +185,7 @@ missing_read : (c : Column) (f : Bytes) → c.text ≡ false → c.optional ≡ 
 unfolding field_of
 missing_read c f t o e = rw (t, o, e)
 
-text_read : (c : Column) (f u : Bytes) → c.text ≡ true → record_text f ≡ some u → length u ≤ c.hi → field_of c f ≡ F.Text (own_span f)
+text_read : (c : Column) (f u : Bytes) → c.text ≡ true → record_text f ≡ Some u → length u ≤ c.hi → field_of c f ≡ F.Text (own_span f)
 unfolding field_of text_field
 text_read c f u t e h = rw (t, worded_some f u e, le-leb (length u) c.hi h)
 
@@ -286,7 +283,7 @@ module _ (s : Bytes) (i r f : ℕ) (g : Given s i r f) where
         owner = text_owner s i r f;
       }
 
-  text_span : (u : Bytes) → record_text the_field ≡ some u → take (the_text.to - the_text.from) (drop the_text.from s) ≡ doubled u
+  text_span : (u : Bytes) → record_text the_field ≡ Some u → take (the_text.to - the_text.from) (drop the_text.from s) ≡ doubled u
   text_span u e =
       span_bytes s (record_of here r) (section_lies s i r g.section.0 g.section.1) (place_of s i f) as_many u e
 
@@ -330,20 +327,20 @@ unfolding refuse_if
 if_text true e = refl
 if_text false e = absurd (let z : ⊥ = omega arith in z)
 
-accepted_put : (x : Refusal) (form : Bytes) (room n : ℕ) → put_of x form room ≡ W.Length n → x.number ≡ 0
-unfolding put_of put_refusal written
+accepted_put : (x : Refusal) (form : Bytes) (room n : ℕ) → put_of x form room ≡ Ok n → x.number ≡ 0
+unfolding put_of put_refusal answered
 accepted_put x form room n e = by (eqb (put_refusal x form room).number 0) refl e
   where
-    by : (b : Bool) → eqb (put_refusal x form room).number 0 ≡ b → pick b (W.Length (length form)) (W.Refused (put_refusal x form room)) ≡ W.Length n → x.number ≡ 0
+    by : (b : Bool) → eqb (put_refusal x form room).number 0 ≡ b → pick b (Ok (length form)) (Err (put_refusal x form room)) ≡ Ok n → x.number ≡ 0
     by true h e = (earlier_none x _ (eqb-true (put_refusal x form room).number 0 h)).0
     by false h e = absurd (false≢true (cc))
 
 -- `value`: what is handed out stands for the model's value
-pub value_handed : (s : Bytes) (i r f : ℕ) (v : Value) → value_of s i r f ≡ G.Is v → StandsFor s v (datum_at i r f (model_of s))
-unfolding value_of got
+pub value_handed : (s : Bytes) (i r f : ℕ) (v : Value) → value_of s i r f ≡ Ok v → StandsFor s v (datum_at i r f (model_of s))
+unfolding value_of answered
 value_handed s i r f v e = by (eqb (value_refusal s i r f).number 0) refl e
   where
-    by : (b : Bool) → eqb (value_refusal s i r f).number 0 ≡ b → pick b (G.Is (value_at (section_at s i) r f)) (G.Refused (value_refusal s i r f)) ≡ G.Is v → StandsFor s v (datum_at i r f (model_of s))
+    by : (b : Bool) → eqb (value_refusal s i r f).number 0 ≡ b → pick b (Ok (value_at (section_at s i) r f)) (Err (value_refusal s i r f)) ≡ Ok v → StandsFor s v (datum_at i r f (model_of s))
     by true h e =
         let z : value_at (section_at s i) r f ≡ v = cc in
         rw z at (value_says s i r f ((value_given s i r f).0 (eqb-true (value_refusal s i r f).number 0 h)))
@@ -351,7 +348,7 @@ value_handed s i r f v e = by (eqb (value_refusal s i r f).number 0) refl e
 
 -- `text`
 
-module _ (s : Bytes) (i r f room : ℕ) (x : Copied) (e : text_out s i r f room ≡ Ha.Is x) where
+module _ (s : Bytes) (i r f room : ℕ) (x : Copied) (e : text_out s i r f room ≡ Ok x) where
   a_text_there : ((value_refusal s i r f).number ≡ 0) × IsText s i f
   unfolding text_refusal
   a_text_there =
@@ -377,18 +374,18 @@ module _ (s : Bytes) (i r f room : ℕ) (x : Copied) (e : text_out s i r f room 
   text_marked = sym owner_told ∙ owner_is s i r f ((value_given s i r f).0 a_text_there.0)
 
   -- the value that `value` hands out has these bytes in its span, and this owner
-  pub text_value : (v : Value) → value_of s i r f ≡ G.Is v → StandsFor s v (words x.owner (own_text s i r f))
+  pub text_value : (v : Value) → value_of s i r f ≡ Ok v → StandsFor s v (words x.owner (own_text s i r f))
   text_value v h = rw text_handed at (value_handed s i r f v h)
 
   -- and the owner is the one that `value` tells
-  pub text_whose : (t : Text) × ((value_of s i r f ≡ G.Is (Va.Words t)) × (t.owner ≡ x.owner))
-  unfolding value_of got
+  pub text_whose : (t : Text) × ((value_of s i r f ≡ Ok (Va.Words t)) × (t.owner ≡ x.owner))
+  unfolding value_of answered
   text_whose =
       let z : eqb (value_refusal s i r f).number 0 ≡ true = eq-eqb (value_refusal s i r f).number 0 a_text_there.0 in
       (the_text s i r f ((value_given s i r f).0 a_text_there.0), (rw (z, says.value), owner_told))
 
 -- the bytes that stand in the output, with the owner that is told, are the model's text
-pub text_output : (s : Bytes) (i r f : ℕ) (out : Bytes) (x : Copied) → text_out s i r f (length out) ≡ Ha.Is x →
+pub text_output : (s : Bytes) (i r f : ℕ) (out : Bytes) (x : Copied) → text_out s i r f (length out) ≡ Ok x →
     datum_at i r f (model_of s) ≡ words x.owner (take x.length (text_after s i r f out))
 unfolding text_after
 text_output s i r f out x e =

@@ -1,4 +1,5 @@
 -- All values of a table, handed out at once: those that `value` hands out one by one, record by record and column by column. Assumes nothing.
+use Rattle.std.specs.Prelude.{Ok}
 use mathlib.Core.Path.{◌≡◌, refl, ap, sym, ◌∙◌}
 use mathlib.Core.Bool.{Bool, true, false}
 use mathlib.Core.List.{List, [], ◌∷◌, ◌++◌, append_assoc}
@@ -20,7 +21,6 @@ use Rattle.page.specs.Reading.{section_at, row_at, find_refusal, verdict_of, rec
 use Rattle.page.specs.Handing.{cell_of, record_cells, cells_in, cells_of, table_refusal, table_of, cells_after}
 use Rattle.page.specs.declared.Value.{Value}
 use Rattle.page.specs.declared.Value.TheVariants as Va
-use Rattle.page.specs.declared.Written.TheVariants as W
 use Rattle.calls.specs.Handed.{row_cells, table_cells, CellAt}
 use Rattle.grammar.proofs.Own.{row_count}
 use Rattle.calls.proofs.CallNumbers.{none_exactly, verdict_open, Given}
@@ -159,7 +159,7 @@ pub record TableHanded (s : Bytes) (i : ℕ) (cells : List ℕ) (n : ℕ) : Type
   pub count : n ≡ (row_at s i).records * (width (table_index (section_at s i).lines) * 3)
   pub holds : cells_after s i cells ≡ table_cells (section_at s i) 1 (row_at s i).records ++ drop n cells
 
-pub table_handed : (s : Bytes) (i : ℕ) (cells : List ℕ) (n : ℕ) → table_of s i (length cells) ≡ W.Length n → TableHanded s i cells n
+pub table_handed : (s : Bytes) (i : ℕ) (cells : List ℕ) (n : ℕ) → table_of s i (length cells) ≡ Ok n → TableHanded s i cells n
 unfolding table_refusal
 table_handed s i cells n e =
     let d = table_done s i cells n e in

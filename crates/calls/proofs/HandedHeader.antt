@@ -1,9 +1,9 @@
 -- The header that is handed out is the file's: its date, time and character set, and at each span the bytes of its text. Assumes nothing.
+use Rattle.std.specs.Prelude.{Err, None, Ok, Some, Option}
 use mathlib.Core.Path.{◌≡◌, refl, ap}
 use mathlib.Core.Bool.{Bool, true, false, false≢true}
 use mathlib.Core.List.{List, [], ◌∷◌}
 use mathlib.Core.Logic.{◌⊎◌, inl, inr}
-use mathlib.Core.Option.{Option, none, some}
 use Prim.Native.Nat.{ℕ, ◌<◌}
 use native.Mathlib.Omega.{arith}
 use lib.Dec.{eqb}
@@ -20,13 +20,11 @@ use Rattle.page.specs.Places.{line_of}
 use Rattle.page.specs.Model.{model_of}
 use Rattle.page.specs.Form.{doubled}
 use Rattle.page.specs.Rules.{times, SoundHeader}
-use Rattle.page.specs.Answers.{refuse_if, headed}
+use Rattle.page.specs.Answers.{refuse_if, answered}
 use Rattle.page.specs.File.{too_long, found, header_refusal}
 use Rattle.page.specs.Reading.{header_of}
 use Rattle.page.specs.declared.Finding.{Finding}
 use Rattle.page.specs.declared.Header.{Header}
-use Rattle.page.specs.declared.Headed.TheVariants as H
-use Rattle.page.specs.declared.Stated.TheVariants as St
 use Rattle.page.proofs.TestLaws.{and_right}
 use Rattle.verdicts.proofs.Headers.{header_exactly, header_settled}
 use Rattle.laws.proofs.Earlier.{earlier_none}
@@ -41,9 +39,9 @@ unfolding text_of
 some_field [] e = absurd (false≢true e)
 some_field (f ∷ fs) e = omega arith
 
-some_text : (o : Option Bytes) → is_text o ≡ true → o ≡ some (own_bytes o)
-some_text none e = absurd (false≢true e)
-some_text (some u) e = refl
+some_text : (o : Option Bytes) → is_text o ≡ true → o ≡ Some (own_bytes o)
+some_text None e = absurd (false≢true e)
+some_text (Some u) e = refl
 
 module _ (s : Bytes) (h : SoundHeader (header_lines s)) where
   abbrev ls : List Bytes
@@ -70,7 +68,7 @@ module _ (s : Bytes) (h : SoundHeader (header_lines s)) where
     unfolding span_if text_if
     stated_placed = by (stands_in k ls) refl
       where
-        by : (q : Bool) → stands_in k ls ≡ q → StatedFor s (pick q (St.At (text_span k ls)) St.Absent) (pick q (some (text_in k ls)) none)
+        by : (q : Bool) → stands_in k ls ≡ q → StatedFor s (pick q (Some (text_span k ls)) None) (pick q (Some (text_in k ls)) None)
         by true e = stated (text_placed k (text_held e))
         by false e = absent
 
@@ -101,11 +99,11 @@ header_open s h = by (header_settled (header_lines s))
     by (inr e) = absurd (let z : ⊥ = omega (arith, no_verdict, ap (λ (f : Finding). f.verdict) e.1) in z)
 
 -- `header`: "Header values are the texts, date, time and character set"; what is handed out stands for the model's
-pub header_handed : (s : Bytes) (x : Header) → header_of s ≡ H.Is x → HeaderStandsFor s x (model_of s).head
-unfolding header_of headed model_of
+pub header_handed : (s : Bytes) (x : Header) → header_of s ≡ Ok x → HeaderStandsFor s x (model_of s).head
+unfolding header_of answered model_of
 header_handed s x e = by (eqb (header_refusal s).number 0) refl e
   where
-    by : (b : Bool) → eqb (header_refusal s).number 0 ≡ b → pick b (H.Is (header_values (header_lines s))) (H.Refused (header_refusal s)) ≡ H.Is x →
+    by : (b : Bool) → eqb (header_refusal s).number 0 ≡ b → pick b (Ok (header_values (header_lines s))) (Err (header_refusal s)) ≡ Ok x →
         HeaderStandsFor s x (head_values (header_lines s))
     by true h e =
         let z : header_values (header_lines s) ≡ x = cc in

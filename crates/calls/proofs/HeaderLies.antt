@@ -1,8 +1,8 @@
 -- The header's lines stand in the file at their places, and their texts between their quotes. Assumes nothing.
+use Rattle.std.specs.Prelude.{Some}
 use mathlib.Core.Path.{◌≡◌, refl, ap, sym, ◌∙◌}
 use mathlib.Core.Bool.{Bool, true, false}
 use mathlib.Core.List.{List, [], ◌∷◌, ◌++◌, append_assoc}
-use mathlib.Core.Option.{some}
 use Prim.Native.Nat.{ℕ, ◌+◌, ◌-◌, ◌<◌, ◌≤◌}
 use native.Mathlib.Omega.{arith}
 use lib.Dec.{eqb}
@@ -58,7 +58,7 @@ field_part s x lies k h sp o w =
     sym a ∙ (ap (part q) lies ∙ (sym b ∙ ap (part sp) p))
 
 -- a text as it is written, between its quotes
-pub between_quotes : (s : Bytes) (x : Standing) → Lies s x → (k : ℕ) → k < length (fields x.rest) → (u : Bytes) → text_of (get_or (fields x.rest) k []) ≡ some u →
+pub between_quotes : (s : Bytes) (x : Standing) → Lies s x → (k : ℕ) → k < length (fields x.rest) → (u : Bytes) → text_of (get_or (fields x.rest) k []) ≡ Some u →
     part (moved x.at (unquoted (field_span x.rest k))) s ≡ doubled u
 between_quotes s x lies k h u e =
     let f : Bytes = get_or (fields x.rest) k [] in

@@ -14,7 +14,7 @@ use Rattle.page.specs.Header.{head_of}
 use Rattle.page.specs.Head.{latin_of}
 use Rattle.page.specs.Section.{outcome}
 use Rattle.page.specs.Trailer.{eof_ok, all_blank, trailer_finding, trailer_of}
-use Rattle.page.specs.Answers.{refusal, earlier, refuse_if, checked, paper_checked}
+use Rattle.page.specs.Answers.{refusal, earlier, refuse_if, answered, paper_of}
 use Rattle.page.specs.File.{too_long, found, header_refusal, row_given, row_of, rows_of, first_unsound, any, first_again, by_primary, by_second, Filed, repeats, lost, first_record, filed_of, record_refusal, section_refusal, file_refusal}
 use Rattle.page.specs.Reading.{list_refusal, list_of, rows_after}
 use Rattle.page.specs.Refusals.{section_numbers, header_numbers, later_numbers, file_numbers, OneOf, SoundOr}
@@ -138,17 +138,17 @@ list_told s room = earlier_ranged row_less (header_refusal s) (refuse_if (ltb ro
     second false = inl refl
 
 -- the paper's number of the answer
-answer_number : (r : Refusal) → (paper_checked (checked r)).number ≡ r.number
-unfolding paper_checked checked
+answer_number : (r : Refusal) → (paper_of (answered r (tt {0}))).number ≡ r.number
+unfolding paper_of answered
 answer_number r = by (eqb r.number 0) refl
   where
-    by : (b : Bool) → eqb r.number 0 ≡ b → (paper_checked (checked r)).number ≡ r.number
+    by : (b : Bool) → eqb r.number 0 ≡ b → (paper_of (answered r (tt {0}))).number ≡ r.number
     by true e = rw e (sym (eqb-true r.number 0 e))
     by false e = rw e
 
 module _ (s : Bytes) (rows : List Row) where
   abbrev the_answer : ℕ
-  the_answer = (paper_checked (list_of s (length rows))).number
+  the_answer = (paper_of (list_of s (length rows))).number
 
   number_is : the_answer ≡ (earlier (list_refusal s (length rows)) (file_refusal s)).number
   unfolding list_of

@@ -14,7 +14,7 @@ use Rattle.page.specs.Head.{latin_of}
 use Rattle.page.specs.Tables.{column_at}
 use Rattle.page.specs.Records.{table_index}
 use Rattle.page.specs.Model.{model_of, datum_at}
-use Rattle.page.specs.Answers.{earlier, refuse_if, written, paper_written}
+use Rattle.page.specs.Answers.{earlier, refuse_if, answered, paper_of}
 use Rattle.page.specs.File.{limit, any, file_refusal}
 use Rattle.page.specs.Reading.{section_at}
 use Rattle.page.specs.Writing.{put_refusal, put_of, write_form, write_of, strip_form, strip_of, empty_datum, fill_place, fill_refusal, fill_form, fill_of}
@@ -27,11 +27,11 @@ use Rattle.calls.proofs.PromisesListing.{file_told}
 abbrev pub TooLong : Bytes → ℕ → Type 0
 TooLong form room = (room < length form) ⊎ (limit < length form)
 
-pub answer_number : (r : Refusal) (n : ℕ) → (paper_written (written r n)).number ≡ r.number
-unfolding paper_written written
+pub answer_number : (r : Refusal) (n : ℕ) → (paper_of (answered r n)).number ≡ r.number
+unfolding paper_of answered
 answer_number r n = by (eqb r.number 0) refl
   where
-    by : (b : Bool) → eqb r.number 0 ≡ b → (paper_written (written r n)).number ≡ r.number
+    by : (b : Bool) → eqb r.number 0 ≡ b → (paper_of (answered r n)).number ≡ r.number
     by true e = rw e (sym (eqb-true r.number 0 e))
     by false e = rw e
 
@@ -52,7 +52,7 @@ longer form room = (by (ltb room (length form)) refl, back)
 
 -- for any form, where what is asked before the room does not give 21
 module _ (r : Refusal) (never : ¬ (r.number ≡ 21)) (form : Bytes) (room : ℕ) where
-  put_number : (paper_written (put_of r form room)).number ≡ pick (eqb r.number 0) (pick (ltb room (length form) || ltb limit (length form)) 21 0) r.number
+  put_number : (paper_of (put_of r form room)).number ≡ pick (eqb r.number 0) (pick (ltb room (length form) || ltb limit (length form)) 21 0) r.number
   unfolding put_of put_refusal earlier refuse_if
   put_number = answer_number (put_refusal r form room) (length form) ∙ by (eqb r.number 0) (ltb room (length form) || ltb limit (length form))
     where
@@ -61,7 +61,7 @@ module _ (r : Refusal) (never : ¬ (r.number ≡ 21)) (form : Bytes) (room : ℕ
       by true false = refl
       by false b = refl
 
-  pub room_exactly : (paper_written (put_of r form room)).number ≡ 21 ↔ ((r.number ≡ 0) × TooLong form room)
+  pub room_exactly : (paper_of (put_of r form room)).number ≡ 21 ↔ ((r.number ≡ 0) × TooLong form room)
   room_exactly = (λ e. into (eqb r.number 0) refl (ltb room (length form) || ltb limit (length form)) refl (sym put_number ∙ e), back)
     where
       into : (a : Bool) → eqb r.number 0 ≡ a → (b : Bool) → (ltb room (length form) || ltb limit (length form)) ≡ b →
@@ -70,7 +70,7 @@ module _ (r : Refusal) (never : ¬ (r.number ≡ 21)) (form : Bytes) (room : ℕ
       into true x false y e = let z : ◌≡◌ {A = ℕ} 0 21 = rw (x, y) at e in absurd (let w : ⊥ = omega arith in w)
       into false x b y e = let z : r.number ≡ 21 = rw x at e in absurd (never z)
 
-      back : (r.number ≡ 0) × TooLong form room → (paper_written (put_of r form room)).number ≡ 21
+      back : (r.number ≡ 0) × TooLong form room → (paper_of (put_of r form room)).number ≡ 21
       back h = put_number ∙ rw (h.0, (longer form room).1 h.1)
 
 -- what is asked before the room never gives 21
@@ -110,15 +110,15 @@ fill_never s i j f t =
     (earlier_never (refuse_if (not (all (allowed (latin_of s)) t)) 4) _ (if_never (not (all (allowed (latin_of s)) t)) 4 (λ (z : 4 ≡ 21). omega arith))
     (if_never (ltb 40 (length t)) 13 (λ (z : 13 ≡ 21). omega arith)))))))
 
-pub write_room : (s : Bytes) (room : ℕ) → (paper_written (write_of s room)).number ≡ 21 ↔ (((file_refusal s).number ≡ 0) × TooLong (write_form s) room)
+pub write_room : (s : Bytes) (room : ℕ) → (paper_of (write_of s room)).number ≡ 21 ↔ (((file_refusal s).number ≡ 0) × TooLong (write_form s) room)
 unfolding write_of
 write_room s room = room_exactly (file_refusal s) (file_never s) (write_form s) room
 
-pub strip_room : (s : Bytes) (room : ℕ) → (paper_written (strip_of s room)).number ≡ 21 ↔ (((file_refusal s).number ≡ 0) × TooLong (strip_form s) room)
+pub strip_room : (s : Bytes) (room : ℕ) → (paper_of (strip_of s room)).number ≡ 21 ↔ (((file_refusal s).number ≡ 0) × TooLong (strip_form s) room)
 unfolding strip_of
 strip_room s room = room_exactly (file_refusal s) (file_never s) (strip_form s) room
 
 pub fill_room : (s : Bytes) (i j f : ℕ) (t : Bytes) (room : ℕ) →
-    (paper_written (fill_of s i j f t room)).number ≡ 21 ↔ (((fill_refusal s i j f (unpadded t)).number ≡ 0) × TooLong (fill_form s i j f (unpadded t)) room)
+    (paper_of (fill_of s i j f t room)).number ≡ 21 ↔ (((fill_refusal s i j f (unpadded t)).number ≡ 0) × TooLong (fill_form s i j f (unpadded t)) room)
 unfolding fill_of
 fill_room s i j f t room = room_exactly (fill_refusal s i j f (unpadded t)) (fill_never s i j f (unpadded t)) (fill_form s i j f (unpadded t)) room

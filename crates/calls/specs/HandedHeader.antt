@@ -1,18 +1,15 @@
 -- What a header that is handed out stands for.
-use Rattle.std.specs.Prelude.{◌≡◌}
-use Rattle.std.proofs.Math.Option.{Option, none, some}
+use Rattle.std.specs.Prelude.{◌≡◌, None, Option, Some}
 use Rattle.page.specs.Bytes.{Bytes, part}
 use Rattle.page.specs.Head.{Head}
 use Rattle.page.specs.Form.{doubled}
 use Rattle.page.specs.declared.Header.{Header}
 use Rattle.page.specs.declared.Span.{Span}
-use Rattle.page.specs.declared.Stated.{Stated}
-use Rattle.page.specs.declared.Stated.TheVariants as St
 
 -- a header's text that need not stand: absent in both, or the bytes of its span are the text's, each quote doubled
-pub data StatedFor (s : Bytes) : Stated → Option Bytes → Type 0 where
-  absent : StatedFor s St.Absent none
-  stated : {x : Span} {u : Bytes} → part x s ≡ doubled u → StatedFor s (St.At x) (some u)
+pub data StatedFor (s : Bytes) : Option Span → Option Bytes → Type 0 where
+  absent : StatedFor s None None
+  stated : {x : Span} {u : Bytes} → part x s ≡ doubled u → StatedFor s (Some x) (Some u)
 
 -- a header handed out of the bytes s, and the file's: Header values are the texts, date, time and character set, each text by its span
 pub record HeaderStandsFor (s : Bytes) (x : Header) (h : Head) : Type 0 where

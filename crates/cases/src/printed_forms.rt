@@ -1,6 +1,6 @@
 // What writing, filling and stripping make of a file: its answer, and the form itself.
 use listing::{end_line, print_number};
-use page::{Listed, Refusal, Written};
+use page::Refusal;
 use std::io;
 use std::io::Write;
 use tables::WIDEST;
@@ -24,15 +24,15 @@ fn take_front(space: &[u8], n: usize) -> &[u8] {
 }
 
 // The answer after what was asked, and on success the form, which stands at the front of `space`.
-fn print_form<W: Write>(out: &mut W, x: Written, space: &[u8]) -> io::Result<()> {
+fn print_form<W: Write>(out: &mut W, x: Result<usize, Refusal>, space: &[u8]) -> io::Result<()> {
     match x {
-        Written::Length(n) => {
+        Ok(n) => {
             print_number(out, 0)?;
             print_number(out, n as u64)?;
             end_line(out)?;
             out.write_all(take_front(space, n))
         }
-        Written::Refused(r) => print_refusal(out, r),
+        Err(r) => print_refusal(out, r),
     }
 }
 
@@ -41,11 +41,11 @@ fn print_again<W: Write>(out: &mut W, form: &[u8]) -> io::Result<()> {
     let mut space = [0; ROOM];
     out.write_all(b"again")?;
     match forms::write(form, &mut space) {
-        Written::Length(n) => {
+        Ok(n) => {
             print_number(out, lines::equal(take_front(&space, n), form) as u64)?;
             end_line(out)
         }
-        Written::Refused(r) => print_refusal(out, r),
+        Err(r) => print_refusal(out, r),
     }
 }
 
@@ -55,8 +55,8 @@ fn print_written<W: Write>(out: &mut W, s: &[u8]) -> io::Result<()> {
     out.write_all(b"write")?;
     print_form(out, x, &space)?;
     match x {
-        Written::Length(n) => print_again(out, take_front(&space, n)),
-        Written::Refused(_) => Ok(()),
+        Ok(n) => print_again(out, take_front(&space, n)),
+        Err(_) => Ok(()),
     }
 }
 
@@ -111,8 +111,8 @@ fn print_filled_section<W: Write>(
 fn print_filled_everywhere<W: Write>(out: &mut W, s: &[u8]) -> io::Result<()> {
     for i in 1..=cut::count_sections(s) {
         match sections::section(s, i) {
-            Listed::Is(row) => print_filled_section(out, s, i, row.records)?,
-            Listed::Refused(r) => print_refusal(out, r)?,
+            Ok(row) => print_filled_section(out, s, i, row.records)?,
+            Err(r) => print_refusal(out, r)?,
         }
     }
     print_filled(out, s, 0, 1, 1)

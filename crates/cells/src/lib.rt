@@ -5,14 +5,13 @@ ghost use Rattle.std.specs.Prelude.{◌≡◌, [], ◌∷◌, ◌+◌, ◌≤◌
 ghost use Rattle.page.specs.Tables.{width};
 ghost use Rattle.page.specs.File.{limit};
 ghost use Rattle.page.specs.Handing.{owner_cell, cell_of, record_cells};
-ghost use Rattle.tables.specs.Arrays as rows;
 ghost use Rattle.arrangement.specs.Orders.{held, Stands};
 ghost use Rattle.output.specs.Put.{Put};
 
 use arrangement::find_place;
 use page::{Owner, Value};
 use starts::find_starts;
-use tables::{COLUMNS, WIDEST, column_in, find_width};
+use tables::{WIDEST, find_column, find_width};
 use values::read_value;
 
 fn put_three(cells: &mut [u64], o: usize, kind: u64, a: u64, b: u64) -> usize
@@ -42,14 +41,11 @@ fn put_value(cells: &mut [u64], o: usize, v: Value) -> usize
     match v {
         Value::Number(n) => put_three(cells, o, 0, n, 0),
         Value::Missing => put_three(cells, o, 3, 0, 0),
-        Value::Words(x) => {
-            let owner = x.owner;
-            put_three(cells, o, number_owner(owner), x.from as u64, x.to as u64)
-        }
+        Value::Words(x) => put_three(cells, o, number_owner(x.owner), x.from as u64, x.to as u64),
     }
 }
 
-// The values of a record of table t, by column. The rows of all columns are lent, so that they are not built anew for each record.
+// The values of a record of table t, by column.
 pub fn put_values(
     cells: &mut [u64],
     from: usize,
@@ -58,36 +54,18 @@ pub fn put_values(
     m: u64,
     t: usize,
     o: &[u8; WIDEST],
-    kinds: &[u8; COLUMNS],
-    marks: &[u8; COLUMNS],
-    lows: &[u8; COLUMNS],
-    highs: &[u32; COLUMNS],
 ) -> usize
     requires { Stands t o.now
         × (at + length w.now ≤ limit)
-        × (from + length (record_cells t (held t o.now) (record { at = at; rest = w.now; mark = m }) 1 (width t)) ≤ length cells.old)
-        × (kinds.now ≡ rows.kinds) × (marks.now ≡ rows.marks) × (lows.now ≡ rows.lows) × (highs.now ≡ rows.highs) }
+        × (from + length (record_cells t (held t o.now) (record { at = at; rest = w.now; mark = m }) 1 (width t)) ≤ length cells.old) }
     ensures { Put cells.old from (record_cells t (held t o.now) (record { at = at; rest = w.now; mark = m }) 1 (width t)) cells.new result }
 {
-    let n = find_width(t);
     let starts = find_starts(w, t);
     let mut i = from;
-    let mut c = 0;
-    while c < n {
+    for c in 0..find_width(t) {
         let p = find_place(o, t, c);
-        i = put_value(
-            cells,
-            i,
-            read_value(
-                w,
-                at,
-                m,
-                p,
-                starts[p],
-                column_in(t, c, kinds, marks, lows, highs),
-            ),
-        );
-        c += 1;
+        let value = read_value(w, at, m, p, starts[p], find_column(t, c));
+        i = put_value(cells, i, value);
     }
     i
 }

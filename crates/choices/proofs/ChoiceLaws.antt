@@ -2,7 +2,7 @@
 use mathlib.Core.Path.{◌≡◌, refl, ap, sym, ◌∙◌}
 use mathlib.Core.Bool.{Bool, true, false, false≢true, not, ◌||◌}
 use mathlib.Core.List.{List, [], ◌∷◌, map}
-use Prim.Native.Nat.{ℕ, zero, suc, ◌+◌, ◌*◌, ◌^◌, ◌<◌, ◌≤◌}
+use Prim.Native.Nat.{ℕ, zero, suc, ◌+◌, ◌-◌, ◌*◌, ◌^◌, ◌<◌, ◌≤◌}
 use native.Mathlib.Nat.{pow-zero, pow-suc, pow-le-pow_right, mul-le-mul_right}
 use native.Mathlib.Numerals.{add-one}
 use native.Mathlib.Omega.{arith}
@@ -18,6 +18,8 @@ use Rattle.page.specs.declared.Column.{Column}
 use Rattle.page.proofs.TableLaws.{each, table_test, width_le}
 use Rattle.page.proofs.KeyLaws.{any_yes, any_no}
 use Rattle.page.proofs.OrderLaws.{arranged_below, place_in}
+use Rattle.arrangement.specs.Orders.{held, Orderly}
+use Rattle.arrangement.proofs.OrderLaws.{held_length, held_at}
 use Rattle.tables.specs.Arrays.{fill}
 use Rattle.tables.specs.Keys.{by_key, key_columns, refer_columns, flags}
 use Rattle.choices.specs.Choices.{coded, kind_of, total, rank, choice_of, key_choice}
@@ -104,10 +106,6 @@ coded_lt b f n h (c ∷ o) =
     let m : (coded b (map f o) + 1) * b ≤ b ^ length o * b = mul-le-mul_right b (omega arith) in
     rw p (omega arith)
 
-pub kind_told : (b x : Bool) (c : Column) (r : ℕ) → x ≡ c.text → r ≡ pick b (pick x 2 1) 0 → r ≡ kind_of b c
-unfolding kind_of
-kind_told b x c r e f = f ∙ ap (λ (y : Bool). pick b (pick y 2 1) 0) e
-
 module _ (bs : List Bool) (t : ℕ) where
   abbrev kind_at : ℕ → ℕ
   kind_at c = kind_of (get_or bs c false) (column_at t c)
@@ -137,25 +135,25 @@ module _ (bs : List Bool) (t : ℕ) where
     unfolding slots_from coded
     slots_end h = rw (drop_of_length-le o h)
 
-    pub kinds_down : k < length o → kinds_from o k ≡ kinds_from o (k + 1) * 4 + kind_of (get_or bs (get_or o k 0) false) (column_at t (get_or o k 0))
+    kinds_down : k < length o → kinds_from o k ≡ kinds_from o (k + 1) * 4 + kind_of (get_or bs (get_or o k 0) false) (column_at t (get_or o k 0))
     unfolding kinds_from coded
     kinds_down h = rw (add-one, drop-cons o k 0 h)
 
-    pub slots_down : k < length o → slots_from o k ≡ slots_from o (k + 1) * 8 + rank bs (get_or o k 0)
+    slots_down : k < length o → slots_from o k ≡ slots_from o (k + 1) * 8 + rank bs (get_or o k 0)
     unfolding slots_from coded
     slots_down h = rw (add-one, drop-cons o k 0 h)
 
     few : length o ≤ WIDEST → length (drop k o) ≤ WIDEST
     few h = omega (arith, length-drop k o)
 
-    pub kinds_small : length o ≤ WIDEST → kinds_from o k < 4 ^ WIDEST
+    kinds_small : length o ≤ WIDEST → kinds_from o k < 4 ^ WIDEST
     unfolding kinds_from
     kinds_small h =
         let a = coded_lt 4 kind_at (omega arith) kind_lt (drop k o) in
         let b : 4 ^ length (drop k o) ≤ 4 ^ WIDEST = pow-le-pow_right (lit< tt) (few h) in
         omega arith
 
-    pub slots_small : total bs ≤ 7 → length o ≤ WIDEST → slots_from o k < 8 ^ WIDEST
+    slots_small : total bs ≤ 7 → length o ≤ WIDEST → slots_from o k < 8 ^ WIDEST
     unfolding slots_from
     slots_small e h =
         let a = coded_lt 8 (rank bs) (omega arith) (λ c. omega (arith, rank_le bs c)) (drop k o) in
@@ -165,6 +163,32 @@ module _ (bs : List Bool) (t : ℕ) where
   pub choice_all : (o : Order) → record { kinds = kinds_from o 0; slots = slots_from o 0 } ≡ choice_of bs t o
   unfolding kinds_from slots_from choice_of
   choice_all o = refl
+
+-- one place more, from the last one on: the column that stands before place k
+pub record Down (bs : List Bool) (t : ℕ) (a : List ℕ) (k : ℕ) : Type 0 where
+  pub below : get_or a (k - 1) 0 < WIDEST
+  pub kinds : kinds_from bs t (held t a) (k - 1)
+      ≡ kinds_from bs t (held t a) k * 4 + kind_of (get_or bs (get_or a (k - 1) 0) false) (column_at t (get_or a (k - 1) 0))
+  pub slots : slots_from bs t (held t a) (k - 1) ≡ slots_from bs t (held t a) k * 8 + rank bs (get_or a (k - 1) 0)
+  pub kinds_fit : kinds_from bs t (held t a) k < 4 ^ WIDEST
+  pub slots_fit : slots_from bs t (held t a) k < 8 ^ WIDEST
+  pub ranked : rank bs (get_or a (k - 1) 0) ≤ 7
+
+pub choice_down : (bs : List Bool) (t : ℕ) (a : List ℕ) (k : ℕ) → Orderly a × (total bs ≤ 7) → 0 < k → k ≤ width t → Down bs t a k
+choice_down bs t a k y p h =
+    let o = held t a in
+    let n : length o ≡ width t = held_length t a y.0 in
+    let w = width_le t in
+    let m : k - 1 + 1 ≡ k = omega arith in
+    let x : get_or o (k - 1) 0 ≡ get_or a (k - 1) 0 = held_at t a (k - 1) (omega arith) in
+    record {
+      below = y.0.small (k - 1);
+      kinds = rw (m, x) at (kinds_down bs t o (k - 1) (omega arith));
+      slots = rw (m, x) at (slots_down bs t o (k - 1) (omega arith));
+      kinds_fit = kinds_small bs t o k (omega arith);
+      slots_fit = slots_small bs t o k y.1 (omega arith);
+      ranked = omega (arith, rank_le bs (get_or a (k - 1) 0), y.1);
+    }
 
 -- a table has a key exactly if a field is chosen for it
 

@@ -8,32 +8,34 @@ ghost use Rattle.tables.specs.Keys.{by_key};
 ghost use Rattle.choices.specs.Choices.{total, rank, choice_of, key_choice, refer_choice};
 ghost use Rattle.arrangement.specs.Orders.{held, Orderly};
 
-use tables::{WIDEST, find_key, find_kinds, find_reference, find_width};
+use tables::{WIDEST, find_key, find_reference, find_width, is_text};
 
-// A digit a place, from the left the lowest first. Of base 4 in kinds: 0: not this field; 1: its number; 2: its text. Of base 8 in slots:
-// which of the key's numbers it is, by column.
+// What a key takes of a field; the number of each is its digit in `kinds`.
+#[derive(Clone, Copy)]
+enum Kind {
+    Other,
+    Number,
+    Text,
+}
+
+// A digit a place, from the left the lowest first, in one word each: a loop over records shifts it field by field and reads no memory. Of base 4 in kinds: what the key takes of the field. Of base 8 in slots: which of the
+// key's numbers it is, by column.
 #[derive(Clone, Copy)]
 pub struct Choice {
     pub kinds: u64,
     pub slots: u64,
 }
 
+// What a key takes of a field, as its digit.
 fn find_kind(taken: bool, text: bool) -> u64
     ensures { (result ≡ pick taken (pick text 2 1) 0) × (result ≤ 2) }
 {
-    if taken {
-        if text {
-            return 2;
-        }
-        return 1;
-    }
-    0
-}
-
-fn count_one(taken: bool) -> u64
-    ensures { (result ≡ pick taken 1 0) × (result ≤ 1) }
-{
-    if taken { 1 } else { 0 }
+    let kind = match (taken, text) {
+        (false, _) => Kind::Other,
+        (true, false) => Kind::Number,
+        (true, true) => Kind::Text,
+    };
+    kind as u64
 }
 
 // How many columns before each are taken.
@@ -42,11 +44,9 @@ fn rank_columns(taken: [bool; WIDEST]) -> [u64; WIDEST]
 {
     let mut ranks = [0; WIDEST];
     let mut n: u64 = 0;
-    let mut c: usize = 0;
-    while c < WIDEST {
+    for c in 0..WIDEST {
         ranks[c] = n;
-        n += count_one(taken[c]);
-        c += 1;
+        n += taken[c] as u64;
     }
     ranks
 }
@@ -55,21 +55,15 @@ fn choose_columns(t: usize, taken: [bool; WIDEST], o: &[u8; WIDEST]) -> Choice
     requires { Orderly o.now × (total taken ≤ 7) }
     ensures { result ≡ choice_of taken t (held t o.now) }
 {
-    let texts = find_kinds(t);
     let ranks = rank_columns(taken);
     let mut kinds: u64 = 0;
     let mut slots: u64 = 0;
-    let mut k = find_width(t);
-    while 0 < k {
-        k -= 1;
+    for k in (0..find_width(t)).rev() {
         let c = o[k] as usize;
-        kinds = kinds * 4 + find_kind(taken[c], texts[c]);
+        kinds = kinds * 4 + find_kind(taken[c], is_text(t, c));
         slots = slots * 8 + ranks[c];
     }
-    Choice {
-        kinds: kinds,
-        slots: slots,
-    }
+    Choice { kinds, slots }
 }
 
 // The primary key of table t, or its second one; no field if it has none.

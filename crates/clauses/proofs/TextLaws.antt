@@ -1,30 +1,16 @@
 -- That a field is a text, by its size, and that a line has a first field. Assumes nothing.
-use mathlib.Core.Path.{◌≡◌, refl, ap, sym, ◌∙◌}
-use mathlib.Core.Bool.{true, false}
-use mathlib.Core.Option.{Option, none, some}
-use Prim.Native.Nat.{ℕ, ◌+◌, ◌<◌}
-use native.Mathlib.Omega.{arith}
+use Rattle.std.proofs.Common.{◌≡◌, ◌∙◌, ◌+◌, ◌<◌, Option, None, Some, false, length, refl, sym, ap, arith}
+use Rattle.std.specs.Option.{is_some}
 use Rattle.page.specs.Bytes.{Bytes}
-use lib.ListN.{length}
-use Rattle.page.specs.Fields.{field_size, fields}
 use Rattle.page.specs.Header.{is_text}
+use Rattle.page.specs.Fields.{field_size, fields}
 use Rattle.page.proofs.FieldLaws.{from_all, from_more}
 use Rattle.quoted.specs.Sizes.{size_of}
-use Rattle.quoted.specs.declared.texts.Size.TheVariants as S
 
-pub text_some : (o : Option Bytes) (n : ℕ) → size_of o ≡ S.Is n → is_text o ≡ true
+pub sized : (o : Option Bytes) → is_some (size_of o) ≡ is_text o
 unfolding size_of
-text_some none n e =
-    let z : ◌≡◌ {A = ℕ} 0 1 = cc in
-    absurd (omega arith)
-text_some (some t) n e = refl
-
-pub text_none : (o : Option Bytes) → size_of o ≡ S.Nothing → is_text o ≡ false
-unfolding size_of
-text_none none e = refl
-text_none (some t) e =
-    let z : ◌≡◌ {A = ℕ} 0 1 = cc in
-    absurd (omega arith)
+sized None = refl
+sized (Some t) = refl
 
 -- what follows a `;` has a field, be it an empty one
 pub fields_some : (w : Bytes) → 0 < length (fields w)

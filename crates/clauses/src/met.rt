@@ -1,79 +1,64 @@
 // What a header has met so far.
-ghost use Rattle.std.specs.Prelude.{◌≡◌, ◌||◌, eqb};
+ghost use Rattle.std.specs.Prelude.{◌≡◌};
+ghost use Rattle.commands.specs.Commands.{code};
 ghost use Rattle.page.specs.Header.{met_before, meet, complete, head_end};
 
-use commands::{CHS, DVE, FFT, IFV, SRC, VER};
+use commands::Command;
 use page::{Finding, Met};
 
 // Has the line of command k been met? A command that no header has counts as met.
-pub fn was_met(m: Met, k: u32) -> bool
-    ensures { result ≡ met_before k m }
+#[tactic(auto, unfolding(page::specs::Header::met_before))]
+pub fn was_met(m: Met, k: Command) -> bool
+    ensures { result ≡ met_before (code k) m }
 {
     match k {
-        SRC => m.src,
-        CHS => m.chs,
-        VER => m.ver,
-        IFV => m.ifv,
-        DVE => m.dve,
-        FFT => m.fft,
+        Command::Src => m.src,
+        Command::Chs => m.chs,
+        Command::Ver => m.ver,
+        Command::Ifv => m.ifv,
+        Command::Dve => m.dve,
+        Command::Fft => m.fft,
         _ => true,
     }
 }
 
-fn met_with(met: bool, k: u32, here: u32) -> bool
-    ensures { result ≡ (met || eqb k here) }
-{
-    if met {
-        return true;
-    }
-    k == here
-}
-
-pub fn meet(m: Met, k: u32) -> Met
-    ensures { result ≡ meet k m }
+#[tactic(auto, unfolding(page::specs::Header::meet))]
+pub fn meet(m: Met, k: Command) -> Met
+    ensures { result ≡ meet (code k) m }
 {
     Met {
         form: m.form,
-        src: met_with(m.src, k, SRC),
-        chs: met_with(m.chs, k, CHS),
-        ver: met_with(m.ver, k, VER),
-        ifv: met_with(m.ifv, k, IFV),
-        dve: met_with(m.dve, k, DVE),
-        fft: met_with(m.fft, k, FFT),
+        src: m.src | (k == Command::Src),
+        chs: m.chs | (k == Command::Chs),
+        ver: m.ver | (k == Command::Ver),
+        ifv: m.ifv | (k == Command::Ifv),
+        dve: m.dve | (k == Command::Dve),
+        fft: m.fft | (k == Command::Fft),
     }
 }
 
 // Is nothing missing?
+#[tactic(auto, unfolding(page::specs::Header::complete))]
 fn is_complete(m: Met) -> bool
     ensures { result ≡ complete m }
 {
-    if m.form == 0 {
-        return false;
-    }
-    if !m.src {
-        return false;
-    }
-    if !m.chs {
-        return false;
-    }
-    if !m.ver {
-        return false;
-    }
-    m.ifv
+    m.form != 0 && m.src && m.chs && m.ver && m.ifv
 }
 
 // The header's verdict after its n lines.
+#[tactic(auto, unfolding(page::specs::Header::head_end))]
 pub fn end_header(m: Met, n: usize) -> Finding
     ensures { result ≡ head_end m n }
 {
     if is_complete(m) {
-        return Finding {
+        Finding {
             verdict: 0,
             line: 0,
-        };
-    }
-    Finding {
-        verdict: 2,
-        line: n,
+        }
+    } else {
+        Finding {
+            verdict: 2,
+            line: n,
+        }
     }
 }

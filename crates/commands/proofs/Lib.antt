@@ -1,1 +1,3 @@
 pub mod CommandLaws
+pub mod CodeLaws
+pub mod IterLaws

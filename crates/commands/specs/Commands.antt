@@ -1,7 +1,29 @@
--- A command's name by its three bytes as one number.
+-- A command by its number, and its name by its three bytes as one number.
 use Rattle.std.specs.Prelude.{◌≡◌, List, [], ◌∷◌, ℕ, suc, ◌+◌, ◌*◌, ◌<◌, eqb, length, get_or}
 use Prim.Native.String.{String}
 use Rattle.page.specs.Bytes.{Bytes, bytes, pick}
+use Rattle.page.specs.Lines as page
+use Rattle.commands.specs.declared.command.Command.{Command}
+use Rattle.commands.specs.declared.command.Command.TheVariants.{Mod, Src, Chs, Ver, Ifv, Dve, Fft, Tbl, Atr, Frm, Rec, End, Com, Eof, Unknown, Missing}
+
+-- a command's place among the known ones, and what follows them
+abbrev pub code : Command → ℕ
+code Mod = page.Mod
+code Src = page.Src
+code Chs = page.Chs
+code Ver = page.Ver
+code Ifv = page.Ifv
+code Dve = page.Dve
+code Fft = page.Fft
+code Tbl = page.Tbl
+code Atr = page.Atr
+code Frm = page.Frm
+code Rec = page.Rec
+code End = page.End
+code Com = page.Com
+code Eof = page.Eof
+code Unknown = page.Unknown
+code Missing = page.Missing
 
 abbrev pub key_of : ℕ → ℕ → ℕ → ℕ
 key_of a b c = (a * 256 + b) * 256 + c

@@ -1,7 +1,9 @@
 // The fields of a line: `w` is what stands after its first `;`.
-ghost use Rattle.std.specs.Prelude.{◌≡◌, false, [], ◌+◌, ◌≤◌, ◌<◌, length, drop, get_or};
+ghost use Rattle.std.specs.Prelude.{◌≡◌, false, [], ◌+◌, ◌-◌, ◌≤◌, ◌<◌, length, drop, get_or};
+ghost use Rattle.std.specs.Iterator.{at_most};
 ghost use Rattle.page.specs.Fields.{parts_here, inside_after, field_size, fields};
 ghost use Rattle.page.specs.Places.{field_span};
+ghost use Rattle.commands.specs.Fields.{GivesField};
 
 use lines::{trim_in, trimmed};
 use page::Span;
@@ -10,7 +12,7 @@ use page::Span;
 fn parts_here(inside: bool, b: u8) -> bool
     ensures { result ≡ parts_here inside b }
 {
-    if inside { false } else { b == 59 }
+    !inside && b == 59
 }
 
 // "A quote switches between outside and inside."
@@ -25,50 +27,73 @@ pub fn field_end(w: &[u8], at: usize) -> usize
     ensures { result ≡ at + field_size false (drop at w.now) }
 {
     let mut inside = false;
-    let mut i = at;
-    while i < w.len() {
+    for i in at..w.len() {
         let b = w[i];
         if parts_here(inside, b) {
             return i;
         }
         inside = inside_after(inside, b);
-        i += 1;
     }
-    i
+    at.max(w.len())
+}
+
+// A field with the spaces around it, and where it begins.
+#[derive(Clone, Copy)]
+pub struct Field<'a> {
+    pub at: usize,
+    pub bytes: &'a [u8],
+}
+
+// The fields of a line, from the left.
+#[derive(Clone, Copy)]
+pub struct Fields<'a> {
+    bytes: &'a [u8],
+    at: usize,
+}
+
+pub fn fields_of(w: &[u8]) -> Fields<'_>
+    ensures bytes { result.bytes.now ≡ w.now }
+    ensures at { result.at ≡ 0 }
+{
+    Fields { bytes: w, at: 0 }
+}
+
+impl<'a> Iterator for Fields<'a> {
+    type Item = Field<'a>;
+
+    ghost next_gives = { GivesField };
+
+    ghost remaining = { λ x. at_most (length x.bytes.now + 1 - x.at) };
+
+    fn next(&mut self) -> Option<Field<'a>> {
+        let w = self.bytes;
+        let at = self.at;
+        if w.len() < at {
+            return None;
+        }
+        let to = field_end(w, at);
+        self.at = to + 1;
+        Some(Field {
+            at,
+            bytes: &w[at..to],
+        })
+    }
 }
 
 pub fn count_fields(w: &[u8]) -> usize
     ensures { result ≡ length (fields w.now) }
 {
-    let mut n: usize = 0;
-    let mut at = 0;
-    while at <= w.len() {
-        let e = field_end(w, at);
-        n += 1;
-        at = e + 1;
-    }
-    n
+    fields_of(w).count()
 }
 
 // Field k, the first counted as 0, without the spaces around it; nothing if there is none.
 pub fn field_at(w: &[u8], k: usize) -> &[u8]
     ensures { result.now ≡ get_or (fields w.now) k [] }
 {
-    let mut at = 0;
-    let mut i = 0;
-    while i < k {
-        if w.len() < at {
-            return &w[..0];
-        }
-        let e = field_end(w, at);
-        at = e + 1;
-        i += 1;
+    match fields_of(w).nth(k) {
+        Some(field) => trimmed(field.bytes),
+        None => &w[..0],
     }
-    if w.len() < at {
-        return &w[..0];
-    }
-    let e = field_end(w, at);
-    trimmed(&w[at..e])
 }
 
 // Where field k stands, without the spaces around it.
@@ -76,13 +101,6 @@ pub fn find_field(w: &[u8], k: usize) -> Span
     requires { k < length (fields w.now) }
     ensures { (result ≡ field_span w.now k) × (result.from ≤ result.to) × (result.to ≤ length w.now) }
 {
-    let mut at = 0;
-    let mut i = 0;
-    while i < k {
-        let e = field_end(w, at);
-        at = e + 1;
-        i += 1;
-    }
-    let e = field_end(w, at);
-    trim_in(w, at, e)
+    let field = fields_of(w).nth(k).unwrap();
+    trim_in(w, field.at, field.at + field.bytes.len())
 }

@@ -4,8 +4,5 @@
 mod command;
 mod fields;
 
-pub use command::{
-    ATR, CHS, COM, DVE, END, FFT, FRM, IFV, MOD, REC, SRC, TBL, UNKNOWN, VER, begins_end,
-    begins_table, command_of, is_clean, is_record,
-};
-pub use fields::{count_fields, field_at, field_end, find_field};
+pub use command::{Command, begins_end, begins_table, begins_with, is_clean, is_record};
+pub use fields::{Field, Fields, count_fields, field_at, field_end, fields_of, find_field};

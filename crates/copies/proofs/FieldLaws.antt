@@ -1,17 +1,17 @@
 -- What is put for one field and one mark of a record, and how the marks and fields go on column by column. Assumes nothing.
 use mathlib.Core.Path.{◌≡◌, refl, ap, sym, ◌∙◌}
-use mathlib.Core.Bool.{Bool, true, false, not, ◌&&◌, ◌||◌, false≢true}
+use mathlib.Core.Bool.{Bool, true, false, ◌&&◌, false≢true}
 use mathlib.Core.List.{List, [], ◌∷◌, ◌++◌}
 use Prim.Native.Nat.{ℕ, suc, ◌+◌, ◌<◌, ◌≤◌}
 use native.Mathlib.Numerals.{add-one}
 use native.Mathlib.Omega.{arith}
-use borrow.Author.Tests.{eq-eqb, ne_eqb, leb-true}
-use lib.Dec.{eqb, leb}
+use borrow.Author.Tests.{eq-eqb, ne_eqb}
+use lib.Dec.{eqb}
 use lib.ListN.{length, get_or, drop, drop_of_length-le}
 use lib.Seq.{drop-cons}
 use Rattle.page.specs.Bytes.{Bytes, bytes, pick}
 use Rattle.page.specs.Fields.{number_of}
-use Rattle.page.specs.Tables.{Named, all_tables, no_column, columns, column_at, width}
+use Rattle.page.specs.Tables.{Named, no_column, columns, column_at, width}
 use Rattle.page.specs.Order.{Order, arranged, standing, place, by_column}
 use Rattle.page.specs.Marks.{owner_of}
 use Rattle.page.specs.Section.{record_text, left_out, field_of, field_number, first_wrong, amount}
@@ -21,7 +21,6 @@ use Rattle.page.specs.Form.{doubled, quoted, decimal, datum_text, mark_line}
 use Rattle.page.specs.declared.LineEnd.{LineEnd}
 use Rattle.page.specs.declared.Owner.TheVariants as O
 use Rattle.page.specs.declared.Column.{Column}
-use Rattle.page.proofs.TableLaws.{each, column_test}
 use Rattle.page.proofs.OrderLaws.{arranged_long, place_in, standing_length, standing_column, by_column_length, by_column_at, none_wrong}
 use Rattle.copies.specs.Changed.{changed_datum}
 use Rattle.copies.specs.Parts.{marked_by, mark_by, marks_form, datum_by, fields_form}
@@ -29,23 +28,6 @@ use Rattle.copies.specs.Parts.{marked_by, mark_by, marks_form, datum_by, fields_
 -- is a column marked?
 
 module _ (strip : Bool) (f m i : ℕ) (c : Column) where
-  pub marked_filled : f ≡ i → true ≡ marked_by strip f m i c
-  unfolding marked_by
-  marked_filled e = rw (eq-eqb f i e)
-
-  module _ (n : f ≡ i → ⊥) where
-    pub marked_stripped : strip ≡ true → false ≡ marked_by strip f m i c
-    unfolding marked_by
-    marked_stripped e = rw (ne_eqb f i n, e)
-
-    pub marked_other : strip ≡ false → (m ≡ i → ⊥) → false ≡ marked_by strip f m i c
-    unfolding marked_by
-    marked_other e d = rw (ne_eqb f i n, e, ne_eqb m i d)
-
-    pub marked_waiting : strip ≡ false → m ≡ i → c.text ≡ marked_by strip f m i c
-    unfolding marked_by
-    marked_waiting e d = rw (ne_eqb f i n, e, eq-eqb m i d)
-
   pub mark_put : (ends : LineEnd) (b : Bool) → b ≡ marked_by strip f m i c → b ≡ true → mark_line ends i ≡ mark_by ends strip f m i c
   unfolding mark_by
   mark_put ends b x y = rw (sym x ∙ y)
@@ -53,18 +35,6 @@ module _ (strip : Bool) (f m i : ℕ) (c : Column) where
   pub mark_left : (ends : LineEnd) (b : Bool) → b ≡ marked_by strip f m i c → b ≡ false → [] ≡ mark_by ends strip f m i c
   unfolding mark_by
   mark_left ends b x y = rw (sym x ∙ y)
-
--- how wide a column of texts may be
-
-abbrev narrow : Column → Bool
-narrow c = not c.text || leb c.hi 40
-
-narrow_text : (c : Column) → narrow c ≡ true → c.text ≡ true → c.hi ≤ 40
-narrow_text c e x = leb-true c.hi 40 (rw x at e)
-
-pub text_narrow : (t k : ℕ) → (column_at t k).text ≡ true → (column_at t k).hi ≤ 40
-unfolding all_tables each
-text_narrow t k x = narrow_text (column_at t k) (column_test narrow refl refl t k) x
 
 -- what is put for a field
 

@@ -8,7 +8,6 @@ use lib.ListN.{length}
 use Rattle.page.specs.Bytes.{pick}
 use Rattle.page.specs.Records.{Record}
 use Rattle.page.specs.Model.{Content, Model, kept}
-use Rattle.page.specs.Rules.{Every, none_left, one_more}
 use Rattle.page.specs.declared.Stays.{Stays}
 use Rattle.page.specs.declared.Stays.TheVariants as St
 use Rattle.copies.specs.Changed.{stays_in, kept_records, kept_content, kept_tables}
@@ -41,15 +40,6 @@ module _ (x : Stays) where
       by : (b : Bool) → length (kept_records x vs) ≤ length vs → length (pick b (v ∷ kept_records x vs) (kept_records x vs)) ≤ suc (length vs)
       by true h = omega arith
       by false h = omega arith
-
-  pub kept_every : {P : Record → Type 0} {vs : List Record} → Every P vs → Every P (kept_records x vs)
-  unfolding kept_records
-  kept_every none_left = none_left
-  kept_every {P} (one_more {x = v} {xs = vs} p ps) = by (stays_in x v) (kept_every ps)
-    where
-      by : (b : Bool) → Every P (kept_records x vs) → Every P (pick b (v ∷ kept_records x vs) (kept_records x vs))
-      by true h = one_more p h
-      by false h = h
 
   pub kept_count : (cs : List Content) → length (kept_tables x cs) ≡ length cs
   unfolding kept_tables

@@ -1,12 +1,12 @@
 -- One changed record is its marks and its fields, column by column. Assumes nothing.
-use mathlib.Core.Path.{◌≡◌, refl, ap, sym, ◌∙◌}
+use mathlib.Core.Path.{◌≡◌, refl, ap, ◌∙◌}
 use mathlib.Core.Bool.{Bool, true, false, not, ◌&&◌, ◌||◌}
 use mathlib.Core.List.{List, [], ◌∷◌, ◌++◌, map, append_assoc}
-use Prim.Native.Nat.{ℕ, suc, ◌+◌, ◌-◌, ◌≤◌}
+use Prim.Native.Nat.{ℕ, suc, ◌-◌}
 use native.Mathlib.Omega.{arith}
 use borrow.Author.Tests.{eq-eqb, ne_eqb, eqb-true, eqb-false}
 use lib.Dec.{eqb}
-use lib.ListN.{length, length-append}
+use lib.ListN.{length}
 use Rattle.page.specs.Bytes.{Bytes, bytes, pick}
 use Rattle.page.specs.Fields.{number_of}
 use Rattle.page.specs.Tables.{Named}
@@ -89,8 +89,3 @@ module _ (ends : LineEnd) (strip : Bool) (f m : ℕ) (t : Bytes) where
       let a : marks ends 1 (changed_values strip f t (values_of m 1 cs ws)) ≡ marks_form ends strip f m 1 cs = rw z at (marks_are 0 cs ws e) in
       let b : separated (map datum_text (changed_values strip f t (values_of m 1 cs ws))) ≡ fields_form strip f t m 1 cs ws = rw z at (fields_are 0 cs ws) in
       rw (a, b)
-
-  pub record_length : (cs : List Named) (ws : List Bytes) → length ws ≡ length cs
-      → length (marks_form ends strip f m 1 cs) + (3 + length (fields_form strip f t m 1 cs ws)) ≤ length (record_form ends (changed_values strip f t (values_of m 1 cs ws)))
-  unfolding bytes
-  record_length cs ws e = rw (sym (record_is cs ws e)) (simp length-append (omega arith))

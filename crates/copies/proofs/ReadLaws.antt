@@ -1,9 +1,9 @@
 -- A field that passed its column's rules is read as a text, a number or a missing number, and what is read is what is written. Assumes nothing.
+use Rattle.std.specs.Prelude.{None, Option, Some}
 use mathlib.Core.Path.{◌≡◌, refl, ap, sym, ◌∙◌}
 use mathlib.Core.Bool.{Bool, true, false}
 use mathlib.Core.List.{[], ◌∷◌, ◌++◌}
-use mathlib.Core.Option.{Option, none, some}
-use Prim.Native.Nat.{ℕ, ◌+◌, ◌-◌, ◌*◌, ◌<◌, ◌≤◌}
+use Prim.Native.Nat.{ℕ, ◌+◌, ◌-◌, ◌<◌, ◌≤◌}
 use native.Mathlib.Omega.{arith}
 use borrow.Author.Tests.{ne_eqb, eqb-true, leb-true}
 use lib.Dec.{eqb, leb}
@@ -25,7 +25,6 @@ use Rattle.page.proofs.FieldLaws.{end_in, span_in, span_part, field_span_in, fie
 use Rattle.page.proofs.TextLaws.{text_quoted, text_long, text_between, record_text_is, text_kept, unpadded_there, words_there, unpadded_in}
 use Rattle.digits.specs.Runs.{field_from}
 use Rattle.doubling.specs.Raw.{raw_text}
-use Rattle.doubling.proofs.TextLaws.{quoted_length}
 
 -- a text as it stands between its quotes: its own bytes, each quote doubled
 record Stored (f : Bytes) (x : Wording) : Type 0 where
@@ -33,7 +32,7 @@ record Stored (f : Bytes) (x : Wording) : Type 0 where
   within : x.span.to ≤ length f
   raw : raw_text (part x.span f) ≡ quoted x.own
 
-stored : (f : Bytes) (x : Wording) → words_of f ≡ some x → Stored f x
+stored : (f : Bytes) (x : Wording) → words_of f ≡ Some x → Stored f x
 unfolding raw_text quoted
 stored f x e =
     let a = words_there f x e in
@@ -41,7 +40,7 @@ stored f x e =
 
 -- what a field that passed its column's rules is read as
 data Read (c : Column) (f : Bytes) : Field → Type 0 where
-  a_text : (x : Wording) → c.text ≡ true → words_of f ≡ some x → length x.own ≤ c.hi → Read c f (F.Text x.span)
+  a_text : (x : Wording) → c.text ≡ true → words_of f ≡ Some x → length x.own ≤ c.hi → Read c f (F.Text x.span)
   a_number : (n : ℕ) → c.text ≡ false → left_out c.optional f ≡ false → n ≡ amount (number_of f) → Read c f (F.Number n)
   no_number : c.text ≡ false → left_out c.optional f ≡ true → Read c f F.Missing
 
@@ -49,14 +48,14 @@ read_of : (c : Column) (f : Bytes) → field_number (field_of c f) ≡ 0 → Rea
 unfolding field_of text_field field_number
 read_of c f z = by c.text (left_out c.optional f) refl refl z
   where
-    sized : (x : Wording) → c.text ≡ true → words_of f ≡ some x → (b : Bool) → leb (length x.own) c.hi ≡ b
+    sized : (x : Wording) → c.text ≡ true → words_of f ≡ Some x → (b : Bool) → leb (length x.own) c.hi ≡ b
         → field_number (pick b (F.Text x.span) (F.Refused 13)) ≡ 0 → Read c f (pick b (F.Text x.span) (F.Refused 13))
     sized x k e true q z = a_text x k e (leb-true (length x.own) c.hi q)
     sized x k e false q z = absurd (omega arith)
 
     worded_so : c.text ≡ true → (o : Option Wording) → words_of f ≡ o → field_number (text_field c.hi o) ≡ 0 → Read c f (text_field c.hi o)
-    worded_so k none e z = absurd (omega arith)
-    worded_so k (some x) e z = sized x k e (leb (length x.own) c.hi) refl z
+    worded_so k None e z = absurd (omega arith)
+    worded_so k (Some x) e z = sized x k e (leb (length x.own) c.hi) refl z
 
     number : c.text ≡ false → left_out c.optional f ≡ false → {r : Field} → NumberRead (number_of f) r → field_number r ≡ 0 → Read c f r
     number k l (as_number n e) z = a_number n k l (sym (ap amount e))
@@ -80,7 +79,7 @@ text_opens c f k ok = by (eqb (get_or f 0 0) 34) refl
 
 -- a text that no space ends is written as it stands, with its quotes
 
-unpadded_whole : (f u : Bytes) → text_of f ≡ some u → (get_or f (length f - 2) 0 ≡ 32 → ⊥) → f ≡ quoted (unpadded u)
+unpadded_whole : (f u : Bytes) → text_of f ≡ Some u → (get_or f (length f - 2) 0 ≡ 32 → ⊥) → f ≡ quoted (unpadded u)
 unfolding quoted
 unpadded_whole f u e n =
     let l = text_long f u e in
@@ -96,8 +95,8 @@ unfolding field_of words_of text_field field_number
 text_whole c f k ok n = by (text_of f) refl
   where
     by : (o : Option Bytes) → text_of f ≡ o → f ≡ quoted (own_bytes (record_text f))
-    by none e = absurd (let z : ◌≡◌ {A = ℕ} 11 0 = rw (k, e) at ok in omega arith)
-    by (some u) e = unpadded_whole f u e n ∙ sym (ap (λ (o : Option Bytes). quoted (own_bytes o)) (record_text_is f ∙ ap unpadded_in e))
+    by None e = absurd (let z : ◌≡◌ {A = ℕ} 11 0 = rw (k, e) at ok in omega arith)
+    by (Some u) e = unpadded_whole f u e n ∙ sym (ap (λ (o : Option Bytes). quoted (own_bytes o)) (record_text_is f ∙ ap unpadded_in e))
 
 -- the field at a place of w
 
@@ -107,7 +106,6 @@ pub record Words (c : Column) (f w : Bytes) (sp : Span) : Type 0 where
   pub begins : sp.from ≤ sp.to
   pub within : sp.to ≤ length w
   pub raw : raw_text (part sp w) ≡ quoted (own_bytes (record_text f))
-  pub short : length (raw_text (part sp w)) ≤ 2 * c.hi + 2
 
 spanned : (w : Bytes) (at : ℕ) → at ≤ length w
     → ((span_from w at).from ≤ (span_from w at).to) × ((span_from w at).to ≤ length w) × (part (span_from w at) w ≡ field_from w at)
@@ -145,7 +143,6 @@ module _ (c : Column) (w : Bytes) (at : ℕ) (h : at ≤ length w) (ok : field_n
             begins = rw y (omega (arith, t.begins));
             within = rw y (omega (arith, t.within));
             raw = r ∙ ap (λ (o : Option Wording). quoted (own_bytes (own_of o))) (sym q);
-            short = omega (arith, ap length r, quoted_length x.own);
           }
       by v (a_number n k l q) e = absurd (let y : ◌≡◌ {A = ℕ} 0 1 = cc in omega arith)
       by v (no_number k l) e = absurd (let y : ◌≡◌ {A = ℕ} 0 1 = cc in omega arith)

@@ -8,8 +8,9 @@ use native.Mathlib.Numerals.{add-one}
 use native.Mathlib.Omega.{arith}
 use borrow.Author.Tests.{eq-eqb, ne_eqb, eqb-true, eqb-false, le-ltb, leb-true, ltb-true, ltb-false}
 use lib.Dec.{eqb, leb, ltb}
-use lib.ListN.{length, get_or, take, drop, take-append-drop, length-append, length-drop, drop_of_length-le}
+use lib.ListN.{length, get_or, take, drop, take-append-drop, length-drop, drop_of_length-le}
 use lib.Seq.{drop-cons, drop-drop, get_or-drop, get_or-take, length-take-le, take_all}
+use Rattle.std.specs.Prelude.{Option, Some, None, IfSome}
 use Rattle.page.specs.Bytes.{Bytes, bytes, all, until, keep, space, no_space, trim}
 use Rattle.page.specs.Fields.{field_size, fields, digit, digits, value, number_of}
 use Rattle.page.specs.Tables.{Named}
@@ -252,6 +253,12 @@ module _ (w : Bytes) (p r : ℕ) (h : p + 2 ≤ length w) (a : get_or w p 0 ≡ 
             (λ (e : get_or (drop 1 (take (r - p) (drop p w))) 0 0 ≡ 34). omega arith));
       }
 
+pub number_ends_if : (w : Bytes) (p : ℕ) → p + 2 ≤ length w → get_or w p 0 ≡ 32 → (get_or w (p + 1) 0 ≡ 48 → ⊥) → digit (get_or w (p + 1) 0) ≡ true
+    → (r : Option ℕ) → IfSome r (λ e. (e ≡ p + 2 + field_size false (drop (p + 2) w)) × (p + 2 < e → 48 ≤ get_or w (e - 1) 0))
+    → IfSome r (λ e. Ends w p e)
+number_ends_if w p h a z d None x = tt
+number_ends_if w p h a z d (Some e) x = number_ends w p e h a z d x.0 x.1
+
 -- the field that begins at p, with the space before it
 module _ (w : Bytes) (p e : ℕ) (s : Ends w p e) where
   ends_field : trim (take (e - p) (drop p w)) ≡ field_from w p
@@ -361,9 +368,3 @@ module _ (strip : Bool) (x : Bytes) where
       (ap (λ (y : Bytes). bytes "rec" ++ (y ++ line_end ends)) b
       ∙ ap (λ (y : Bytes). y ++ (bytes "rec" ++ (fields_form strip 0 x 0 1 cs (fields w) ++ line_end ends))) a
       ∙ record_is ends strip 0 0 x cs (fields w) n)
-
-  pub kept_length : (ends : LineEnd) (f m : ℕ) (cs : List Named) (w : Bytes) → length (fields w) ≡ length cs → first_wrong cs (fields w) ≡ 0
-      → (m ≡ 0) × (f ≡ 0) × Whole w
-      → 4 + length w ≤ length (record_form ends (changed_values strip f x (values_of m 1 cs (fields w))))
-  unfolding bytes
-  kept_length ends f m cs w n e k = rw (sym (record_kept ends f m cs w n e k)) (simp length-append (omega arith))

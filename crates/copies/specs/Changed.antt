@@ -1,11 +1,13 @@
 -- What a file says, changed while it is written: one rule for writing, filling and stripping.
-use Rattle.std.specs.Prelude.{Bool, true, List, [], ◌∷◌, ℕ, ◌-◌, eqb}
+use Rattle.std.specs.Prelude.{Bool, true, false, List, [], ◌∷◌, ℕ, ◌-◌, eqb}
 use Rattle.page.specs.Bytes.{Bytes, pick}
 use Rattle.page.specs.Records.{Datum, words, Record}
 use Rattle.page.specs.Model.{Content, Model, strip_datum}
 use Rattle.page.specs.declared.Owner.TheVariants as O
 use Rattle.page.specs.declared.Stays.{Stays}
 use Rattle.page.specs.declared.Stays.TheVariants as St
+use Rattle.copies.specs.declared.plan.Change.{Change}
+use Rattle.copies.specs.declared.plan.Change.TheVariants as C
 use Rattle.copies.specs.declared.plan.Plan.{Plan}
 
 -- does a record stay?
@@ -44,6 +46,36 @@ unfoldable pub changed_tables : Bool → ℕ → ℕ → ℕ → Bytes → List 
 changed_tables strip i r f t [] = []
 changed_tables strip i r f t (c ∷ cs) = changed_content strip (pick (eqb i 1) r 0) f t c ∷ changed_tables strip (i - 1) r f t cs
 
-unfoldable pub changed_model : Plan → Bytes → Model → Model
-changed_model p t m =
-    record { head = m.head; tables = changed_tables p.strip p.section p.rec p.field t (kept_tables p.stays m.tables) }
+-- Of what is changed: do marked texts go, and which section, record and field has which text put in?
+
+abbrev pub strips : Change → Bool
+strips C.Nothing = false
+strips C.Strip = true
+strips (C.Fill x) = false
+
+abbrev pub section_of : Change → ℕ
+section_of C.Nothing = 0
+section_of C.Strip = 0
+section_of (C.Fill x) = x.section
+
+abbrev pub record_of : Change → ℕ
+record_of C.Nothing = 0
+record_of C.Strip = 0
+record_of (C.Fill x) = x.rec
+
+abbrev pub field_of : Change → ℕ
+field_of C.Nothing = 0
+field_of C.Strip = 0
+field_of (C.Fill x) = x.field
+
+abbrev pub text_of : Change → Bytes
+text_of C.Nothing = []
+text_of C.Strip = []
+text_of (C.Fill x) = x.text.now
+
+unfoldable pub changed_model : Plan → Model → Model
+changed_model p m =
+    record {
+      head = m.head;
+      tables = changed_tables (strips p.change) (section_of p.change) (record_of p.change) (field_of p.change) (text_of p.change) (kept_tables p.stays m.tables);
+    }

@@ -4,5 +4,5 @@
 mod plan;
 mod standing;
 
-pub use plan::{Plan, does_stay, plan_record, plan_section};
+pub use plan::{Change, Fill, Plan, does_stay, plan_record, plan_section};
 pub use standing::{all_written, written_end};

@@ -1,21 +1,49 @@
 // How a file is written.
-ghost use Rattle.std.specs.Prelude.{◌≡◌, ◌<◌};
+ghost use Rattle.std.specs.Prelude.{◌≡◌, ◌<◌, MatchOption};
 ghost use Rattle.page.specs.Records.{Record};
-ghost use Rattle.copies.specs.Changed.{stays_in};
+ghost use Rattle.copies.specs.Changed.{field_of, text_of, stays_in};
 ghost use Rattle.copies.specs.Planned.{record_plan, section_plan};
 
 use page::{LineEnd, Stays};
 
-// How lines end, which records stay, and what is changed: marked texts go (`strip`), or a text is put into one field. Section, record and
-// field count from 1, and 0 names none.
+// A text that is put into one field. Section, record and field count from 1.
 #[derive(Clone, Copy)]
-pub struct Plan {
-    pub ends: LineEnd,
-    pub stays: Stays,
-    pub strip: bool,
+pub struct Fill<'a> {
     pub section: usize,
     pub rec: usize,
     pub field: usize,
+    pub text: &'a [u8],
+}
+
+// What is changed of what a file says: nothing, marked texts go, or a text is put in.
+#[derive(Clone, Copy)]
+pub enum Change<'a> {
+    Nothing,
+    Strip,
+    Fill(Fill<'a>),
+}
+
+impl<'a> Change<'a> {
+    // The text that is put into field f, from 1, of the record at hand.
+    pub fn text_for(self, f: usize) -> Option<&'a [u8]>
+        requires { 0 < f }
+        ensures { MatchOption result (field_of self.entry ≡ f → ⊥)
+            (λ text. (field_of self.entry ≡ f) × (text.now ≡ text_of self.entry)) }
+    {
+        match self {
+            Change::Nothing | Change::Strip => None,
+            Change::Fill(fill) if fill.field == f => Some(fill.text),
+            Change::Fill(_) => None,
+        }
+    }
+}
+
+// How lines end, which records stay, and what is changed.
+#[derive(Clone, Copy)]
+pub struct Plan<'a> {
+    pub ends: LineEnd,
+    pub stays: Stays,
+    pub change: Change<'a>,
 }
 
 // Does a record stay?
@@ -27,42 +55,32 @@ pub fn does_stay(stays: Stays) -> bool
     }
 }
 
-// The plan of the record after n others.
-pub fn plan_record(plan: Plan, n: usize) -> Plan
+// The plan of the record after n others: no text is put into one that is not named.
+pub fn plan_record(plan: Plan<'_>, n: usize) -> Plan<'_>
     requires { n < 18446744073709551615 }
-    ensures { result ≡ record_plan plan n }
+    ensures { result ≡ record_plan plan.entry n }
 {
-    if plan.rec == n + 1 {
-        return plan;
-    }
-    let ends = plan.ends;
-    let stays = plan.stays;
-    Plan {
-        ends: ends,
-        stays: stays,
-        strip: plan.strip,
-        section: plan.section,
-        rec: plan.rec,
-        field: 0,
+    match plan.change {
+        Change::Nothing | Change::Strip => plan,
+        Change::Fill(fill) if fill.rec == n + 1 => plan,
+        Change::Fill(_) => Plan {
+            change: Change::Nothing,
+            ..plan
+        },
     }
 }
 
 // The plan of the section after n others.
-pub fn plan_section(plan: Plan, n: usize) -> Plan
+pub fn plan_section(plan: Plan<'_>, n: usize) -> Plan<'_>
     requires { n < 18446744073709551615 }
-    ensures { result ≡ section_plan plan n }
+    ensures { result ≡ section_plan plan.entry n }
 {
-    if plan.section == n + 1 {
-        return plan;
-    }
-    let ends = plan.ends;
-    let stays = plan.stays;
-    Plan {
-        ends: ends,
-        stays: stays,
-        strip: plan.strip,
-        section: plan.section,
-        rec: 0,
-        field: plan.field,
+    match plan.change {
+        Change::Nothing | Change::Strip => plan,
+        Change::Fill(fill) if fill.section == n + 1 => plan,
+        Change::Fill(_) => Plan {
+            change: Change::Nothing,
+            ..plan
+        },
     }
 }

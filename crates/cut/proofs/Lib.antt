@@ -1,3 +1,4 @@
 pub mod FrontLaws
 pub mod WalkLaws
 pub mod ReachLaws
+pub mod CountLaws

@@ -4,15 +4,12 @@ ghost use Rattle.page.specs.Lines.{lines, joined};
 ghost use Rattle.page.specs.Cut.{begins_table, begins_end, header_lines, trailer_lines, sections};
 ghost use Rattle.page.proofs.CutLaws.{sections_from};
 
-use lines::Cursor;
+use lines::{lines_from, lines_of};
 
 fn begins_part(l: &[u8]) -> bool
     ensures { result ≡ (begins_table l.now || begins_end l.now) }
 {
-    if commands::begins_table(l) {
-        return true;
-    }
-    commands::begins_end(l)
+    commands::begins_table(l) || commands::begins_end(l)
 }
 
 // "The header is every line before the first `tbl` or `eof` line": how many bytes it has.
@@ -21,42 +18,29 @@ pub fn header_size(s: &[u8]) -> usize
         × (result ≤ length s.now)
         × (lines (take result s.now) ≡ header_lines s.now) }
 {
-    let mut c = Cursor { at: 0 };
-    while c.at < s.len() {
-        let at = c.at;
-        let l = c.line(s);
-        let e = l.span.to;
-        if begins_part(&s[at..e]) {
-            return at;
+    for line in lines_of(s) {
+        if begins_part(line.bytes) {
+            return line.at;
         }
-        c = l.next;
     }
     s.len()
 }
 
-// The sections before a place, which are n, and those from it on: "A section begins at each `tbl` line."
-fn count_from(s: &[u8], at: usize, n: usize) -> usize
-    requires { (at ≤ length s.now) × (n ≤ at) }
-    ensures { result ≡ n + length (sections_from s.now at) }
+// "A section begins at each `tbl` line": the sections from a line's place on.
+fn count_from(s: &[u8], at: usize) -> usize
+    requires { at ≤ length s.now }
+    ensures sections { result ≡ length (sections_from s.now at) }
+    ensures bound { at + result ≤ length s.now }
 {
-    let mut c = Cursor { at: at };
-    let mut n = n;
-    while c.at < s.len() {
-        let at = c.at;
-        let l = c.line(s);
-        let e = l.span.to;
-        c = l.next;
-        if commands::begins_table(&s[at..e]) {
-            n += 1;
-        }
-    }
-    n
+    lines_from(s, at)
+        .filter(|line| commands::begins_table(line.bytes))
+        .count()
 }
 
 pub fn count_sections(s: &[u8]) -> usize
     ensures { result ≡ length (sections s.now) }
 {
-    count_from(s, 0, 0)
+    count_from(s, 0)
 }
 
 // How many sections a file has, and where its trailer starts.
@@ -73,20 +57,15 @@ pub fn survey_file(s: &[u8]) -> Survey
         × (result.end ≤ length s.now)
         × (lines (drop result.end s.now) ≡ trailer_lines s.now) }
 {
-    let mut c = Cursor { at: 0 };
     let mut n: usize = 0;
-    while c.at < s.len() {
-        let at = c.at;
-        let l = c.line(s);
-        let e = l.span.to;
-        if commands::begins_end(&s[at..e]) {
+    for line in lines_of(s) {
+        if commands::begins_end(line.bytes) {
             return Survey {
-                sections: count_from(s, at, n),
-                end: at,
+                sections: n + count_from(s, line.at),
+                end: line.at,
             };
         }
-        c = l.next;
-        if commands::begins_table(&s[at..e]) {
+        if commands::begins_table(line.bytes) {
             n += 1;
         }
     }

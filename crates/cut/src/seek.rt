@@ -2,22 +2,17 @@
 ghost use Rattle.std.specs.Prelude.{◌≡◌, ◌+◌, ◌<◌, ◌≤◌, length, drop};
 ghost use Rattle.cut.specs.Walk.{section_size, Next, Reached};
 
-use lines::Cursor;
+use lines::lines_from;
 
 // The next section at or after a line's place: "A section begins at each `tbl` line".
 pub fn find_section(s: &[u8], at: usize) -> usize
     requires { at ≤ length s.now }
     ensures { Next s.now at result }
 {
-    let mut c = Cursor { at: at };
-    while c.at < s.len() {
-        let at = c.at;
-        let l = c.line(s);
-        let e = l.span.to;
-        if commands::begins_table(&s[at..e]) {
-            return at;
+    for line in lines_from(s, at) {
+        if commands::begins_table(line.bytes) {
+            return line.at;
         }
-        c = l.next;
     }
     s.len()
 }
@@ -27,14 +22,11 @@ pub fn find_nth(s: &[u8], k: usize) -> usize
     ensures { Reached s.now k result }
 {
     let mut at = find_section(s, 0);
-    let mut j: usize = 0;
-    while j < k {
+    for _ in 0..k {
         if s.len() <= at {
             return at;
         }
-        let e = section_end(s, at);
-        at = find_section(s, e);
-        j += 1;
+        at = find_section(s, section_end(s, at));
     }
     at
 }
@@ -46,8 +38,9 @@ pub fn section_end(s: &[u8], from: usize) -> usize
         × (from < result)
         × (result ≤ length s.now) }
 {
-    let c = Cursor { at: from };
-    let l = c.line(s);
-    let e = l.span.to;
+    let Some(line) = lines_from(s, from).next() else {
+        return from;
+    };
+    let e = line.end();
     e + crate::cut::header_size(&s[e..])
 }

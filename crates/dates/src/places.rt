@@ -1,47 +1,23 @@
 // Digits and bytes at fixed places of a field, as dates and times have them; a place past the end holds no digit, and byte 0.
 ghost use Rattle.std.specs.Prelude.{◌≡◌, ◌&&◌, ◌+◌, ◌-◌, ◌≤◌, length, take, drop};
-ghost use Rattle.page.specs.Bytes.{all};
-ghost use Rattle.page.specs.Fields.{digit, value};
+ghost use Rattle.page.specs.Fields.{value};
 ghost use Rattle.page.specs.Dates.{number_in, digits_in, byte_is, quoted_size};
 
-use digits::{is_digit, widen};
+use digits::is_digit;
 
 // At most n bytes from a place on.
 fn cut_out(f: &[u8], at: usize, n: usize) -> &[u8]
     ensures { result.now ≡ take n (drop at f.now) }
 {
-    if f.len() <= at {
-        return &f[..0];
-    }
-    if f.len() - at < n {
-        return &f[at..];
-    }
-    let e = at + n;
-    &f[at..e]
-}
-
-fn all_digits(w: &[u8]) -> bool
-    ensures { result ≡ all digit w.now }
-{
-    let mut i = 0;
-    while i < w.len() {
-        let b = w[i];
-        if !is_digit(b) {
-            return false;
-        }
-        i += 1;
-    }
-    true
+    let rest = &f[at.min(f.len())..];
+    &rest[..n.min(rest.len())]
 }
 
 // What a byte adds to a number, whether or not it is a digit.
 fn weigh(b: u8) -> u64
     ensures { (result ≡ b - 48) × (result ≤ 207) }
 {
-    if b < 48 {
-        return 0;
-    }
-    widen(b) - 48
+    u64::from(b.saturating_sub(48))
 }
 
 fn value_of(w: &[u8]) -> u64
@@ -49,10 +25,8 @@ fn value_of(w: &[u8]) -> u64
     ensures { result ≡ value 0 w.now }
 {
     let mut v: u64 = 0;
-    let mut i = 0;
-    while i < w.len() {
-        v = v * 10 + weigh(w[i]);
-        i += 1;
+    for b in w {
+        v = v * 10 + weigh(*b);
     }
     v
 }
@@ -67,32 +41,22 @@ pub fn number_at(f: &[u8], at: usize, n: usize) -> u64
 pub fn has_digits(f: &[u8], at: usize, n: usize) -> bool
     ensures { result ≡ digits_in at n f.now }
 {
-    all_digits(cut_out(f, at, n))
+    cut_out(f, at, n).iter().all(|b| is_digit(*b))
 }
 
+#[tactic(auto, unfolding(page::specs::Dates::byte_is))]
 pub fn has_byte(f: &[u8], at: usize, b: u8) -> bool
     ensures { result ≡ byte_is at b f.now }
 {
-    if at < f.len() {
-        return f[at] == b;
-    }
-    0 == b
+    f.get(at).copied().unwrap_or(0) == b
 }
 
 // A quoted string of n bytes.
+#[tactic(auto, unfolding(page::specs::Dates::quoted_size))]
 pub fn is_quoted(f: &[u8], n: usize) -> bool
     ensures { result ≡ quoted_size n f.now }
 {
-    if f.len() < 2 {
-        return false;
-    }
-    if f.len() - 2 != n {
-        return false;
-    }
-    if !has_byte(f, 0, 34) {
-        return false;
-    }
-    has_byte(f, n + 1, 34)
+    2 <= f.len() && f.len() - 2 == n && has_byte(f, 0, 34) && has_byte(f, n + 1, 34)
 }
 
 // Three numbers of p, 2 and q digits with a separator between them, from place 1 on.
@@ -104,17 +68,9 @@ pub fn is_triple(f: &[u8], p: usize, q: usize, sep: u8) -> bool
         && byte_is (p + 4) sep f.now
         && digits_in (p + 5) q f.now) }
 {
-    if !has_digits(f, 1, p) {
-        return false;
-    }
-    if !has_byte(f, p + 1, sep) {
-        return false;
-    }
-    if !has_digits(f, p + 2, 2) {
-        return false;
-    }
-    if !has_byte(f, p + 4, sep) {
-        return false;
-    }
-    has_digits(f, p + 5, q)
+    has_digits(f, 1, p)
+        && has_byte(f, p + 1, sep)
+        && has_digits(f, p + 2, 2)
+        && has_byte(f, p + 4, sep)
+        && has_digits(f, p + 5, q)
 }

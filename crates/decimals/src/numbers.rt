@@ -1,10 +1,9 @@
 // "Numbers without leading zeros", and what is made of numbers.
-ghost use Rattle.std.specs.Prelude.{◌≡◌, ◌∷◌, ◌++◌, ◌+◌, ◌<◌, ◌^◌, ◌%◌};
-ghost use Rattle.page.specs.Bytes.{bytes};
+ghost use Rattle.std.specs.Prelude.{◌≡◌, ◌∷◌, ◌++◌, ◌+◌, ◌%◌};
 ghost use Rattle.page.specs.Form.{decimal_in, decimal, padded, date_text, time_text, format_text};
-ghost use Rattle.output.specs.Put.{Put};
+ghost use Rattle.output.specs.Put.{Puts};
 
-use output::{put_byte, put_bytes};
+use output::Output;
 use page::{Column, Date, Time};
 
 // The last digit.
@@ -14,94 +13,75 @@ fn digit_of(n: u64) -> u8
     48 + (n % 10) as u8
 }
 
-// At most k + 1 digits.
-fn put_digits(out: &mut [u8], at: usize, k: usize, n: u64) -> usize
-    requires { at + k + 1 < 2 ^ 62 }
-    ensures { Put out.old at (decimal_in k n) out.new result }
+// At most k + 1 digits, the first put first: by recursion, as in the definition `decimal_in`, since a loop would need an array for them.
+fn put_digits(out: &mut Output<'_>, k: usize, n: u64)
+    ensures { Puts out.old (decimal_in k n) out.new }
 {
     if n < 10 {
-        return put_byte(out, at, 48 + n as u8);
+        return out.put_byte(48 + n as u8);
     }
-    if k == 0 {
-        return put_byte(out, at, digit_of(n));
+    if 0 < k {
+        put_digits(out, k - 1, n / 10);
     }
-    let p = put_digits(out, at, k - 1, n / 10);
-    put_byte(out, p, digit_of(n))
+    out.put_byte(digit_of(n));
 }
 
-pub fn put_decimal(out: &mut [u8], at: usize, n: u64) -> usize
-    requires { at + 20 < 2 ^ 62 }
-    ensures { Put out.old at (decimal n) out.new result }
+pub fn put_decimal(out: &mut Output<'_>, n: u64)
+    ensures { Puts out.old (decimal n) out.new }
 {
-    put_digits(out, at, 19, n)
+    put_digits(out, 19, n);
 }
 
 // The last k digits.
-pub fn put_padded(out: &mut [u8], at: usize, k: usize, n: u64) -> usize
-    requires { at + k < 2 ^ 62 }
-    ensures { Put out.old at (padded k n) out.new result }
+pub fn put_padded(out: &mut Output<'_>, k: usize, n: u64)
+    ensures { Puts out.old (padded k n) out.new }
 {
-    if k == 0 {
-        return at;
+    if 0 < k {
+        put_padded(out, k - 1, n / 10);
+        out.put_byte(digit_of(n));
     }
-    let p = put_padded(out, at, k - 1, n / 10);
-    put_byte(out, p, digit_of(n))
 }
 
-// A separator, and k digits after it.
-fn put_next(out: &mut [u8], at: usize, separator: u8, k: usize, n: u64) -> usize
-    requires { at + k + 1 < 2 ^ 62 }
-    ensures { Put out.old at (separator ∷ padded k n) out.new result }
+// Two digits of each number but the last, which has k, and a separator between them.
+fn put_three(out: &mut Output<'_>, a: u64, b: u64, c: u64, separator: u8, k: usize)
+    ensures { Puts out.old (padded 2 a ++ (separator ∷ (padded 2 b ++ (separator ∷ padded k c)))) out.new }
 {
-    let p = put_byte(out, at, separator);
-    put_padded(out, p, k, n)
+    put_padded(out, 2, a);
+    out.put_byte(separator);
+    put_padded(out, 2, b);
+    out.put_byte(separator);
+    put_padded(out, k, c);
 }
 
 // DD.MM.YYYY
-pub fn put_date(out: &mut [u8], at: usize, date: Date) -> usize
-    requires { at + 10 < 2 ^ 62 }
-    ensures { Put out.old at (date_text date) out.new result }
+pub fn put_date(out: &mut Output<'_>, date: Date)
+    ensures { Puts out.old (date_text date) out.new }
 {
-    let a = put_padded(out, at, 2, date.day);
-    let b = put_next(out, a, b'.', 2, date.month);
-    put_next(out, b, b'.', 4, date.year)
+    put_three(out, date.day, date.month, date.year, b'.', 4);
 }
 
 // HH:MM:SS
-pub fn put_time(out: &mut [u8], at: usize, time: Time) -> usize
-    requires { at + 8 < 2 ^ 62 }
-    ensures { Put out.old at (time_text time) out.new result }
+pub fn put_time(out: &mut Output<'_>, time: Time)
+    ensures { Puts out.old (time_text time) out.new }
 {
-    let a = put_padded(out, at, 2, time.hour);
-    let b = put_next(out, a, b':', 2, time.minute);
-    put_next(out, b, b':', 2, time.second)
+    put_three(out, time.hour, time.minute, time.second, b':', 2);
 }
 
-fn put_char(out: &mut [u8], at: usize, size: u64) -> usize
-    requires { at + 32 < 2 ^ 62 }
-    ensures { Put out.old at (bytes "char[" ++ (decimal size ++ bytes "]")) out.new result }
+fn put_sized(out: &mut Output<'_>, kind: &[u8], size: u64, end: &[u8])
+    ensures { Puts out.old (kind.now ++ (decimal size ++ end.now)) out.new }
 {
-    let a = put_bytes(out, at, b"char[");
-    let b = put_decimal(out, a, size);
-    put_byte(out, b, b']')
-}
-
-fn put_num(out: &mut [u8], at: usize, size: u64) -> usize
-    requires { at + 32 < 2 ^ 62 }
-    ensures { Put out.old at (bytes "num[" ++ (decimal size ++ bytes ".0]")) out.new result }
-{
-    let a = put_bytes(out, at, b"num[");
-    let b = put_decimal(out, a, size);
-    put_bytes(out, b, b".0]")
+    out.put_bytes(kind);
+    put_decimal(out, size);
+    out.put_bytes(end);
 }
 
 // "formats with the sizes above"
-pub fn put_format(out: &mut [u8], at: usize, column: Column) -> usize
-    requires { at + 32 < 2 ^ 62 }
-    ensures { Put out.old at (format_text column) out.new result }
+pub fn put_format(out: &mut Output<'_>, column: Column)
+    ensures { Puts out.old (format_text column) out.new }
 {
     if column.text {
-        return put_char(out, at, column.size);
+        put_sized(out, b"char[", column.size, b"]");
+    } else {
+        put_sized(out, b"num[", column.size, b".0]");
     }
-    put_num(out, at, column.size)
 }

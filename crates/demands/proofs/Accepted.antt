@@ -1,4 +1,5 @@
 -- An accepted file hands out its header, and every value that it says; so does what a call has put into lent output. Assumes nothing.
+use Rattle.std.specs.Prelude.{Ok}
 use mathlib.Core.Path.{◌≡◌}
 use Prim.Native.Nat.{ℕ, ◌-◌}
 use native.Mathlib.Omega.{arith}
@@ -8,12 +9,9 @@ use Rattle.page.specs.Cut.{sections, header_lines}
 use Rattle.page.specs.Head.{header_values}
 use Rattle.page.specs.Trailer.{trailer_of}
 use Rattle.page.specs.Model.{Model, content_of, model_of, datum_at}
-use Rattle.page.specs.Answers.{earlier, headed, got}
+use Rattle.page.specs.Answers.{earlier, answered}
 use Rattle.page.specs.File.{found, row_given, row_of, header_refusal, section_refusal, file_refusal, check_of}
 use Rattle.page.specs.Reading.{no_section, section_at, row_at, header_of, value_at, value_of}
-use Rattle.page.specs.declared.Checked.TheVariants as C
-use Rattle.page.specs.declared.Headed.TheVariants as H
-use Rattle.page.specs.declared.Got.TheVariants as G
 use Rattle.calls.specs.Turns.{Within}
 use Rattle.demands.specs.Accepted.{SaysValue, HandsHeader, HandsValue}
 use Rattle.laws.proofs.Earlier.{earlier_none}
@@ -26,7 +24,7 @@ use Rattle.calls.proofs.HandedHeader.{header_handed}
 use Rattle.demands.proofs.FillBack.{every_at}
 use Rattle.demands.proofs.RoundOutput.{Put}
 
-module _ (s : Bytes) (e : check_of s ≡ C.Sound) where
+module _ (s : Bytes) (e : check_of s ≡ (Ok tt)) where
   none_refused : (file_refusal s).number ≡ 0
   none_refused = (accepts_exactly s).1 ((check_sound s).0 e)
 
@@ -35,9 +33,9 @@ module _ (s : Bytes) (e : check_of s ≡ C.Sound) where
   opens = (earlier_none (header_refusal s) (earlier (found (trailer_of s)) (section_refusal s)) none_refused).0
 
   pub accepted_header : HandsHeader s (model_of s).head
-  unfolding header_of headed
+  unfolding header_of answered
   accepted_header =
-      let h : header_of s ≡ H.Is (header_values (header_lines s)) = rw opens in
+      let h : header_of s ≡ Ok (header_values (header_lines s)) = rw opens in
       record { header = header_values (header_lines s); handed = h; stands = header_handed s (header_values (header_lines s)) h }
 
   module _ (i r f : ℕ) (g : SaysValue (model_of s) i r f) where
@@ -60,9 +58,9 @@ module _ (s : Bytes) (e : check_of s ≡ C.Sound) where
         }
 
     pub accepted_value : HandsValue s i r f (datum_at i r f (model_of s))
-    unfolding value_of got
+    unfolding value_of answered
     accepted_value =
-        let h : value_of s i r f ≡ G.Is (value_at (section_at s i) r f) = rw ((value_given s i r f).1 given) in
+        let h : value_of s i r f ≡ Ok (value_at (section_at s i) r f) = rw ((value_given s i r f).1 given) in
         record { value = value_at (section_at s i) r f; handed = h; stands = value_handed s i r f (value_at (section_at s i) r f) h }
 
 -- read again, the output hands out what it should say

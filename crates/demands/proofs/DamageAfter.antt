@@ -1,5 +1,6 @@
 -- Demand 3, after the run: a table that begins there is a table of both files, as much further on as the run is longer, and the calls answer the
 -- same of it but for its place. Assumes nothing.
+use Rattle.std.specs.Prelude.{Err, Ok}
 use mathlib.Core.Path.{◌≡◌, refl, ap, sym, ◌∙◌}
 use mathlib.Core.Bool.{Bool, true, false, false≢true}
 use mathlib.Core.List.{List, ◌++◌}
@@ -12,14 +13,13 @@ use Rattle.page.specs.Cut.{Section, sections}
 use Rattle.page.specs.Lines.{Rec}
 use Rattle.page.specs.Records.{table_index, order_in}
 use Rattle.page.specs.Rules.{times}
-use Rattle.page.specs.Answers.{written}
+use Rattle.page.specs.Answers.{answered}
 use Rattle.page.specs.Head.{latin_of}
 use Rattle.page.specs.File.{row_of, row_given}
 use Rattle.page.specs.Reading.{no_section, section_at, row_at, find_refusal, section_of, verdict_of, value_refusal, record_of, value_at, value_of}
 use Rattle.page.specs.Handing.{text_refusal, place_of, own_text, text_owner, copied, text_out, text_after, cells_of, table_refusal, cells_refusal, table_of, cells_after}
 use Rattle.page.specs.Writing.{put_refusal, put_after}
 use Rattle.page.specs.declared.Refusal.{Refusal}
-use Rattle.page.specs.declared.Written.TheVariants as W
 use Rattle.round.specs.Local.{closed, later, reached, SaysSame}
 use Rattle.demands.specs.Damage.{file, Replaced, After, Shifted, Moved, SameRow, SameValue, SameCells, SameRefusal, SameListed, SameGot, SameHanded, SameTable, a_table, no_table}
 use Rattle.round.proofs.Local.{local_latin, later_at, says_same}
@@ -207,7 +207,7 @@ module _ (a m n b : Bytes) (d : Replaced a m n b) where
     pub after_table : (lent : List ℕ) → SameTable (length m) (length n) i j lent
         (table_of (file a m b) i (length lent)) (cells_after (file a m b) i lent)
         (table_of (file a n b) j (length lent)) (cells_after (file a n b) j lent)
-    unfolding table_of cells_after written
+    unfolding table_of cells_after answered
     after_table lent = by (eqb v.number 0) (eqb w.number 0) (ap (λ (k : ℕ). eqb k 0) (one_number i j (same_room (length lent))))
       where
         v : Refusal
@@ -223,8 +223,8 @@ module _ (a m n b : Bytes) (d : Replaced a m n b) where
         ys = cells_of y
 
         by : (p q : Bool) → p ≡ q →
-            SameTable (length m) (length n) i j lent (pick p (W.Length (length xs)) (W.Refused v)) (pick p (xs ++ drop (length xs) lent) lent)
-            (pick q (W.Length (length ys)) (W.Refused w)) (pick q (ys ++ drop (length ys) lent) lent)
+            SameTable (length m) (length n) i j lent (pick p (Ok (length xs)) (Err v)) (pick p (xs ++ drop (length xs) lent) lent)
+            (pick q (Ok (length ys)) (Err w)) (pick q (ys ++ drop (length ys) lent) lent)
         by true true e = rw (← many) (a_table refl (sym many) same_cells)
         by true false e = absurd (false≢true (sym e))
         by false true e = absurd (false≢true e)

@@ -1,5 +1,6 @@
 -- Demand 3, what lies between: whatever the run has done to a section, it is handed out only if its own bytes denote a table, and then what is handed
 -- out is that table's. It holds of every section of the file with n. Assumes nothing.
+use Rattle.std.specs.Prelude.{Err, Ok}
 use mathlib.Core.Path.{◌≡◌, refl, ap, ◌∙◌}
 use mathlib.Core.Bool.{Bool, true, false, false≢true}
 use mathlib.Core.List.{List, ◌++◌, append_assoc}
@@ -16,7 +17,7 @@ use Rattle.page.specs.Cut.{Section, sections}
 use Rattle.page.specs.Head.{latin_of}
 use Rattle.page.specs.Records.{Datum, words, Record, records_of, table_index}
 use Rattle.page.specs.Model.{model_of, datum_at}
-use Rattle.page.specs.Answers.{listed, got}
+use Rattle.page.specs.Answers.{answered}
 use Rattle.page.specs.File.{row_of, row_given}
 use Rattle.page.specs.Reading.{section_at, row_at, find_refusal, section_of, verdict_of, value_refusal, value_at, value_of}
 use Rattle.page.specs.Handing.{text_refusal, text_out, text_after, own_text, cells_of, table_refusal, table_of, cells_after}
@@ -24,10 +25,6 @@ use Rattle.page.specs.declared.Outcome.{Outcome}
 use Rattle.page.specs.declared.Row.{Row}
 use Rattle.page.specs.declared.Value.{Value}
 use Rattle.page.specs.declared.Copied.{Copied}
-use Rattle.page.specs.declared.Listed.TheVariants as L
-use Rattle.page.specs.declared.Got.TheVariants as G
-use Rattle.page.specs.declared.Handed.TheVariants as Ha
-use Rattle.page.specs.declared.Written.TheVariants as W
 use Rattle.calls.specs.Turns.{Within}
 use Rattle.calls.specs.Handed.{StandsFor, CellAt}
 use Rattle.demands.specs.Damage.{file, Replaced, Before, After, Between, OwnTable, OwnDatum, HoldsTable}
@@ -54,7 +51,7 @@ module _ (s : Bytes) (i : ℕ) where
       rw t.place (run_lines s t.before here.lines t.after t.whole)
 
   own : (find_refusal s i).number ≡ 0 → (row_at s i).verdict ≡ 0 → OwnTable (latin_of s) s i (table_index here.lines) (records_of (latin_of s) here.lines)
-  unfolding section_of listed row_at row_of row_given
+  unfolding section_of answered row_at row_of row_given
   own e v =
       let w = ((find_open s i).0 e).1 in
       let t = handed_denoted (latin_of s) here.lines (section_begins s i w.0 w.1) v in
@@ -66,21 +63,21 @@ module _ (s : Bytes) (i : ℕ) where
         records = count_handed (latin_of s) here.lines;
       }
 
-listed_is : (s : Bytes) (i : ℕ) (w : Row) → section_of s i ≡ L.Is w → ((find_refusal s i).number ≡ 0) × (row_at s i ≡ w)
-unfolding section_of listed
+listed_is : (s : Bytes) (i : ℕ) (w : Row) → section_of s i ≡ Ok w → ((find_refusal s i).number ≡ 0) × (row_at s i ≡ w)
+unfolding section_of answered
 listed_is s i w e = by (eqb (find_refusal s i).number 0) refl e
   where
-    by : (q : Bool) → eqb (find_refusal s i).number 0 ≡ q → pick q (L.Is (row_at s i)) (L.Refused (find_refusal s i)) ≡ L.Is w →
+    by : (q : Bool) → eqb (find_refusal s i).number 0 ≡ q → pick q (Ok (row_at s i)) (Err (find_refusal s i)) ≡ Ok w →
         ((find_refusal s i).number ≡ 0) × (row_at s i ≡ w)
     by true h e = (eqb-true (find_refusal s i).number 0 h, cc)
     by false h e = absurd (false≢true (cc))
 
-got_is : (s : Bytes) (i r f : ℕ) (v : Value) → value_of s i r f ≡ G.Is v → (value_refusal s i r f).number ≡ 0
-unfolding value_of got
+got_is : (s : Bytes) (i r f : ℕ) (v : Value) → value_of s i r f ≡ Ok v → (value_refusal s i r f).number ≡ 0
+unfolding value_of answered
 got_is s i r f v e = by (eqb (value_refusal s i r f).number 0) refl e
   where
     by : (q : Bool) → eqb (value_refusal s i r f).number 0 ≡ q →
-        pick q (G.Is (value_at (section_at s i) r f)) (G.Refused (value_refusal s i r f)) ≡ G.Is v → (value_refusal s i r f).number ≡ 0
+        pick q (Ok (value_at (section_at s i) r f)) (Err (value_refusal s i r f)) ≡ Ok v → (value_refusal s i r f).number ≡ 0
     by true h e = eqb-true (value_refusal s i r f).number 0 h
     by false h e = absurd (false≢true (cc))
 
@@ -119,7 +116,7 @@ module _ (a m n b : Bytes) (d : Replaced a m n b) where
     count = rw latin (count_handed (latin_of a) ls)
 
     -- `section`: a row of verdict 0
-    pub between_section : (w : Row) → section_of (file a n b) i ≡ L.Is w → w.verdict ≡ 0 →
+    pub between_section : (w : Row) → section_of (file a n b) i ≡ Ok w → w.verdict ≡ 0 →
         (t : ℕ) × (rs : List Record) × OwnTable (latin_of a) (file a n b) i t rs
     between_section w e v =
         let x = listed_is (file a n b) i w e in
@@ -137,14 +134,14 @@ module _ (a m n b : Bytes) (d : Replaced a m n b) where
         }
 
     -- `value`
-    pub between_value : (r f : ℕ) (v : Value) → value_of (file a n b) i r f ≡ G.Is v →
+    pub between_value : (r f : ℕ) (v : Value) → value_of (file a n b) i r f ≡ Ok v →
         (x : Datum) × OwnDatum (latin_of a) (file a n b) i r f x × StandsFor (file a n b) v x
     between_value r f v e =
         let g = (value_given (file a n b) i r f).0 (got_is (file a n b) i r f v e) in
         (datum_at i r f (model_of (file a n b)), own_datum r f g, value_handed (file a n b) i r f v e)
 
     -- `text`
-    pub between_text : (r f : ℕ) (out : Bytes) (x : Copied) → text_out (file a n b) i r f (length out) ≡ Ha.Is x →
+    pub between_text : (r f : ℕ) (out : Bytes) (x : Copied) → text_out (file a n b) i r f (length out) ≡ Ok x →
         (w : Bytes) × OwnDatum (latin_of a) (file a n b) i r f (words x.owner w) × (x.length ≡ length w)
         × (text_after (file a n b) i r f out ≡ w ++ drop (length w) out)
     unfolding text_refusal text_after
@@ -168,7 +165,7 @@ module _ (a m n b : Bytes) (d : Replaced a m n b) where
             record { opens = o.0; section = o.1; sound = v; record_there = rw count p; field_there = q }
 
     -- `table`
-    pub between_table : (lent : List ℕ) (c : ℕ) → table_of (file a n b) i (length lent) ≡ W.Length c →
+    pub between_table : (lent : List ℕ) (c : ℕ) → table_of (file a n b) i (length lent) ≡ Ok c →
         (t : ℕ) × (rs : List Record) × OwnTable (latin_of a) (file a n b) i t rs × (c ≡ length rs * (width t * 3))
         × HoldsTable (file a n b) t rs (cells_after (file a n b) i lent)
     unfolding table_refusal

@@ -15,7 +15,7 @@ use Rattle.page.specs.Marks.{owner_of}
 use Rattle.page.specs.Records.{waits}
 use Rattle.page.specs.Places.{Standing, stands, record_at, this_or}
 use Rattle.page.specs.Rules.{times}
-use Rattle.page.specs.Answers.{refusal, sound, earlier, refuse_if, listed, got, handed}
+use Rattle.page.specs.Answers.{refusal, sound, earlier, refuse_if, answered}
 use Rattle.page.specs.File.{too_long, header_refusal}
 use Rattle.page.specs.Reading.{verdict_of, later_field, field_at, valued, value_in}
 use Rattle.page.specs.Handing.{cell_of, record_cells, cells_in}
@@ -74,16 +74,16 @@ module _ (i j : ℕ) where
 
   -- answers
 
-  pub same_listed : {k l : ℕ} {x y : Refusal} {r q : Row} → SameRefusal i j x y → SameRow k l r q → SameListed k l i j (listed x r) (listed y q)
-  unfolding listed
+  pub same_listed : {k l : ℕ} {x y : Refusal} {r q : Row} → SameRefusal i j x y → SameRow k l r q → SameListed k l i j (answered x r) (answered y q)
+  unfolding answered
   same_listed {k} {l} h w = alike (SameListed k l i j) h (λ z. a_row w) (no_row h)
 
-  pub same_got : {k l : ℕ} {x y : Refusal} {v w : Value} → SameRefusal i j x y → (x.number ≡ 0 → SameValue k l v w) → SameGot k l i j (got x v) (got y w)
-  unfolding got
+  pub same_got : {k l : ℕ} {x y : Refusal} {v w : Value} → SameRefusal i j x y → (x.number ≡ 0 → SameValue k l v w) → SameGot k l i j (answered x v) (answered y w)
+  unfolding answered
   same_got {k} {l} h g = alike (SameGot k l i j) h (λ z. a_value (g z)) (no_value h)
 
-  pub same_handed : {x y : Refusal} {c d : Copied} → SameRefusal i j x y → c ≡ d → SameHanded i j (handed x c) (handed y d)
-  unfolding handed
+  pub same_handed : {x y : Refusal} {c d : Copied} → SameRefusal i j x y → c ≡ d → SameHanded i j (answered x c) (answered y d)
+  unfolding answered
   same_handed h e = rw e (alike (SameHanded i j) h (λ z. a_text) (no_text h))
 
 -- values

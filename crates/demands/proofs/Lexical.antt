@@ -1,8 +1,8 @@
 -- The smallest pieces of a file are read exactly as what they are: numbers, formats, mark texts. Assumes nothing.
+use Rattle.std.specs.Prelude.{None, Option, Some}
 use mathlib.Core.Path.{◌≡◌, refl, ap, sym, ◌∙◌}
 use mathlib.Core.Bool.{Bool, true, false, not, ◌&&◌, false≢true}
 use mathlib.Core.List.{[], ◌∷◌, ◌++◌, append_assoc, append-nil}
-use mathlib.Core.Option.{Option, none, some}
 use mathlib.Core.Logic.{◌⊎◌, inl, inr, ◌↔◌}
 use Prim.Native.Nat.{ℕ, zero, suc, ◌+◌, ◌-◌, ◌*◌, ◌≤◌, ◌<◌}
 use native.Mathlib.Omega.{arith}
@@ -280,5 +280,5 @@ unfolding remark_of
 remark_exactly w i = (by (text_of (trim w)) refl, λ m. rw ((text_exactly (trim w) m.0).1 m.1) ((mark_exactly m.0 i).1 m.2))
   where
     by : (o : Option Bytes) → text_of (trim w) ≡ o → mark_in o ≡ R.Mark i → (t : Bytes) × (trim w ≡ quoted t) × MarkText t i
-    by none h e = absurd (false≢true (cc))
-    by (some t) h e = (t, (text_exactly (trim w) t).0 h, (mark_exactly t i).0 e)
+    by None h e = absurd (false≢true (cc))
+    by (Some t) h e = (t, (text_exactly (trim w) t).0 h, (mark_exactly t i).0 e)

@@ -1,9 +1,9 @@
 -- A record's text is exactly what stands before the spaces at its end, and none of an accepted file, so none that is written of it, ends in
 -- one. Assumes nothing.
+use Rattle.std.specs.Prelude.{Some}
 use mathlib.Core.Path.{◌≡◌, refl, ap, sym, ◌∙◌}
 use mathlib.Core.Bool.{Bool, true, false}
 use mathlib.Core.List.{List, [], ◌∷◌, ◌++◌, append_assoc, append-nil}
-use mathlib.Core.Option.{some}
 use mathlib.Core.Logic.{◌↔◌}
 use Prim.Native.Nat.{ℕ, zero, suc, ◌-◌}
 use native.Mathlib.Omega.{arith}
@@ -72,11 +72,11 @@ kept_bare (b ∷ t) e q =
     let w : take (length l) l ≡ l = take_all (length l) l (omega arith) in
     omega (arith, ap (keep space) w, unpadded_length l, ap length e, keep_le space (take (length l - 1) l), length-take-le (length l - 1) l (omega arith))
 
-pub padded_exactly : (f t : Bytes) → record_text f ≡ some t ↔ PaddedText f t
+pub padded_exactly : (f t : Bytes) → record_text f ≡ Some t ↔ PaddedText f t
 unfolding unpadded
 padded_exactly f t = (there, back)
   where
-    there : record_text f ≡ some t → PaddedText f t
+    there : record_text f ≡ Some t → PaddedText f t
     there e =
         let x = padded_of f t e in
         record {
@@ -85,7 +85,7 @@ padded_exactly f t = (there, back)
           bare = kept_bare t (record_trimmed f t e);
         }
 
-    back : PaddedText f t → record_text f ≡ some t
+    back : PaddedText f t → record_text f ≡ Some t
     back p =
         let k : keep space (t ++ blanks p.spaces) ≡ length t = keep_blanks t p.spaces ∙ bare_kept t p.bare in
         rw (p.whole, record_text_is (quoted (t ++ blanks p.spaces)), quoted_text (t ++ blanks p.spaces), k, take-append_seam t (blanks p.spaces))

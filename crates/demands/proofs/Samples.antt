@@ -1,4 +1,5 @@
 -- Lines that the machine takes in any order of a table's columns: one with its formats, and one with a record, whatever mark waits. Assumes nothing.
+use Rattle.std.specs.Prelude.{Ok}
 use mathlib.Core.Path.{◌≡◌, refl, ap, sym, ◌∙◌}
 use mathlib.Core.Bool.{Bool, true, false, ◌&&◌, false≢true}
 use mathlib.Core.List.{List, [], ◌∷◌, map}
@@ -20,7 +21,6 @@ use Rattle.page.specs.Form.{separated, line, decimal, quoted, format_text}
 use Rattle.page.specs.Open.{open_all}
 use Rattle.page.specs.declared.LineEnd.TheVariants as E
 use Rattle.page.specs.declared.Phase.TheVariants as P
-use Rattle.page.specs.declared.Step.TheVariants as S
 use Rattle.page.proofs.TableLaws.{listed, each_table}
 use Rattle.page.proofs.OrderLaws.{upto_length, upto_at, all_upto, arranged_long, arranged_below, place_in, by_column_length, by_column_at, sound_by_column}
 use Rattle.grammar.proofs.Arranged.{empty_by_column}
@@ -102,7 +102,7 @@ unfolding formats_ok standing column_at
 formats_right t h [] b = refl
 formats_right t h (c ∷ o) b = rw (formed t c h (b 0 (omega arith))).right (formats_right t h o (λ p k. b (suc p) (omega arith)))
 
-pub formats_step : (latin : Bool) (t : ℕ) (o : Order) → t < TABLES → arranged (width t) o ≡ true → step latin (P.Frm t) o (formats_line t o) ≡ S.Go (P.Rows t 0 0)
+pub formats_step : (latin : Bool) (t : ℕ) (o : Order) → t < TABLES → arranged (width t) o ≡ true → step latin (P.Frm t) o (formats_line t o) ≡ Ok (P.Rows t 0 0)
 unfolding step content_step choose line_step frm_step formats_line
 formats_step latin t [] h a = absurd (none_arranged t h a)
 formats_step latin t (c ∷ o) h a =
@@ -202,7 +202,7 @@ sample_verdict t o h a m =
     )
 
 -- it is taken whatever mark waits
-pub sample_step : (latin : Bool) (t : ℕ) (o : Order) (m n : ℕ) → t < TABLES → arranged (width t) o ≡ true → step latin (P.Rows t m n) o (sample_line t o) ≡ S.Go (P.Rows t 0 (suc n))
+pub sample_step : (latin : Bool) (t : ℕ) (o : Order) (m n : ℕ) → t < TABLES → arranged (width t) o ≡ true → step latin (P.Rows t m n) o (sample_line t o) ≡ Ok (P.Rows t 0 (suc n))
 unfolding step content_step choose line_step rec_step sample_line
 sample_step latin t [] m n h a = absurd (none_arranged t h a)
 sample_step latin t (c ∷ o) m n h a =

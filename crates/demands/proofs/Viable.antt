@@ -1,4 +1,5 @@
 -- A section is refused neither too early nor too late: the lines before its place can still become a section, and with the line there they cannot.
+use Rattle.std.specs.Prelude.{Err, Ok, Result}
 use mathlib.Core.Path.{◌≡◌, refl, ap, sym, ◌∙◌}
 use mathlib.Core.Bool.{Bool, true, false≢true}
 use mathlib.Core.List.{List, [], ◌∷◌, ◌++◌, append-nil}
@@ -19,8 +20,6 @@ use Rattle.page.specs.Refusals.{FirstBroken, laws, Leads, quiet, tbl, atr, frm, 
 use Rattle.page.specs.declared.LineEnd.TheVariants as E
 use Rattle.page.specs.declared.Phase.{Phase}
 use Rattle.page.specs.declared.Phase.TheVariants as P
-use Rattle.page.specs.declared.Step.{Step}
-use Rattle.page.specs.declared.Step.TheVariants as S
 use Rattle.page.specs.declared.Outcome.{Outcome}
 use Rattle.page.proofs.OrderLaws.{listed_arranged}
 use Rattle.demands.specs.Viable.{Viable, SectionPlace, breaks, lacks}
@@ -80,7 +79,7 @@ module _ (latin : Bool) where
       reach_once (ordered_on h d) g (rw (z, w) at f)
 
   -- what a line leads to, where it leaves the order x
-  one_step : {p q : Phase} {o x : Order} (l : Bytes) → Ordered p o → step latin p o l ≡ S.Go q → order_after p o (content l) ≡ x → Leads latin l p o q x
+  one_step : {p q : Phase} {o x : Order} (l : Bytes) → Ordered p o → step latin p o l ≡ Ok q → order_after p o (content l) ≡ x → Leads latin l p o q x
   one_step {p} {q} {o} l d e w = rw w at ((go_exactly latin l p o d q).0 e)
 
   abbrev Ends : Phase → Order → Type 0
@@ -131,13 +130,13 @@ module _ (latin : Bool) where
   sound_reach p o n [] more d e = (p, o, stay)
   sound_reach p o n (l ∷ ls) more d e = by (λ q x. sound_reach q x (suc n) ls more) (step latin p o l) refl e
     where
-      by : ((q : Phase) (x : Order) → Ordered q x → (run latin q x (suc n) (ls ++ more)).verdict ≡ 0 → Reached q x ls) → (s : Step) → step latin p o l ≡ s →
+      by : ((q : Phase) (x : Order) → Ordered q x → (run latin q x (suc n) (ls ++ more)).verdict ≡ 0 → Reached q x ls) → (s : Result Phase ℕ) → step latin p o l ≡ s →
           (continue s (table_in p) (suc n) (λ q. run latin q (order_after p o (content l)) (suc n) (ls ++ more))).verdict ≡ 0 → Reached p o (l ∷ ls)
-      by ih (S.Go q) h e =
+      by ih (Ok q) h e =
           let g = (go_exactly latin l p o d q).0 h in
           let y = ih q (order_after p o (content l)) (ordered_on g d) e in
           (y.0, y.1, move g y.2)
-      by ih (S.Stop v) h e = absurd (laws_some latin p o l v ((stop_exactly latin l p o d v).0 h) e)
+      by ih (Err v) h e = absurd (laws_some latin p o l v ((stop_exactly latin l p o d v).0 h) e)
 
   viable_reach : (ls : List Bytes) → Viable latin ls → Reached P.Tbl [] ls
   unfolding outcome
@@ -162,7 +161,7 @@ module _ (latin : Bool) where
       no_lead p r x y e w (move h s) =
           let d : Ordered p x = rw (e, w) at (reach_ordered latin tt g) in
           let a = leads_go d h in
-          let b : step latin p x l ≡ S.Stop v = rw (e, w) at ((stop_exactly latin l q o (reach_ordered latin tt g) v).1 f) in
+          let b : step latin p x l ≡ Err v = rw (e, w) at ((stop_exactly latin l q o (reach_ordered latin tt g) v).1 f) in
           false≢true (cc)
 
   shorter : (before after : List Bytes) (l : Bytes) (ls : List Bytes) → ls ≡ before ++ (l ∷ after) → length before + suc (length after) ≡ length ls
@@ -194,9 +193,9 @@ module _ (latin : Bool) where
           ordered : Ordered y.0 y.1
           ordered = reach_ordered latin tt y.2
 
-          on : (s : Step) → step latin y.0 y.1 l ≡ s → (k : ℕ) × (v : ℕ) × Refused latin ls k v n
-          on (S.Stop v) f = (table_in y.0, v, at_line before after l y.0 y.1 e y.2 ((stop_exactly latin l y.0 y.1 ordered v).0 f) refl b)
-          on (S.Go r) f =
+          on : (s : Result Phase ℕ) → step latin y.0 y.1 l ≡ s → (k : ℕ) × (v : ℕ) × Refused latin ls k v n
+          on (Err v) f = (table_in y.0, v, at_line before after l y.0 y.1 e y.2 ((stop_exactly latin l y.0 y.1 ordered v).0 f) refl b)
+          on (Ok r) f =
               let z = shorter before after l ls e in
               let g = (go_exactly latin l y.0 y.1 ordered r).0 f in
               absurd (lost (reach_viable (before ++ (l ∷ [])) r (order_after y.0 y.1 (content l)) (rw length-append (omega arith)) (reach_join y.2 (move g stay))))

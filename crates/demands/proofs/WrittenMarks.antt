@@ -1,8 +1,8 @@
 -- "marks stand directly before their record": in a written file each suggestion's mark does, and there is no other `com` line. Assumes nothing.
+use Rattle.std.specs.Prelude.{None, Option, Some}
 use mathlib.Core.Path.{◌≡◌, refl, ap, sym, ◌∙◌}
 use mathlib.Core.Bool.{Bool, true, false, false≢true}
 use mathlib.Core.List.{List, [], ◌∷◌, ◌++◌, map, append_assoc, Memᴰ}
-use mathlib.Core.Option.{Option, none, some}
 use Prim.Native.Nat.{ℕ, zero, suc, ◌+◌, ◌-◌, ◌<◌}
 use Prim.Native.String.{String}
 use native.Mathlib.Omega.{arith}
@@ -69,7 +69,7 @@ unfolding quoted all digit
 quoted_no_number n t e = false≢true (ap (all digit) (sym e) ∙ decimal_all n)
 
 quoted_once : (t u : Bytes) → quoted t ≡ quoted u → t ≡ u
-quoted_once t u e = let z : some t ≡ some u = sym (quoted_text t) ∙ (ap text_of e ∙ quoted_text u) in cc
+quoted_once t u e = let z : Some t ≡ Some u = sym (quoted_text t) ∙ (ap text_of e ∙ quoted_text u) in cc
 
 -- the value that the mark speaks of
 owned_at : {m i : ℕ} {vs : Record} → Owned m i vs → (j : ℕ) (t : Bytes) → get_or (map datum_text vs) j [] ≡ quoted t → m ≡ i + j → get_or vs j (number 0) ≡ words O.Suggestion t
@@ -131,10 +131,10 @@ no_comment s e = rw s.named e
 named_other : (l : Bytes) {k : ℕ} → command (content l) ≡ k → eqb k Com ≡ false → NoComment l
 named_other l h e = rw h e
 
-comment_if : (ends : LineEnd) {P : Bytes → Bytes → Type 0} (s : String) (d : Option Bytes) → ((t : Bytes) → PrintedIf (some t) → NoComment (text_line ends s t)) → PrintedIf d → Only P (lines_if ends s d)
+comment_if : (ends : LineEnd) {P : Bytes → Bytes → Type 0} (s : String) (d : Option Bytes) → ((t : Bytes) → PrintedIf (Some t) → NoComment (text_line ends s t)) → PrintedIf d → Only P (lines_if ends s d)
 unfolding lines_if
-comment_if ends s none f p = over
-comment_if ends s (some t) f p = plain (f t p) over
+comment_if ends s None f p = over
+comment_if ends s (Some t) f p = plain (f t p) over
 
 head_only : (ends : LineEnd) {P : Bytes → Bytes → Type 0} (h : Head) → SoundHead h → Only P (head_lines ends h)
 unfolding head_lines

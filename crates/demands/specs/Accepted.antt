@@ -1,5 +1,5 @@
 -- What is handed out of an accepted file: its header, and each value that it says.
-use Rattle.std.specs.Prelude.{◌≡◌, [], ℕ, ◌-◌, length, get_or}
+use Rattle.std.specs.Prelude.{◌≡◌, [], ℕ, ◌-◌, length, get_or, Ok}
 use Rattle.page.specs.Bytes.{Bytes}
 use Rattle.page.specs.Tables.{width}
 use Rattle.page.specs.Head.{Head}
@@ -7,9 +7,7 @@ use Rattle.page.specs.Records.{Datum}
 use Rattle.page.specs.Model.{Content, Model}
 use Rattle.page.specs.Reading.{header_of, value_of}
 use Rattle.page.specs.declared.Header.{Header}
-use Rattle.page.specs.declared.Headed.TheVariants as H
 use Rattle.page.specs.declared.Value.{Value}
-use Rattle.page.specs.declared.Got.TheVariants as G
 use Rattle.calls.specs.Turns.{Within}
 use Rattle.calls.specs.Handed.{StandsFor}
 use Rattle.calls.specs.HandedHeader.{HeaderStandsFor}
@@ -27,11 +25,11 @@ pub record SaysValue (m : Model) (i r f : ℕ) : Type 0 where
 -- `header` is not refused, and what it hands out stands for h
 pub record HandsHeader (s : Bytes) (h : Head) : Type 0 where
   pub header : Header
-  pub handed : header_of s ≡ H.Is header
+  pub handed : header_of s ≡ Ok header
   pub stands : HeaderStandsFor s header h
 
 -- `value` is not refused there, and what it hands out stands for d
 pub record HandsValue (s : Bytes) (i r f : ℕ) (d : Datum) : Type 0 where
   pub value : Value
-  pub handed : value_of s i r f ≡ G.Is value
+  pub handed : value_of s i r f ≡ Ok value
   pub stands : StandsFor s value d

@@ -1,6 +1,6 @@
 -- Demand 3: replacing whole lines after the first table line changes no table outside the run. The two files, their tables by the bytes where they
 -- stand, and what answers are the same but for the place.
-use Rattle.std.specs.Prelude.{◌≡◌, Bool, List, [], ◌++◌, ℕ, ◌+◌, ◌-◌, ◌*◌, ◌<◌, ◌≤◌, length, get_or, take, drop}
+use Rattle.std.specs.Prelude.{◌≡◌, Bool, List, [], ◌++◌, ℕ, ◌+◌, ◌-◌, ◌*◌, ◌<◌, ◌≤◌, length, get_or, take, drop, Err, Ok, Result}
 use Rattle.page.specs.Bytes.{Bytes}
 use Rattle.page.specs.Lines.{lines}
 use Rattle.page.specs.Tables.{number_at, width}
@@ -17,14 +17,6 @@ use Rattle.page.specs.declared.Value.{Value}
 use Rattle.page.specs.declared.Value.TheVariants as Va
 use Rattle.page.specs.declared.Refusal.{Refusal}
 use Rattle.page.specs.declared.Copied.{Copied}
-use Rattle.page.specs.declared.Listed.{Listed}
-use Rattle.page.specs.declared.Listed.TheVariants as L
-use Rattle.page.specs.declared.Got.{Got}
-use Rattle.page.specs.declared.Got.TheVariants as G
-use Rattle.page.specs.declared.Handed.{Handed}
-use Rattle.page.specs.declared.Handed.TheVariants as Ha
-use Rattle.page.specs.declared.Written.{Written}
-use Rattle.page.specs.declared.Written.TheVariants as W
 use Rattle.page.proofs.LineLaws.{Whole}
 use Rattle.round.specs.Local.{Run}
 use Rattle.calls.specs.Turns.{Within}
@@ -95,29 +87,29 @@ pub data SameRefusal (i j : ℕ) : Refusal → Refusal → Type 0 where
   of_section : {v n : ℕ} → SameRefusal i j (refusal v i n) (refusal v j n)
 
 -- the answers of `section`, `value` and `text`
-pub data SameListed (k l i j : ℕ) : Listed → Listed → Type 0 where
-  a_row : {r q : Row} → SameRow k l r q → SameListed k l i j (L.Is r) (L.Is q)
-  no_row : {x y : Refusal} → SameRefusal i j x y → SameListed k l i j (L.Refused x) (L.Refused y)
+pub data SameListed (k l i j : ℕ) : Result Row Refusal → Result Row Refusal → Type 0 where
+  a_row : {r q : Row} → SameRow k l r q → SameListed k l i j (Ok r) (Ok q)
+  no_row : {x y : Refusal} → SameRefusal i j x y → SameListed k l i j (Err x) (Err y)
 
-pub data SameGot (k l i j : ℕ) : Got → Got → Type 0 where
-  a_value : {v w : Value} → SameValue k l v w → SameGot k l i j (G.Is v) (G.Is w)
-  no_value : {x y : Refusal} → SameRefusal i j x y → SameGot k l i j (G.Refused x) (G.Refused y)
+pub data SameGot (k l i j : ℕ) : Result Value Refusal → Result Value Refusal → Type 0 where
+  a_value : {v w : Value} → SameValue k l v w → SameGot k l i j (Ok v) (Ok w)
+  no_value : {x y : Refusal} → SameRefusal i j x y → SameGot k l i j (Err x) (Err y)
 
-pub data SameHanded (i j : ℕ) : Handed → Handed → Type 0 where
-  a_text : {x : Copied} → SameHanded i j (Ha.Is x) (Ha.Is x)
-  no_text : {x y : Refusal} → SameRefusal i j x y → SameHanded i j (Ha.Refused x) (Ha.Refused y)
+pub data SameHanded (i j : ℕ) : Result Copied Refusal → Result Copied Refusal → Type 0 where
+  a_text : {x : Copied} → SameHanded i j (Ok x) (Ok x)
+  no_text : {x y : Refusal} → SameRefusal i j x y → SameHanded i j (Err x) (Err y)
 
 -- the answers of `table`, each with what the lent cells then hold
-pub data SameTable (k l i j : ℕ) (lent : List ℕ) : Written → List ℕ → Written → List ℕ → Type 0 where
+pub data SameTable (k l i j : ℕ) (lent : List ℕ) : Result ℕ Refusal → List ℕ → Result ℕ Refusal → List ℕ → Type 0 where
   a_table : {c : ℕ} {xs ys : List ℕ} → length xs ≡ c → length ys ≡ c → SameCells k l xs ys →
-      SameTable k l i j lent (W.Length c) (xs ++ drop c lent) (W.Length c) (ys ++ drop c lent)
-  no_table : {x y : Refusal} → SameRefusal i j x y → SameTable k l i j lent (W.Refused x) lent (W.Refused y) lent
+      SameTable k l i j lent (Ok c) (xs ++ drop c lent) (Ok c) (ys ++ drop c lent)
+  no_table : {x y : Refusal} → SameRefusal i j x y → SameTable k l i j lent (Err x) lent (Err y) lent
 
 -- of what lies between, a table is handed out only if its own bytes meet the rules: section i is listed, and the bytes that its row names denote table
 -- t with the records rs
 pub record OwnTable (latin : Bool) (s : Bytes) (i t : ℕ) (rs : List Record) : Type 0 where
   pub row : Row
-  pub listed : section_of s i ≡ L.Is row
+  pub listed : section_of s i ≡ Ok row
   pub denotes : Denotes latin (lines (take row.length (drop row.place s))) t rs
   pub table : row.table ≡ number_at t
   pub records : row.records ≡ length rs

@@ -1,8 +1,7 @@
 -- Digits read as one answer: that they are 1 to 18 digits, and what they are worth.
+use Rattle.std.specs.Prelude.{None, Option, Some, ℕ}
 use Rattle.page.specs.Bytes.{Bytes, pick}
 use Rattle.page.specs.Fields.{digits, value}
-use Rattle.digits.specs.declared.numbers.Magnitude.{Magnitude}
-use Rattle.digits.specs.declared.numbers.Magnitude.TheVariants as M
 
-unfoldable pub magnitude_of : Bytes → Magnitude
-magnitude_of ds = pick (digits ds) (M.Is (value 0 ds)) M.Nothing
+unfoldable pub magnitude_of : Bytes → Option ℕ
+magnitude_of ds = pick (digits ds) (Some (value 0 ds)) None

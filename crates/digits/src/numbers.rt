@@ -5,73 +5,50 @@ ghost use Rattle.digits.specs.Magnitudes.{magnitude_of};
 
 use page::Number;
 
-// What 1 to 18 digits are worth.
-#[derive(Clone, Copy)]
-pub enum Magnitude {
-    Is(u64),
-    Nothing,
-}
-
+#[tactic(auto, unfolding(page::specs::Fields::digit))]
 pub fn is_digit(b: u8) -> bool
     ensures { result ≡ digit b }
 {
-    if b < 48 { false } else { b <= 57 }
+    48 <= b && b <= 57
 }
 
 pub fn widen(b: u8) -> u64
     ensures { result ≡ b }
 {
-    b as u64
+    u64::from(b)
 }
 
-pub fn read_digits(ds: &[u8]) -> Magnitude
+pub fn read_digits(ds: &[u8]) -> Option<u64>
     ensures { result ≡ magnitude_of ds.now }
 {
-    if ds.len() == 0 {
-        return Magnitude::Nothing;
-    }
-    if 18 < ds.len() {
-        return Magnitude::Nothing;
+    if ds.is_empty() || 18 < ds.len() {
+        return None;
     }
     let mut v: u64 = 0;
-    let mut i = 0;
-    while i < ds.len() {
-        let b = ds[i];
-        if !is_digit(b) {
-            return Magnitude::Nothing;
+    for b in ds {
+        if !is_digit(*b) {
+            return None;
         }
-        v = v * 10 + (widen(b) - 48);
-        i += 1;
+        v = v * 10 + u64::from(*b - 48);
     }
-    Magnitude::Is(v)
+    Some(v)
 }
 
 // `-0` is 0.
 fn negate(v: u64) -> Number
     ensures { result ≡ minus v }
 {
-    if v == 0 {
-        Number::Plus(0)
-    } else {
-        Number::Minus(v)
+    match v {
+        0 => Number::Plus(0),
+        _ => Number::Minus(v),
     }
 }
 
 pub fn read_number(f: &[u8]) -> Number
     ensures { result ≡ number_of f.now }
 {
-    if f.len() == 0 {
-        return Number::Nothing;
-    }
-    if f[0] == 45 {
-        match read_digits(&f[1..]) {
-            Magnitude::Is(v) => negate(v),
-            Magnitude::Nothing => Number::Nothing,
-        }
-    } else {
-        match read_digits(f) {
-            Magnitude::Is(v) => Number::Plus(v),
-            Magnitude::Nothing => Number::Nothing,
-        }
+    match f {
+        [45, ds @ ..] => read_digits(ds).map_or(Number::Nothing, negate),
+        _ => read_digits(f).map_or(Number::Nothing, Number::Plus),
     }
 }

@@ -7,7 +7,7 @@ ghost use Rattle.page.specs.Fields.{field_size, number_of};
 ghost use Rattle.page.specs.declared.Number.TheVariants as N;
 ghost use Rattle.digits.specs.Runs.{field_from, Run};
 
-use crate::numbers::{is_digit, read_number, widen};
+use crate::numbers::{is_digit, read_number};
 use page::Number;
 
 // Digits: what they are worth, and where they end.
@@ -29,10 +29,7 @@ pub fn skip_space(w: &[u8], at: usize) -> usize
     requires { at < length w.now }
     ensures { result ≡ pick (space (get_or w.now at 0)) (at + 1) at }
 {
-    if w[at] == 32 {
-        return at + 1;
-    }
-    at
+    if w[at] == 32 { at + 1 } else { at }
 }
 
 // How far 18 digits can reach.
@@ -40,10 +37,7 @@ fn reach(w: &[u8], from: usize) -> usize
     requires { from ≤ length w.now }
     ensures { (from ≤ result) × (result ≤ from + 18) × (result ≤ length w.now) }
 {
-    if 18 < w.len() - from {
-        return from + 18;
-    }
-    w.len()
+    w.len().min(from + 18)
 }
 
 fn digits_at(w: &[u8], from: usize) -> Digits
@@ -51,40 +45,35 @@ fn digits_at(w: &[u8], from: usize) -> Digits
     ensures { Run w.now from result.to result.value }
 {
     let most = reach(w, from);
-    let mut v: u64 = 0;
-    let mut i = from;
-    while i < most {
-        let b = w[i];
+    let mut value: u64 = 0;
+    for to in from..most {
+        let b = w[to];
         if !is_digit(b) {
-            return Digits { value: v, to: i };
+            return Digits { value, to };
         }
-        v = v * 10 + (widen(b) - 48);
-        i += 1;
+        value = value * 10 + u64::from(b - 48);
     }
-    Digits { value: v, to: i }
+    Digits { value, to: most }
 }
 
 // Whether a field that has come to a place outside quotes ends there.
 pub fn ends_at(w: &[u8], at: usize) -> bool
     ensures { result ≡ eqb (field_size false (drop at w.now)) 0 }
 {
-    if at < w.len() {
-        return w[at] == 59;
-    }
-    true
+    w.len() <= at || w[at] == 59
 }
 
+// Not one with the text fields' `text_slowly`: they agree in where a field ends, and in nothing that they read.
 fn number_slowly(w: &[u8], at: usize) -> Counted
     requires { at ≤ length w.now }
     ensures { (result.end ≡ at + field_size false (drop at w.now))
         × (result.number ≡ number_of (field_from w.now at))
         × (result.clean ≡ false) }
 {
-    let e = commands::field_end(w, at);
-    let n = read_number(lines::trimmed(&w[at..e]));
+    let end = commands::field_end(w, at);
     Counted {
-        number: n,
-        end: e,
+        number: read_number(lines::trimmed(&w[at..end])),
+        end,
         clean: false,
     }
 }
@@ -94,9 +83,10 @@ fn number_of(digits: Digits, from: usize) -> Number
     ensures { result ≡ pick (ltb from digits.to) (N.Plus digits.value) N.Nothing }
 {
     if from < digits.to {
-        return Number::Plus(digits.value);
+        Number::Plus(digits.value)
+    } else {
+        Number::Nothing
     }
-    Number::Nothing
 }
 
 // The number field that begins at a place, and where it ends.
@@ -114,11 +104,10 @@ pub fn number_at(w: &[u8], at: usize) -> Counted
     }
     let from = skip_space(w, at);
     let d = digits_at(w, from);
-    let to = d.to;
-    if ends_at(w, to) {
+    if ends_at(w, d.to) {
         return Counted {
             number: number_of(d, from),
-            end: to,
+            end: d.to,
             clean: true,
         };
     }

@@ -1,19 +1,19 @@
--- Laws of texts: their quotes doubled and undone, how long they are at most, and where they stand. Assumes nothing.
+-- Laws of texts: their quotes doubled and undone, and where they stand. Assumes nothing.
 use mathlib.Core.Path.{◌≡◌, refl, sym, ◌∙◌}
 use mathlib.Core.Bool.{Bool, true, false}
 use mathlib.Core.List.{[], ◌∷◌, ◌++◌}
-use Prim.Native.Nat.{ℕ, suc, ◌+◌, ◌-◌, ◌*◌, ◌<◌, ◌≤◌}
+use Prim.Native.Nat.{ℕ, ◌+◌, ◌-◌, ◌<◌, ◌≤◌}
 use native.Mathlib.Numerals.{add-one}
 use native.Mathlib.Omega.{arith}
 use borrow.Author.Tests.{eq-eqb, ne_eqb, ltb-true, ltb-false}
 use lib.Dec.{ltb}
 use lib.Seq.{drop-cons, take_all}
-use lib.ListN.{length, get_or, take, drop, length-append, length-drop, drop_of_length-le}
+use lib.ListN.{length, get_or, take, drop, length-drop, drop_of_length-le}
 use Rattle.page.specs.Bytes.{Bytes, pick, part}
 use Rattle.page.specs.Fields.{quote}
-use Rattle.page.specs.Form.{doubled, quoted}
+use Rattle.page.specs.Form.{doubled}
 use Rattle.page.specs.declared.Span.{Span}
-use Rattle.doubling.specs.Raw.{undoubled, raw_text}
+use Rattle.doubling.specs.Raw.{undoubled}
 
 -- a text in quotes
 
@@ -36,23 +36,6 @@ doubled_cons b t = by (quote b)
     by : (q : Bool) → pick q (b ∷ b ∷ doubled t) (b ∷ doubled t) ≡ pick q (b ∷ b ∷ []) (b ∷ []) ++ doubled t
     by true = refl
     by false = refl
-
-pub doubled_length : (t : Bytes) → length (doubled t) ≤ 2 * length t
-unfolding doubled
-doubled_length [] = omega arith
-doubled_length (b ∷ t) = by (quote b) (doubled_length t)
-  where
-    by : (q : Bool) → length (doubled t) ≤ 2 * length t → length (pick q (b ∷ b ∷ doubled t) (b ∷ doubled t)) ≤ 2 * suc (length t)
-    by true h = omega arith
-    by false h = omega arith
-
-pub quoted_length : (t : Bytes) → length (quoted t) ≤ 2 * length t + 2
-unfolding quoted
-quoted_length t = simp length-append (omega (arith, doubled_length t))
-
-pub raw_length : (raw : Bytes) → length (raw_text raw) ≡ length raw + 2
-unfolding raw_text
-raw_length raw = simp length-append (omega arith)
 
 -- a part of a file, its ends moved into the file
 

@@ -9,7 +9,7 @@ use Rattle.page.specs.Bytes.{Bytes, pick}
 use Rattle.page.specs.Fields.{fields, number_of}
 use Rattle.page.specs.Tables.{column_at, width}
 use Rattle.page.specs.Order.{standing, place}
-use Rattle.page.specs.Section.{left_out, field_of, ReadAlike, field_number, first_wrong, amount}
+use Rattle.page.specs.Section.{left_out, field_of, field_number, first_wrong, amount}
 use Rattle.page.specs.Places.{field_place, span_from}
 use Rattle.page.specs.Reading.{later_field}
 use Rattle.page.specs.declared.Column.{Column}
@@ -19,7 +19,6 @@ use Rattle.page.specs.declared.Field.TheVariants as F
 use Rattle.page.proofs.OrderLaws.{arranged_long, place_in}
 use Rattle.arrangement.specs.Orders.{held, Stands}
 use Rattle.digits.specs.Runs.{field_from}
-use Rattle.fields.proofs.ColumnLaws.{column_asked}
 use Rattle.copies.proofs.FieldLaws.{column_sound}
 use Rattle.copies.proofs.ReadLaws.{Words, text_read, number_read, missing_read, never_refused, field_begins, field_there}
 
@@ -46,12 +45,12 @@ module _ (t : ℕ) (a : List ℕ) (x : Stands t a) (w : Bytes) (n : length (fiel
   pub start_sound : field_number (field_of (column_at t k) (field_from w (get_or starts p 0))) ≡ 0
   start_sound = rw start_field (column_sound t (held t a) (fields w) x.arranged n z k h)
 
--- what is read of a field, as what the code asks of its column
+-- what is read of a field
 module _ (t k : ℕ) (w : Bytes) (from : ℕ) (h : from ≤ length w) (ok : field_number (field_of (column_at t k) (field_from w from)) ≡ 0) (d : Column)
-    (x : ReadAlike d (column_at t k)) (r : Field)
+    (x : d ≡ column_at t k) (r : Field)
     (q : r ≡ later_field (span_from w from).from (field_of d (field_from w from))) where
   asked : r ≡ later_field (span_from w from).from (field_of (column_at t k) (field_from w from))
-  asked = q ∙ ap (later_field (span_from w from).from) (column_asked (column_at t k) d x (field_from w from))
+  asked = q ∙ ap (λ (c : Column). later_field (span_from w from).from (field_of c (field_from w from))) x
 
   pub words_asked : (sp : Span) → r ≡ F.Text sp → Words (column_at t k) (field_from w from) w sp
   words_asked sp e = text_read (column_at t k) w from h ok sp (sym e ∙ asked)

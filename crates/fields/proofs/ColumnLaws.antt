@@ -1,8 +1,8 @@
 -- A text field by its size and its place, a number field by its number.
 -- Assumes nothing.
+use Rattle.std.specs.Prelude.{None, Some, Option}
 use mathlib.Core.Path.{◌≡◌, refl, ap, sym, ◌∙◌}
 use mathlib.Core.Bool.{Bool, true, false}
-use mathlib.Core.Option.{Option, none, some}
 use Prim.Native.Nat.{ℕ, ◌+◌, ◌-◌, ◌<◌, ◌≤◌}
 use native.Mathlib.Omega.{arith}
 use borrow.Author.Tests.{le-leb, lt-leb}
@@ -23,7 +23,6 @@ use Rattle.page.proofs.TextLaws.{text_long, text_padding}
 use Rattle.page.proofs.FieldLaws.{span_part}
 use Rattle.digits.specs.Runs.{field_from}
 use Rattle.quoted.specs.Sizes.{size_of}
-use Rattle.quoted.specs.declared.texts.Size.TheVariants as S
 use Rattle.quoted.proofs.SizeLaws.{size_some}
 
 before_close : (f : Bytes) → keep space (take (length f - 1) f) ≤ length f - 1
@@ -31,7 +30,7 @@ before_close f = omega (arith, keep_le space (take (length f - 1) f), length-tak
 
 -- a text's own size is what is left of the counted one without the spaces before the closing quote
 module _ (size : ℕ) (f : Bytes) where
-  module _ (n : ℕ) (e : size_of (text_of f) ≡ S.Is n) where
+  module _ (n : ℕ) (e : size_of (text_of f) ≡ Some n) where
     abbrev kept : ℕ
     kept = keep space (take (length f - 1) f)
 
@@ -42,9 +41,9 @@ module _ (size : ℕ) (f : Bytes) where
     unfolding size_of words_of text_field
     text_over h = by (text_of f) refl e
       where
-        by : (p : Option Bytes) → text_of f ≡ p → size_of p ≡ S.Is n → text_field size (worded f p) ≡ F.Refused 13
-        by none q z = absurd (let y : ◌≡◌ {A = ℕ} 0 1 = cc in omega arith)
-        by (some t) q z =
+        by : (p : Option Bytes) → text_of f ≡ p → size_of p ≡ Some n → text_field size (worded f p) ≡ F.Refused 13
+        by None q z = absurd (let y : ◌≡◌ {A = ℕ} 0 1 = cc in omega arith)
+        by (Some t) q z =
             let x : length t ≡ n = cc in
             rw (lt-leb (length (unpadded t)) size (omega (arith, text_padding f t q)))
 
@@ -52,9 +51,9 @@ module _ (size : ℕ) (f : Bytes) where
     unfolding size_of words_of text_field
     text_fits h = by (text_of f) refl e
       where
-        by : (p : Option Bytes) → text_of f ≡ p → size_of p ≡ S.Is n → text_field size (worded f p) ≡ F.Text (own_span f)
-        by none q z = absurd (let y : ◌≡◌ {A = ℕ} 0 1 = cc in omega arith)
-        by (some t) q z =
+        by : (p : Option Bytes) → text_of f ≡ p → size_of p ≡ Some n → text_field size (worded f p) ≡ F.Text (own_span f)
+        by None q z = absurd (let y : ◌≡◌ {A = ℕ} 0 1 = cc in omega arith)
+        by (Some t) q z =
             let x : length t ≡ n = cc in
             rw (le-leb (length (unpadded t)) size (omega (arith, text_padding f t q, before_close f)))
 
@@ -63,25 +62,25 @@ module _ (size : ℕ) (f : Bytes) where
     unfolding size_of
     text_spaces = by (text_of f) refl e
       where
-        by : (p : Option Bytes) → text_of f ≡ p → size_of p ≡ S.Is n → length f - 1 ≤ n + kept
-        by none q z = absurd (let y : ◌≡◌ {A = ℕ} 0 1 = cc in omega arith)
-        by (some t) q z =
+        by : (p : Option Bytes) → text_of f ≡ p → size_of p ≡ Some n → length f - 1 ≤ n + kept
+        by None q z = absurd (let y : ◌≡◌ {A = ℕ} 0 1 = cc in omega arith)
+        by (Some t) q z =
             let x : length t ≡ n = cc in
             omega (arith, text_padding f t q)
 
-  pub text_not : size_of (text_of f) ≡ S.Nothing → text_field size (words_of f) ≡ F.Refused 11
+  pub text_not : size_of (text_of f) ≡ None → text_field size (words_of f) ≡ F.Refused 11
   unfolding size_of words_of text_field
   text_not e = by (text_of f) e
     where
-      by : (p : Option Bytes) → size_of p ≡ S.Nothing → text_field size (worded f p) ≡ F.Refused 11
-      by none q = refl
-      by (some t) q = absurd (let z : ◌≡◌ {A = ℕ} 0 1 = cc in omega arith)
+      by : (p : Option Bytes) → size_of p ≡ None → text_field size (worded f p) ≡ F.Refused 11
+      by None q = refl
+      by (Some t) q = absurd (let z : ◌≡◌ {A = ℕ} 0 1 = cc in omega arith)
 
 left_is : (from to k l : ℕ) → l ≡ to - from → from + 2 ≤ to → k ≤ l - 1 → to - 1 - (from + k) ≡ l - 1 - k
 left_is from to k l e h j = omega arith
 
 -- a text that is a part of w has room for its quotes, and stands between them
-module _ (w : Bytes) (from to : ℕ) (h : (from ≤ to) × (to ≤ length w)) (n : ℕ) (e : size_of (text_of (take (to - from) (drop from w))) ≡ S.Is n) where
+module _ (w : Bytes) (from to : ℕ) (h : (from ≤ to) × (to ≤ length w)) (n : ℕ) (e : size_of (text_of (take (to - from) (drop from w))) ≡ Some n) where
   abbrev f : Bytes
   f = take (to - from) (drop from w)
 

@@ -1,6 +1,6 @@
 // A field of a record, read as its column asks: a text with its span, a number with its value, a missing number, or a refusal with its
 // number.
-ghost use Rattle.std.specs.Prelude.{◌≡◌, Bool, true, false, ◌+◌, ◌-◌, ◌≤◌, length, take, drop};
+ghost use Rattle.std.specs.Prelude.{◌≡◌, Bool, true, false, ◌+◌, ◌-◌, ◌≤◌, length, take, drop, Some};
 ghost use Rattle.page.specs.Bytes.{all};
 ghost use Rattle.page.specs.Lines.{allowed};
 ghost use Rattle.page.specs.Fields.{field_size, text_of};
@@ -8,13 +8,12 @@ ghost use Rattle.page.specs.Section.{words_of, text_field, field_of, amount};
 ghost use Rattle.page.specs.Places.{span_from};
 ghost use Rattle.page.specs.Reading.{later_field};
 ghost use Rattle.digits.specs.Runs.{field_from};
-ghost use Rattle.quoted.specs.declared.texts.Size.TheVariants as S;
 ghost use Rattle.quoted.specs.Sizes.{size_of};
 
 use amounts::judge_number;
 use digits::number_at;
 use page::{Column, Field, Number, Span};
-use quoted::{Size, text_at, text_size};
+use quoted::{text_at, text_size};
 
 // A field, where it ends, and whether its bytes are known to be allowed.
 #[derive(Clone, Copy)]
@@ -27,7 +26,7 @@ pub struct Reading {
 // 13: the part of w from one place to another is a text of n bytes. "Spaces at the end of a text in a record no longer belong to it": its
 // size and its span are without those that stand before the closing quote.
 fn judge_text(w: &[u8], from: usize, to: usize, n: usize, size: u64) -> Field
-    requires { (from ≤ to) × (to ≤ length w.now) × (size_of (text_of (take (to - from) (drop from w.now))) ≡ S.Is n) }
+    requires { (from ≤ to) × (to ≤ length w.now) × (size_of (text_of (take (to - from) (drop from w.now))) ≡ Some n) }
     ensures { result ≡ later_field from (text_field size (words_of (take (to - from) (drop from w.now)))) }
 {
     let close = to - 1;
@@ -48,8 +47,8 @@ fn read_text_field(w: &[u8], from: usize, to: usize, size: u64) -> Field
     ensures { result ≡ later_field from (text_field size (words_of (take (to - from) (drop from w.now)))) }
 {
     match text_size(&w[from..to]) {
-        Size::Is(n) => judge_text(w, from, to, n, size),
-        Size::Nothing => Field::Refused(11),
+        Some(n) => judge_text(w, from, to, n, size),
+        None => Field::Refused(11),
     }
 }
 
@@ -60,12 +59,11 @@ fn text_slowly(w: &[u8], at: usize, size: u64) -> Reading
         × (result.field ≡ later_field (span_from w.now at).from (text_field size (words_of (field_from w.now at))))
         × (result.clean ≡ false) }
 {
-    let e = commands::field_end(w, at);
-    let sp = lines::trim_in(w, at, e);
-    let f = read_text_field(w, sp.from, sp.to, size);
+    let end = commands::field_end(w, at);
+    let part = lines::trim_in(w, at, end);
     Reading {
-        field: f,
-        end: e,
+        field: read_text_field(w, part.from, part.to, size),
+        end,
         clean: false,
     }
 }
@@ -76,16 +74,13 @@ fn text_from(w: &[u8], at: usize, size: u64, wide: bool) -> Reading
         × (result.field ≡ later_field (span_from w.now at).from (text_field size (words_of (field_from w.now at))))
         × (result.clean ≡ true → all (allowed wide) (take (result.end - at) (drop at w.now)) ≡ true) }
 {
-    let t = text_at(w, at, wide);
-    if !t.met {
-        return text_slowly(w, at, size);
-    }
-    let e = t.end;
-    let f = judge_text(w, t.from, e, t.size, size);
-    Reading {
-        field: f,
-        end: e,
-        clean: true,
+    match text_at(w, at, wide) {
+        Some(text) => Reading {
+            field: judge_text(w, text.from, text.end, text.size, size),
+            end: text.end,
+            clean: true,
+        },
+        None => text_slowly(w, at, size),
     }
 }
 
@@ -95,14 +90,11 @@ fn number_from(w: &[u8], at: usize, column: Column) -> Reading
         × (result.field ≡ field_of column (field_from w.now at))
         × (result.clean ≡ true → (wide : Bool) → all (allowed wide) (take (result.end - at) (drop at w.now)) ≡ true) }
 {
-    let c = number_at(w, at);
-    let n = c.number;
-    let e = c.end;
-    let f = judge_number(w, at, e, n, column);
+    let read = number_at(w, at);
     Reading {
-        field: f,
-        end: e,
-        clean: c.clean,
+        field: judge_number(w, at, read.end, read.number, column),
+        end: read.end,
+        clean: read.clean,
     }
 }
 
@@ -115,9 +107,10 @@ pub fn read_field(w: &[u8], at: usize, column: Column, wide: bool) -> Reading
         × (result.clean ≡ true → all (allowed wide) (take (result.end - at) (drop at w.now)) ≡ true) }
 {
     if column.text {
-        return text_from(w, at, column.hi, wide);
+        text_from(w, at, column.hi, wide)
+    } else {
+        number_from(w, at, column)
     }
-    number_from(w, at, column)
 }
 
 // The value of a number that was found in its range, and 0 for any other.
@@ -126,7 +119,6 @@ pub fn worth(number: Number) -> u64
 {
     match number {
         Number::Plus(n) => n,
-        Number::Minus(_) => 0,
-        Number::Nothing => 0,
+        Number::Minus(_) | Number::Nothing => 0,
     }
 }

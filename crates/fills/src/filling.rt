@@ -8,7 +8,6 @@ ghost use Rattle.fills.specs.Filling.{empty_value, text_number, fill_number};
 
 use names::table_at;
 use page::Value;
-use sections::Located;
 
 // "text empty 11, text byte not allowed in a `rec` 4, over 40 bytes 13"
 fn judge_text(s: &[u8], text: &[u8]) -> u32
@@ -44,8 +43,8 @@ fn is_fillable(s: &[u8], i: usize, f: usize) -> bool
     ensures { result ≡ (column_at (table_index (section_at s.now i).lines) (f - 1)).fillable }
 {
     match sections::locate(s, i) {
-        Located::At(at) => tables::is_fillable(table_at(s, at), f - 1),
-        Located::Refused(_) => false,
+        Ok(at) => tables::is_fillable(table_at(s, at), f - 1),
+        Err(_) => false,
     }
 }
 

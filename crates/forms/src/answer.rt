@@ -3,10 +3,10 @@ ghost use Rattle.std.specs.Prelude.{◌≡◌, length};
 ghost use Rattle.page.specs.Writing.{write_of, write_after, strip_of, strip_after, fill_refusal, fill_of, fill_after};
 
 use fills::judge_fill;
-use page::{Got, Refusal, Written};
+use page::Refusal;
 use writing::{fill_checked, strip_checked, write_checked};
 
-pub fn write(s: &[u8], out: &mut [u8]) -> Written
+pub fn write(s: &[u8], out: &mut [u8]) -> Result<usize, Refusal>
     ensures { (result ≡ write_of s.now (length out.old))
         × (out.new ≡ write_after s.now out.old) }
 {
@@ -14,7 +14,7 @@ pub fn write(s: &[u8], out: &mut [u8]) -> Written
     write_checked(s, refusal, out)
 }
 
-pub fn strip(s: &[u8], out: &mut [u8]) -> Written
+pub fn strip(s: &[u8], out: &mut [u8]) -> Result<usize, Refusal>
     ensures { (result ≡ strip_of s.now (length out.old))
         × (out.new ≡ strip_after s.now out.old) }
 {
@@ -31,12 +31,12 @@ fn refuse_fill(s: &[u8], section: usize, record: usize, field: usize, text: &[u8
         return verdict;
     }
     match lookups::value(s, section, record, field) {
-        Got::Is(v) => Refusal {
+        Ok(v) => Refusal {
             number: judge_fill(s, section, field, v, text),
             section: 0,
             line: 0,
         },
-        Got::Refused(x) => x,
+        Err(x) => x,
     }
 }
 
@@ -49,7 +49,7 @@ pub fn fill(
     field: usize,
     text: &[u8],
     out: &mut [u8],
-) -> Written
+) -> Result<usize, Refusal>
     ensures { (result ≡ fill_of s.now section «record» field text.now (length out.old))
         × (out.new ≡ fill_after s.now section «record» field text.now out.old) }
 {

@@ -1,12 +1,11 @@
--- Laws of the written lines: what they are made of, and how long they are at most. Assumes nothing.
+-- Laws of the written lines: what they are made of. Assumes nothing.
+use Rattle.std.specs.Prelude.{None, Option, Some}
 use mathlib.Core.Path.{◌≡◌, refl, ap, ◌∙◌}
 use mathlib.Core.Bool.{Bool, true, false}
 use mathlib.Core.List.{List, [], ◌∷◌, ◌++◌, append-nil, append_assoc}
-use mathlib.Core.Option.{Option, none, some}
-use Prim.Native.Nat.{ℕ, ◌+◌, ◌*◌, ◌≤◌}
+use Prim.Native.Nat.{ℕ}
 use Prim.Native.String.{String}
 use native.Mathlib.Omega.{arith}
-use lib.ListN.{length, length-append}
 use Rattle.page.specs.Bytes.{Bytes, bytes, part}
 use Rattle.page.specs.Head.{Head}
 use Rattle.page.specs.Form.{line_end, separated, line, decimal, doubled, quoted, date_text, time_text, charset_name, line_if, head_form, mark_line}
@@ -14,29 +13,16 @@ use Rattle.page.specs.declared.LineEnd.{LineEnd}
 use Rattle.page.specs.declared.Span.{Span}
 use Rattle.page.specs.declared.Date.{Date}
 use Rattle.page.specs.declared.Time.{Time}
-use Rattle.page.specs.declared.Stated.{Stated}
-use Rattle.page.specs.declared.Stated.TheVariants as St
 use Rattle.page.specs.declared.Header.{Header}
-use Rattle.page.proofs.LineEndLaws.{line_end_length}
 use Rattle.doubling.specs.Raw.{raw_text}
-use Rattle.doubling.proofs.TextLaws.{raw_length}
-use Rattle.decimals.proofs.DecimalLaws.{decimal_length}
 use Rattle.frames.specs.Lines.{line_with, text_line}
 use Rattle.frames.specs.Heads.{mod_line, src_line, chs_line, stated_line, head_raw}
-use Rattle.frames.proofs.PlainLaws.{part_length, date_length, time_length, Plain, plain_append, plain_byte, plain_decimal, plain_padded, plain_quoted}
-
-pub separator_length : length (bytes "; ") ≡ 2
-unfolding bytes
-separator_length = refl
+use Rattle.frames.proofs.PlainLaws.{Plain, plain_append, plain_byte, plain_decimal, plain_padded, plain_quoted}
 
 -- a line by its command's letters
 pub line_is : (ends : LineEnd) (word : Bytes) (f : Bytes) → word ++ (bytes "; " ++ (f ++ line_end ends)) ≡ line_with ends word (f ∷ [])
 unfolding line_with separated
 line_is ends word f = simp (append-nil, append_assoc)
-
-pub one_field_length : (ends : LineEnd) (word f : Bytes) → length (line_with ends word (f ∷ [])) ≤ length word + length f + 4
-one_field_length ends word f =
-    rw (← line_is ends word f) (simp length-append (omega (arith, line_end_length ends, separator_length)))
 
 -- the bytes of a mark, a date and a time hold no quote
 
@@ -51,10 +37,6 @@ plain_mark i = plain_append (bytes "SUGGESTED ") (decimal i) (record { is = plai
 pub mark_is : (ends : LineEnd) (i : ℕ) → bytes "com; \"SUGGESTED " ++ (decimal i ++ ((34 ∷ []) ++ line_end ends)) ≡ mark_line ends i
 unfolding bytes mark_line line separated
 mark_is ends i = simp (plain_quoted (bytes "SUGGESTED " ++ decimal i) (plain_mark i), append_assoc)
-
-pub mark_length : (ends : LineEnd) (i : ℕ) → length (mark_line ends i) ≤ 39
-unfolding bytes
-mark_length ends i = rw (← mark_is ends i) (simp length-append (omega (arith, decimal_length i, line_end_length ends)))
 
 plain_date : (d : Date) → Plain (date_text d)
 unfolding bytes date_text
@@ -76,10 +58,6 @@ pub mod_is : (ends : LineEnd) → bytes "mod; DD.MM.YYYY; HH:MM:SS; free" ++ lin
 unfolding bytes mod_line line_with separated
 mod_is ends = refl
 
-pub mod_length : (ends : LineEnd) → length (mod_line ends) ≤ 33
-unfolding bytes
-mod_length ends = rw (← mod_is ends) (omega (arith, line_end_length ends))
-
 pub src_is : (ends : LineEnd) (s : Bytes) (place : Span) (d : Date) (t : Time)
     → bytes "src; " ++
     (raw_text (part place s) ++
@@ -89,13 +67,6 @@ unfolding bytes src_line line_with separated
 src_is ends s place d t =
     simp (plain_quoted (date_text d) (plain_date d), plain_quoted (time_text t) (plain_time t), append-nil, append_assoc)
 
-pub src_length : (ends : LineEnd) (s : Bytes) (place : Span) (d : Date) (t : Time) → length (src_line ends s place d t) ≤ length s + 35
-unfolding bytes
-src_length ends s place d t =
-    rw (← src_is ends s place d t)
-    (simp length-append
-    (omega (arith, raw_length (part place s), part_length place s, date_length d, time_length t, line_end_length ends)))
-
 pub chs_latin : (ends : LineEnd) (latin : Bool) → latin ≡ true → bytes "chs; \"ISO8859-1\"" ++ line_end ends ≡ chs_line ends latin
 unfolding bytes chs_line charset_name quoted doubled line_with separated
 chs_latin ends latin e = rw e
@@ -104,40 +75,18 @@ pub chs_ascii : (ends : LineEnd) (latin : Bool) → latin ≡ false → bytes "c
 unfolding bytes chs_line charset_name quoted doubled line_with separated
 chs_ascii ends latin e = rw e
 
-pub chs_length : (ends : LineEnd) (latin : Bool) → length (chs_line ends latin) ≤ 18
-unfolding bytes
-chs_length ends true = rw (← chs_latin ends true refl) (omega (arith, line_end_length ends))
-chs_length ends false = rw (← chs_ascii ends false refl) (omega (arith, line_end_length ends))
-
 pub text_line_is : (ends : LineEnd) (word s : Bytes) (place : Span)
     → word ++ (bytes "; " ++ (raw_text (part place s) ++ line_end ends)) ≡ text_line ends word s place
 unfolding text_line
 text_line_is ends word s place = line_is ends word (raw_text (part place s))
 
-pub text_line_length : (ends : LineEnd) (word s : Bytes) (place : Span) → length (text_line ends word s place) ≤ length word + length s + 6
-unfolding text_line
-text_line_length ends word s place =
-    omega (arith, one_field_length ends word (raw_text (part place s)), raw_length (part place s), part_length place s)
-
-pub stated_none : (ends : LineEnd) (word s : Bytes) (x : Stated) → x ≡ St.Absent → [] ≡ stated_line ends word s x
+pub stated_none : (ends : LineEnd) (word s : Bytes) (x : Option Span) → x ≡ None → [] ≡ stated_line ends word s x
 unfolding stated_line
 stated_none ends word s x e = rw e
 
-pub stated_at : (ends : LineEnd) (word s : Bytes) (x : Stated) (place : Span) → x ≡ St.At place → text_line ends word s place ≡ stated_line ends word s x
+pub stated_at : (ends : LineEnd) (word s : Bytes) (x : Option Span) (place : Span) → x ≡ Some place → text_line ends word s place ≡ stated_line ends word s x
 unfolding stated_line
 stated_at ends word s x place e = rw e
-
-pub stated_length : (ends : LineEnd) (word s : Bytes) (x : Stated) → length (stated_line ends word s x) ≤ length word + length s + 6
-unfolding stated_line
-stated_length ends word s St.Absent = omega arith
-stated_length ends word s (St.At place) = text_line_length ends word s place
-
-pub head_raw_length : (ends : LineEnd) (s : Bytes) (h : Header) → length (head_raw ends s h) ≤ 5 * length s + 122
-unfolding bytes head_raw
-head_raw_length ends s h =
-    simp length-append
-    (omega
-    (arith, mod_length ends, src_length ends s h.source h.date h.time, chs_length ends h.latin, text_line_length ends (bytes "ver") s h.ver, text_line_length ends (bytes "ifv") s h.ifv, stated_length ends (bytes "dve") s h.dve, stated_length ends (bytes "fft") s h.fft))
 
 -- copying a text as it stands is writing it
 
@@ -146,9 +95,9 @@ unfolding raw_text quoted
 raw_quoted t = refl
 
 -- A header by places says what a header by values says, where each text's bytes in the file are the text with its quotes doubled.
-pub data Same_stated (s : Bytes) : Stated → Option Bytes → Type 0 where
-  absent : Same_stated s St.Absent none
-  at : (place : Span) (t : Bytes) → part place s ≡ doubled t → Same_stated s (St.At place) (some t)
+pub data Same_stated (s : Bytes) : Option Span → Option Bytes → Type 0 where
+  absent : Same_stated s None None
+  at : (place : Span) (t : Bytes) → part place s ≡ doubled t → Same_stated s (Some place) (Some t)
 
 pub record Same_head (s : Bytes) (x : Header) (h : Head) : Type 0 where
   pub source : part x.source s ≡ doubled h.source
@@ -172,7 +121,7 @@ text_line_same : (ends : LineEnd) (word : String) (s : Bytes) (place : Span) (t 
 unfolding text_line
 text_line_same ends word s place t e = rw (raw_part s place t e) (line_with_is ends word (quoted t ∷ []))
 
-stated_same : (ends : LineEnd) (word : String) (s : Bytes) (x : Stated) (o : Option Bytes) → Same_stated s x o → stated_line ends (bytes word) s x ≡ line_if ends word o
+stated_same : (ends : LineEnd) (word : String) (s : Bytes) (x : Option Span) (o : Option Bytes) → Same_stated s x o → stated_line ends (bytes word) s x ≡ line_if ends word o
 unfolding stated_line line_if
 stated_same ends word s x o absent = refl
 stated_same ends word s x o (at place t e) = text_line_same ends word s place t e

@@ -1,18 +1,13 @@
--- Laws of the parts of a line: numbers hold no quote, and how long dates, times and parts of a file are. Assumes nothing.
+-- Laws of the parts of a line: numbers hold no quote. Assumes nothing.
 use mathlib.Core.Path.{◌≡◌, refl, sym}
 use mathlib.Core.Bool.{Bool, true, false}
 use mathlib.Core.List.{[], ◌∷◌, ◌++◌, append_assoc}
-use Prim.Native.Nat.{ℕ, zero, suc, ◌+◌, ◌/◌, ◌%◌, ◌≤◌}
+use Prim.Native.Nat.{ℕ, zero, suc, ◌+◌, ◌/◌, ◌%◌}
 use native.Mathlib.Omega.{arith}
 use lib.Dec.{ltb}
-use lib.ListN.{length, length-append, length-take, length-drop}
-use Rattle.page.specs.Bytes.{Bytes, bytes, pick, part}
-use Rattle.page.specs.Form.{decimal_in, padded, doubled, quoted, date_text, time_text}
-use Rattle.page.specs.declared.Span.{Span}
-use Rattle.page.specs.declared.Date.{Date}
-use Rattle.page.specs.declared.Time.{Time}
+use Rattle.page.specs.Bytes.{Bytes, pick}
+use Rattle.page.specs.Form.{decimal_in, padded, doubled, quoted}
 use Rattle.doubling.proofs.TextLaws.{doubled_other, doubled_none, doubled_cons}
-use Rattle.decimals.proofs.DecimalLaws.{padded_length}
 
 doubled_append : (a b : Bytes) → doubled (a ++ b) ≡ doubled a ++ doubled b
 doubled_append [] b = rw doubled_none
@@ -46,18 +41,3 @@ plain_padded (suc k) n = plain_append (padded k (n / 10)) ((48 + n % 10) ∷ [])
 pub plain_quoted : (t : Bytes) → Plain t → quoted t ≡ 34 ∷ (t ++ (34 ∷ []))
 unfolding quoted
 plain_quoted t p = rw p.is
-
--- lengths
-
-pub part_length : (place : Span) (s : Bytes) → length (part place s) ≤ length s
-part_length place s = simp (length-take, length-drop) (omega arith)
-
-pub date_length : (d : Date) → length (date_text d) ≡ 10
-unfolding bytes date_text
-date_length d =
-    simp length-append (omega (arith, padded_length 2 d.day, padded_length 2 d.month, padded_length 4 d.year))
-
-pub time_length : (t : Time) → length (time_text t) ≡ 8
-unfolding bytes time_text
-time_length t =
-    simp length-append (omega (arith, padded_length 2 t.hour, padded_length 2 t.minute, padded_length 2 t.second))

@@ -1,23 +1,16 @@
--- Laws of the lines that begin a section: their fields one by one, and how long they are at most, computed over the list of tables.
--- Assumes nothing.
+-- Laws of the lines that begin a section: their fields one by one. Assumes nothing.
 use mathlib.Core.Path.{◌≡◌, refl, sym}
 use mathlib.Core.Bool.{Bool, true, false}
-use mathlib.Core.List.{List, [], ◌++◌, map, append_assoc, append-nil}
+use mathlib.Core.List.{List, [], ◌++◌, append_assoc, append-nil}
 use Prim.Native.Nat.{ℕ, ◌+◌, ◌<◌, ◌≤◌}
-use Prim.Native.String.{String}
 use native.Mathlib.Numerals.{add-one}
-use native.Mathlib.Omega.{arith}
-use borrow.Author.Tests.{leb-true}
-use lib.Dec.{leb}
-use lib.ListN.{length, get_or, drop, length-append, length-map, get_or-map, drop_of_length-le}
+use lib.ListN.{length, get_or, drop, length-map, get_or-map, drop_of_length-le}
 use lib.Seq.{drop-cons}
 use Rattle.page.specs.Bytes.{Bytes, bytes}
-use Rattle.page.specs.Tables.{Table, all_tables, no_column, table_at, columns, width, column_at, name_at}
-use Rattle.page.specs.Form.{line_end, separated, line, decimal, decimal_in, format_text, table_head}
+use Rattle.page.specs.Tables.{no_column, table_at, columns, width, column_at, name_at}
+use Rattle.page.specs.Form.{line_end, separated, line, format_text, table_head}
 use Rattle.page.specs.declared.LineEnd.{LineEnd}
 use Rattle.page.specs.declared.Column.{Column}
-use Rattle.page.proofs.LineEndLaws.{line_end_length}
-use Rattle.page.proofs.TableLaws.{each, table_test}
 use Rattle.frames.specs.Lines.{line_with}
 use Rattle.frames.specs.Titles.{tbl_line, title_of, title_at, titles}
 
@@ -46,60 +39,19 @@ pub title_is : (formats : Bool) (t k : ℕ) → title_at formats t k ≡ get_or 
 unfolding titles title_at
 title_is formats t k = sym (get_or-map (title_of formats) (columns t) k no_column)
 
-pub title_format : (formats : Bool) (t k : ℕ) → formats ≡ true → format_text (column_at t k) ≡ title_at formats t k
+pub title_format : (formats : Bool) (t k : ℕ) (c : Column) → formats ≡ true → c ≡ column_at t k → format_text c ≡ title_at formats t k
 unfolding title_at column_at
-title_format formats t k e = rw e
+title_format formats t k c e f = rw (e, f)
 
-pub title_name : (formats : Bool) (t k : ℕ) (w : String) → formats ≡ false → w ≡ name_at t k → bytes w ≡ title_at formats t k
+pub title_name : (formats : Bool) (t k : ℕ) (w : Bytes) → formats ≡ false → w ≡ bytes (name_at t k) → w ≡ title_at formats t k
 unfolding title_at name_at
 title_name formats t k w e f = rw (e, f)
 
--- a format asks its column for kind and size alone
-pub format_read : (c d : Column) → d.text ≡ c.text → d.size ≡ c.size → format_text d ≡ format_text c
-unfolding format_text
-format_read c d a b = rw (a, b)
-
--- how long they are
-
-abbrev title_small : Table → Bool
-title_small x = leb (length (bytes x.name)) 32
-
-pub title_length : (t : ℕ) → length (bytes (table_at t).name) ≤ 32
-unfolding all_tables each bytes
-title_length t = leb-true (length (bytes (table_at t).name)) 32 (table_test title_small refl refl t)
-
--- the names or the formats of a table
-abbrev LONGEST : ℕ
-LONGEST = 320
-
-abbrev titles_small : Bool → Table → Bool
-titles_small formats x = leb (length (separated (map (title_of formats) x.columns))) LONGEST
-
-pub titles_length : (formats : Bool) (t : ℕ) → length (separated (titles formats t)) ≤ LONGEST
-unfolding all_tables each bytes separated titles columns format_text decimal decimal_in
-titles_length true t = leb-true (length (separated (titles true t))) LONGEST (table_test (titles_small true) refl refl t)
-titles_length false t = leb-true (length (separated (titles false t))) LONGEST (table_test (titles_small false) refl refl t)
-
-pub tbl_is : (ends : LineEnd) (t : ℕ) (w : String) → w ≡ (table_at t).name → bytes "tbl; " ++ (bytes w ++ line_end ends) ≡ tbl_line ends t
+pub tbl_is : (ends : LineEnd) (t : ℕ) (w : Bytes) → w ≡ bytes (table_at t).name → bytes "tbl; " ++ (w ++ line_end ends) ≡ tbl_line ends t
 unfolding bytes tbl_line line separated
 tbl_is ends t w e = rw e (simp append-nil)
-
-pub tbl_length : (ends : LineEnd) (t : ℕ) → length (tbl_line ends t) ≤ 39
-unfolding bytes tbl_line line separated
-tbl_length ends t = simp length-append (omega (arith, title_length t, line_end_length ends))
-
-pub titles_line_length : (ends : LineEnd) (word : Bytes) (formats : Bool) (t : ℕ) → length (line_with ends word (titles formats t)) ≤ length word + (LONGEST + 2)
-titles_line_length ends word formats t =
-    rw (← titles_line ends word (titles formats t)) (simp length-append (omega (arith, titles_length formats t, line_end_length ends)))
 
 pub table_head_is : (ends : LineEnd) (t : ℕ)
     → tbl_line ends t ++ (line_with ends (bytes "atr") (titles false t) ++ line_with ends (bytes "frm") (titles true t)) ≡ table_head ends (table_at t)
 unfolding table_head tbl_line line line_with titles columns
 table_head_is ends t = refl
-
-pub table_head_length : (ends : LineEnd) (t : ℕ) → length (table_head ends (table_at t)) ≤ 689
-unfolding bytes
-table_head_length ends t =
-    rw (← table_head_is ends t)
-    (simp length-append
-    (omega (arith, tbl_length ends t, titles_line_length ends (bytes "atr") false t, titles_line_length ends (bytes "frm") true t)))

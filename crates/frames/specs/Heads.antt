@@ -1,13 +1,11 @@
 -- A header's lines, its texts given by their places in the file.
-use Rattle.std.specs.Prelude.{Bool, [], ◌∷◌, ◌++◌}
+use Rattle.std.specs.Prelude.{Bool, [], ◌∷◌, ◌++◌, None, Option, Some}
 use Rattle.page.specs.Bytes.{Bytes, bytes, part}
 use Rattle.page.specs.Form.{quoted, date_text, time_text, charset_name}
 use Rattle.page.specs.declared.LineEnd.{LineEnd}
 use Rattle.page.specs.declared.Span.{Span}
 use Rattle.page.specs.declared.Date.{Date}
 use Rattle.page.specs.declared.Time.{Time}
-use Rattle.page.specs.declared.Stated.{Stated}
-use Rattle.page.specs.declared.Stated.TheVariants as St
 use Rattle.page.specs.declared.Header.{Header}
 use Rattle.doubling.specs.Raw.{raw_text}
 use Rattle.frames.specs.Lines.{line_with, text_line}
@@ -21,9 +19,9 @@ src_line e s place d t = line_with e (bytes "src") (raw_text (part place s) ∷ 
 unfoldable pub chs_line : LineEnd → Bool → Bytes
 chs_line e latin = line_with e (bytes "chs") (quoted (charset_name latin) ∷ [])
 
-unfoldable pub stated_line : LineEnd → Bytes → Bytes → Stated → Bytes
-stated_line e word s St.Absent = []
-stated_line e word s (St.At place) = text_line e word s place
+unfoldable pub stated_line : LineEnd → Bytes → Bytes → Option Span → Bytes
+stated_line e word s None = []
+stated_line e word s (Some place) = text_line e word s place
 
 unfoldable pub head_raw : LineEnd → Bytes → Header → Bytes
 head_raw e s h =

@@ -1,4 +1,5 @@
 -- The machine accepts exactly the sections that the grammar denotes.
+use Rattle.std.specs.Prelude.{Err, Ok, Result}
 use mathlib.Core.Path.{◌≡◌, refl, ap, sym, ◌∙◌}
 use mathlib.Core.Bool.{Bool, true, false≢true}
 use mathlib.Core.List.{List, [], ◌∷◌}
@@ -18,8 +19,6 @@ use Rattle.page.specs.Grammar.{AtrLine, FrmLine, MarkLine, Rises, above, Then, f
 use Rattle.page.specs.Refusals.{marks_of, Leads, quiet, tbl, atr, frm, mark, record_line, end}
 use Rattle.page.specs.declared.Phase.{Phase}
 use Rattle.page.specs.declared.Phase.TheVariants as P
-use Rattle.page.specs.declared.Step.{Step}
-use Rattle.page.specs.declared.Step.TheVariants as S
 use Rattle.page.specs.declared.Outcome.{Outcome}
 use Rattle.page.proofs.TableLaws.{one_markable, may_mark_within}
 use Rattle.page.proofs.ArrangeLaws.{arrangement_arranged}
@@ -92,10 +91,10 @@ module _ (latin : Bool) where
   into p o n [] a f e = at_end p o n e
   into p o n (l ∷ ls) a f e = by (λ q x. into q x (suc n) ls) (step latin p o l) refl e
     where
-      by : ((q : Phase) (x : Order) → Ordered q x → Fits q x → (run latin q x (suc n) ls).verdict ≡ 0 → Rest latin q x ls) → (s : Step) → step latin p o l ≡ s →
+      by : ((q : Phase) (x : Order) → Ordered q x → Fits q x → (run latin q x (suc n) ls).verdict ≡ 0 → Rest latin q x ls) → (s : Result Phase ℕ) → step latin p o l ≡ s →
           (continue s (table_in p) (suc n) (λ q. run latin q (order_after p o (content l)) (suc n) ls)).verdict ≡ 0 → Rest latin p o (l ∷ ls)
-      by ih (S.Go q) h e = let g = (go_exactly latin l p o a q).0 h in back ls g a f (ih q (order_after p o (content l)) (ordered_on g a) (fits_on g f) e)
-      by ih (S.Stop v) h e = absurd (laws_some latin p o l v ((stop_exactly latin l p o a v).0 h) e)
+      by ih (Ok q) h e = let g = (go_exactly latin l p o a q).0 h in back ls g a f (ih q (order_after p o (content l)) (ordered_on g a) (fits_on g f) e)
+      by ih (Err v) h e = absurd (laws_some latin p o l v ((stop_exactly latin l p o a v).0 h) e)
 
 -- a sound section's answer
 abbrev pub accepted : ℕ → ℕ → Outcome

@@ -1,10 +1,10 @@
 -- One walk over the machine's tests: it refuses a line exactly by the first law that the line breaks, and goes on only where the grammar leads.
+use Rattle.std.specs.Prelude.{Err, Ok, Result, None, Option, Some}
 use mathlib.Core.Path.{◌≡◌, refl, ap, sym, ◌∙◌}
 use mathlib.Core.Bool.{Bool, true, false, not, ◌&&◌, false≢true}
 use mathlib.Core.List.Memᴰ
 use mathlib.Core.List.{List, [], ◌∷◌, ◌++◌, Memᴰ}
 use mathlib.Core.Logic.{◌⊎◌, inl, inr, ◌↔◌}
-use mathlib.Core.Option.{Option, none, some}
 use Prim.Native.Nat.{ℕ, zero, suc, ◌≤◌, ◌<◌}
 use native.Mathlib.Omega.{arith}
 use native.Mathlib.Numerals.{add-one}
@@ -32,8 +32,6 @@ use Rattle.page.specs.declared.Phase.{Phase}
 use Rattle.page.specs.declared.Phase.TheVariants as P
 use Rattle.page.specs.declared.Field.{Field}
 use Rattle.page.specs.declared.Field.TheVariants as F
-use Rattle.page.specs.declared.Step.{Step}
-use Rattle.page.specs.declared.Step.TheVariants as S
 use Rattle.page.proofs.TableLaws.{name_tells, rule_some}
 use Rattle.page.proofs.OrderLaws.{arranged_long, standing_length}
 use Rattle.page.proofs.ArrangeLaws.{order_named}
@@ -45,47 +43,47 @@ use Rattle.grammar.proofs.Values.{LeftOut, left_out_d, empty_no_number, number_s
 use Rattle.grammar.proofs.Arranged.{Ordered, reads_once, reads_rule, right_reads, reads_empty}
 
 -- the step stops with v exactly if v is the first broken law's number, and goes on only to what G says
-pub record Agrees (G : Phase → Type 0) (s : Step) (ls : List Law) : Type 0 where
-  pub iff : (v : ℕ) → s ≡ S.Stop v ↔ FirstBroken ls v
-  pub led : (q : Phase) → s ≡ S.Go q → G q
+pub record Agrees (G : Phase → Type 0) (s : Result Phase ℕ) (ls : List Law) : Type 0 where
+  pub iff : (v : ℕ) → s ≡ Err v ↔ FirstBroken ls v
+  pub led : (q : Phase) → s ≡ Ok q → G q
 
-goes : {G : Phase → Type 0} {q : Phase} → G q → Agrees G (S.Go q) []
+goes : {G : Phase → Type 0} {q : Phase} → G q → Agrees G (Ok q) []
 goes {q} g = record { iff = λ v. (λ e. absurd (false≢true (cc)), λ x. absurd x); led = λ r e. let z : q ≡ r = cc in rw z at g }
 
 -- this law is broken
-hit : {G : Phase → Type 0} {v : ℕ} {L : Type 0} {ls : List Law} → L → Agrees G (S.Stop v) (law v L ∷ ls)
-hit a = record { iff = λ w. (λ e. inl (a, (cc)), λ s. elim s [ inl p ↦ ap S.Stop p.1 | inr p ↦ absurd (p.0 a) ]); led = λ q e. absurd (false≢true (cc)) }
+hit : {G : Phase → Type 0} {v : ℕ} {L : Type 0} {ls : List Law} → L → Agrees G (Err v) (law v L ∷ ls)
+hit a = record { iff = λ w. (λ e. inl (a, (cc)), λ s. elim s [ inl p ↦ ap Err p.1 | inr p ↦ absurd (p.0 a) ]); led = λ q e. absurd (false≢true (cc)) }
 
 -- this one is not
-miss : {G : Phase → Type 0} {v : ℕ} {L : Type 0} {s : Step} {ls : List Law} → ¬ L → Agrees G s ls → Agrees G s (law v L ∷ ls)
+miss : {G : Phase → Type 0} {v : ℕ} {L : Type 0} {s : Result Phase ℕ} {ls : List Law} → ¬ L → Agrees G s ls → Agrees G s (law v L ∷ ls)
 miss n k = record { iff = λ w. (λ e. inr (n, (k.iff w).0 e), λ s. elim s [ inl p ↦ absurd (n p.0) | inr p ↦ (k.iff w).1 p.1 ]); led = k.led }
 
-must_not : {G : Phase → Type 0} {v : ℕ} {b : Bool} {L : Type 0} {x : Step} {ls : List Law} → Decides L b → (¬ L → Agrees G x ls) → Agrees G (Section.choose b (S.Stop v) x) (law v L ∷ ls)
+must_not : {G : Phase → Type 0} {v : ℕ} {b : Bool} {L : Type 0} {x : Result Phase ℕ} {ls : List Law} → Decides L b → (¬ L → Agrees G x ls) → Agrees G (Section.choose b (Err v) x) (law v L ∷ ls)
 unfolding Section.choose
 must_not (holds a) k = hit a
 must_not (fails n) k = miss n (k n)
 
-must : {G : Phase → Type 0} {v : ℕ} {b : Bool} {A : Type 0} {x : Step} {ls : List Law} → Decides A b → (A → Agrees G x ls) → Agrees G (Section.choose b x (S.Stop v)) (law v (¬ A) ∷ ls)
+must : {G : Phase → Type 0} {v : ℕ} {b : Bool} {A : Type 0} {x : Result Phase ℕ} {ls : List Law} → Decides A b → (A → Agrees G x ls) → Agrees G (Section.choose b x (Err v)) (law v (¬ A) ∷ ls)
 unfolding Section.choose
 must (holds a) k = miss (λ n. n a) (k a)
 must (fails n) k = hit n
 
-branch : {G : Phase → Type 0} (b : Bool) {x y : Step} {u w : List Law} → (b ≡ true → Agrees G x u) → (b ≡ false → Agrees G y w) → Agrees G (Section.choose b x y) (either_laws b u w)
+branch : {G : Phase → Type 0} (b : Bool) {x y : Result Phase ℕ} {u w : List Law} → (b ≡ true → Agrees G x u) → (b ≡ false → Agrees G y w) → Agrees G (Section.choose b x y) (either_laws b u w)
 unfolding Section.choose
 branch true s t = s refl
 branch false s t = t refl
 
 -- one of two commands, else 6
-two : {G : Phase → Type 0} {A B : Type 0} (a b : Bool) {x y : Step} {u w : List Law} → Decides A a → Decides B b → (A → Agrees G x u) → (B → Agrees G y w) →
-    Agrees G (Section.choose a x (Section.choose b y (S.Stop 6))) (law 6 (¬ (A ⊎ B)) ∷ either_laws a u w)
+two : {G : Phase → Type 0} {A B : Type 0} (a b : Bool) {x y : Result Phase ℕ} {u w : List Law} → Decides A a → Decides B b → (A → Agrees G x u) → (B → Agrees G y w) →
+    Agrees G (Section.choose a x (Section.choose b y (Err 6))) (law 6 (¬ (A ⊎ B)) ∷ either_laws a u w)
 unfolding Section.choose
 two true b (holds h) d s t = miss (λ n. n (inl h)) (s h)
 two false true (fails m) (holds h) s t = miss (λ n. n (inr h)) (t h)
 two false false (fails m) (fails n) s t = hit (λ x. elim x [ inl a ↦ m a | inr b ↦ n b ])
 
 -- a record's verdict is a number, 0 for none: the step that follows it
-unfoldable pub judged : Phase → ℕ → Step
-judged q v = Section.choose (eqb v 0) (S.Go q) (S.Stop v)
+unfoldable pub judged : Phase → ℕ → Result Phase ℕ
+judged q v = Section.choose (eqb v 0) (Ok q) (Err v)
 
 judged_must : {G : Phase → Type 0} (q : Phase) {v : ℕ} {b : Bool} {A : Type 0} (x : ℕ) {ls : List Law} → eqb v 0 ≡ false → Decides A b → (A → Agrees G (judged q x) ls) →
     Agrees G (judged q (pick b x v)) (law v (¬ A) ∷ ls)
@@ -111,7 +109,7 @@ module _ {G : Phase → Type 0} (q : Phase) (c : Column) (f : Bytes) (y : ℕ) (
   abbrev rest_laws : List Law
   rest_laws = law 13 (Outside c f) ∷ law 26 (NoSuchDay c f) ∷ more
 
-  abbrev field_step : Field → Step
+  abbrev field_step : Field → Result Phase ℕ
   field_step x = judged q (Section.first_of (Section.field_number x) y)
 
   missing_agrees : c.text ≡ false → LeftOut c.optional f → Agrees G (field_step F.Missing) (kind_law false c.optional f ∷ rest_laws)
@@ -146,8 +144,8 @@ module _ {G : Phase → Type 0} (q : Phase) (c : Column) (f : Bytes) (y : ℕ) (
 
   text_agrees : (x : Option Bytes) → c.text ≡ true → Section.record_text f ≡ x → Agrees G (field_step (Section.text_field c.hi (Section.words_of f))) (kind_law true c.optional f ∷ rest_laws)
   unfolding Section.text_field Section.field_number judged Section.choose
-  text_agrees none t e = rw (worded_none f e) (hit e)
-  text_agrees (some w) t e = rw (worded_some f w e) (miss (λ h. absurd (false≢true (cc))) (by (leb (length w) c.hi) (at_most (length w) c.hi)))
+  text_agrees None t e = rw (worded_none f e) (hit e)
+  text_agrees (Some w) t e = rw (worded_some f w e) (miss (λ h. absurd (false≢true (cc))) (by (leb (length w) c.hi) (at_most (length w) c.hi)))
     where
       inside : length w ≤ c.hi → ¬ Outside c f
       inside p (negative u h) = false≢true (sym u ∙ t)

@@ -1,5 +1,6 @@
 -- 25, "wrong combination", as a rule of the grammar, both ways: each record of a sound section of 432 tells its feeder in exactly one of the two
 -- ways, and a line is refused with 25 exactly if it is a record of 432 that tells it in neither. Assumes nothing.
+use Rattle.std.specs.Prelude.{Err}
 use mathlib.Core.Path.{◌≡◌, refl, ap, sym, ◌∙◌}
 use mathlib.Core.Bool.{Bool, true, false, ◌&&◌}
 use mathlib.Core.List.{List, [], ◌∷◌, ◌++◌, Memᴰ}
@@ -21,7 +22,6 @@ use Rattle.page.specs.File.{any}
 use Rattle.page.specs.Rules.{Every}
 use Rattle.page.specs.declared.Phase.{Phase}
 use Rattle.page.specs.declared.Phase.TheVariants as P
-use Rattle.page.specs.declared.Step.TheVariants as S
 use Rattle.page.proofs.TableLaws.{past_tables, each, each_in, table_test, number_injective, feeder_there}
 use Rattle.page.proofs.OrderLaws.{arranged_long}
 use Rattle.laws.proofs.Decides.{Decides, holds, fails, fact, tested, both, equal, below}
@@ -93,7 +93,7 @@ pub data NeitherWay (latin : Bool) (l : Bytes) : Phase → Order → Type 0 wher
       ¬ OwnFeeder vs 4 11 → ¬ ForeignFeeder vs 4 11 → NeitherWay latin l (P.Rows t m n) o
 
 -- its line is refused with 25
-neither_stops : {latin : Bool} {l : Bytes} {p : Phase} {o : Order} → Ordered p o → NeitherWay latin l p o → step latin p o l ≡ S.Stop 25
+neither_stops : {latin : Bool} {l : Bytes} {p : Phase} {o : Order} → Ordered p o → NeitherWay latin l p o → step latin p o l ≡ Err 25
 unfolding choose line_step rec_step rec_verdict first_broken
 neither_stops {l = l} a (in_neither {t} {m} {n} {o} {vs} e s h p q) =
     let i : Memᴰ combination (rules t) = rw (combination_of t e) (mathlib.Core.List.Memᴰ.head refl) in
@@ -136,7 +136,7 @@ unfolding any
 neither_told latin p o l b = told_neither (told_record 25 refl latin l p o b)
 
 -- a line is refused with 25 exactly if it is such a record
-pub combined_exactly : (latin : Bool) (l : Bytes) (p : Phase) (o : Order) → Ordered p o → step latin p o l ≡ S.Stop 25 ↔ NeitherWay latin l p o
+pub combined_exactly : (latin : Bool) (l : Bytes) (p : Phase) (o : Order) → Ordered p o → step latin p o l ≡ Err 25 ↔ NeitherWay latin l p o
 combined_exactly latin l p o a = (λ e. neither_told latin p o l ((stop_exactly latin l p o a 25).0 e), neither_stops a)
 
 -- the first failing line of a section, its line n, is one

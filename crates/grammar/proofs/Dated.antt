@@ -1,5 +1,6 @@
 -- 26, "no such day", both ways: each day of a sound section is real, and a line is refused with 26 exactly if it is a record whose first wrong field
 -- is within its range and no such day. Assumes nothing.
+use Rattle.std.specs.Prelude.{Err}
 use mathlib.Core.Path.{◌≡◌, refl, sym, ◌∙◌}
 use mathlib.Core.Bool.{Bool, true, false, not, ◌||◌, ◌&&◌, false≢true}
 use mathlib.Core.List.{List, [], ◌∷◌, ◌++◌}
@@ -23,7 +24,6 @@ use Rattle.page.specs.declared.Owner.{Owner}
 use Rattle.page.specs.declared.Owner.TheVariants as O
 use Rattle.page.specs.declared.Phase.{Phase}
 use Rattle.page.specs.declared.Phase.TheVariants as P
-use Rattle.page.specs.declared.Step.TheVariants as S
 use Rattle.page.proofs.TableLaws.{each, column_test}
 use Rattle.page.proofs.TestLaws.{and_left, and_right}
 use Rattle.page.proofs.OrderLaws.{arranged_long}
@@ -119,13 +119,13 @@ unreal_told : (latin : Bool) (p : Phase) (o : Order) (l : Bytes) → FirstBroken
 unfolding any
 unreal_told latin p o l b = told_unreal (told_record 26 refl latin l p o b)
 
-unreal_stops : {latin : Bool} {l : Bytes} {p : Phase} {o : Order} → Ordered p o → UnrealDay latin l p o → step latin p o l ≡ S.Stop 26
+unreal_stops : {latin : Bool} {l : Bytes} {p : Phase} {o : Order} → Ordered p o → UnrealDay latin l p o → step latin p o l ≡ Err 26
 unfolding choose line_step rec_step rec_verdict
 unreal_stops {l = l} a (unreal {t} {m} {n} {k} {o} s e u) =
     rw (known_step Rec s (omega arith) (P.Rows t m n) o, eq-eqb (length (fields_of l)) (width t) (e ∙ arranged_long (width t) o a), first_unreal u)
 
 -- a line is refused with 26 exactly if it is such a record
-pub unreal_exactly : (latin : Bool) (l : Bytes) (p : Phase) (o : Order) → Ordered p o → step latin p o l ≡ S.Stop 26 ↔ UnrealDay latin l p o
+pub unreal_exactly : (latin : Bool) (l : Bytes) (p : Phase) (o : Order) → Ordered p o → step latin p o l ≡ Err 26 ↔ UnrealDay latin l p o
 unreal_exactly latin l p o a = (λ e. unreal_told latin p o l ((stop_exactly latin l p o a 26).0 e), unreal_stops a)
 
 -- 26, of a section

@@ -1,4 +1,5 @@
 -- The machine refuses a section exactly as the order of refusals says: each number at its line, with the table's number.
+use Rattle.std.specs.Prelude.{Err, Ok, Result}
 use mathlib.Core.Path.{◌≡◌, refl, ap, sym, ◌∙◌}
 use mathlib.Core.Bool.{Bool, true, false, false≢true}
 use mathlib.Core.List.{List, [], ◌∷◌, ◌++◌, append-nil}
@@ -17,8 +18,6 @@ use Rattle.page.specs.Grammar.{Denotes}
 use Rattle.page.specs.Refusals.{FirstBroken, laws, Leads, Reaches, stay, move, is_ended, Refused, at_line, unfinished, section_numbers, OneOf, SoundOr}
 use Rattle.page.specs.declared.Phase.{Phase}
 use Rattle.page.specs.declared.Phase.TheVariants as P
-use Rattle.page.specs.declared.Step.{Step}
-use Rattle.page.specs.declared.Step.TheVariants as S
 use Rattle.page.specs.declared.Outcome.{Outcome}
 use Rattle.grammar.proofs.Arranged.{Ordered}
 use Rattle.grammar.proofs.Steps.{go_exactly, stop_exactly, leads_go, leads_order, ordered_on}
@@ -68,17 +67,17 @@ module _ (latin : Bool) where
           )
   into p o m (l ∷ ls) k v n d z e = by (λ q x c. into q x (suc m) ls k v n c z) (step latin p o l) refl e
     where
-      by : ((q : Phase) (x : Order) → Ordered q x → run latin q x (suc m) ls ≡ refused k v n → (j : ℕ) × (n ≡ j + suc m) × From latin q x ls k v j) → (s : Step) →
+      by : ((q : Phase) (x : Order) → Ordered q x → run latin q x (suc m) ls ≡ refused k v n → (j : ℕ) × (n ≡ j + suc m) × From latin q x ls k v j) → (s : Result Phase ℕ) →
           step latin p o l ≡ s → continue s (table_in p) (suc m) (λ q. run latin q (order_after p o (content l)) (suc m) ls) ≡ refused k v n →
           (j : ℕ) × (n ≡ j + m) × From latin p o (l ∷ ls) k v j
-      by ih (S.Go q) f e =
+      by ih (Ok q) f e =
           let g = (go_exactly latin l p o d q).0 f in
           let x = ih q (order_after p o (content l)) (ordered_on g d) e in
           (suc x.0, omega (arith, x.1), longer p q o (order_after p o (content l)) l ls k v x.0 g x.2)
-      by ih (S.Stop w) f e =
+      by ih (Err w) f e =
           let a : w ≡ v = ap (λ (y : Outcome). y.verdict) e in
           let b : suc m ≡ n = ap (λ (y : Outcome). y.line) e in
-          (1, omega arith, here [] ls l p o refl stay ((stop_exactly latin l p o d v).0 (f ∙ ap S.Stop a)) (sym (ap (λ (y : Outcome). y.table) e)) refl)
+          (1, omega arith, here [] ls l p o refl stay ((stop_exactly latin l p o d v).0 (f ∙ ap Err a)) (sym (ap (λ (y : Outcome). y.table) e)) refl)
 
   -- lines that lead from p to q are read so, and leave the order as q asks
   pub reach_run : {p q : Phase} {o x : Order} {ls : List Bytes} (m : ℕ) (ms : List Bytes) → Ordered p o → Reaches latin p o ls q x →
@@ -118,10 +117,10 @@ module _ (latin : Bool) where
   settled p o m (l ∷ ls) d = by (λ q x. settled q x (suc m) ls) (step latin p o l) refl
     where
       by : ((q : Phase) (x : Order) → Ordered q x → ((run latin q x (suc m) ls).verdict ≡ 0) ⊎ ((k : ℕ) × (v : ℕ) × (n : ℕ) × (¬ (v ≡ 0)) × (run latin q x (suc m) ls ≡ refused k v n))) →
-          (s : Step) → step latin p o l ≡ s → ((continue s (table_in p) (suc m) (λ q. run latin q (order_after p o (content l)) (suc m) ls)).verdict ≡ 0) ⊎
+          (s : Result Phase ℕ) → step latin p o l ≡ s → ((continue s (table_in p) (suc m) (λ q. run latin q (order_after p o (content l)) (suc m) ls)).verdict ≡ 0) ⊎
           ((k : ℕ) × (v : ℕ) × (n : ℕ) × (¬ (v ≡ 0)) × (continue s (table_in p) (suc m) (λ q. run latin q (order_after p o (content l)) (suc m) ls) ≡ refused k v n))
-      by ih (S.Go q) f = ih q (order_after p o (content l)) (ordered_on ((go_exactly latin l p o d q).0 f) d)
-      by ih (S.Stop w) f = inr (table_in p, w, suc m, laws_some latin p o l w ((stop_exactly latin l p o d w).0 f), refl)
+      by ih (Ok q) f = ih q (order_after p o (content l)) (ordered_on ((go_exactly latin l p o d q).0 f) d)
+      by ih (Err w) f = inr (table_in p, w, suc m, laws_some latin p o l w ((stop_exactly latin l p o d w).0 f), refl)
 
 -- a section has table number k, verdict v (not 0) and line n exactly if it is refused so by the order of refusals
 pub refuses_exactly : (latin : Bool) (ls : List Bytes) (k v n : ℕ) → ((outcome latin ls ≡ refused k v n) × ¬ (v ≡ 0)) ↔ Refused latin ls k v n

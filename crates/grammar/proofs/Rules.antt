@@ -1,9 +1,9 @@
 -- The rules of a record: the machine asks them of its fields, the grammar of its values, and each test decides its rule. Assumes nothing.
+use Rattle.std.specs.Prelude.{Some}
 use mathlib.Core.Path.{◌≡◌, refl, ap, sym, ◌∙◌}
 use mathlib.Core.Bool.{Bool, true, false, not, ◌&&◌, ◌||◌, false≢true}
 use mathlib.Core.List.{List, [], ◌∷◌, Memᴰ}
 use mathlib.Core.Logic.{◌⊎◌, inl, inr}
-use mathlib.Core.Option.{some}
 use Prim.Native.Nat.{ℕ, zero, suc, ◌+◌}
 use native.Mathlib.Omega.{arith}
 use lib.Dec.{eqb}
@@ -29,7 +29,7 @@ number_held (a_number t e g h d) u w = rw e
 number_held (no_number t p q) u w = absurd (false≢true (cc))
 number_held (a_text t e g) u w = absurd (false≢true (cc))
 
-text_held : {o : Owner} {c : Column} {f : Bytes} {v : Datum} → Holds o c f v → c.text ≡ true → (w : Bytes) × (v ≡ words o w) × (record_text f ≡ some w)
+text_held : {o : Owner} {c : Column} {f : Bytes} {v : Datum} → Holds o c f v → c.text ≡ true → (w : Bytes) × (v ≡ words o w) × (record_text f ≡ Some w)
 text_held (a_number t e g h d) u = absurd (false≢true (cc))
 text_held (no_number t p q) u = absurd (false≢true (cc))
 text_held (a_text {t} u e g) w = (t, refl, e)
@@ -41,11 +41,11 @@ module _ (vs : Record) (k : ℕ) where
   above_by zero e = fails (λ x. let q = x.1 in let z : 0 ≡ suc x.0 = cc in omega arith)
   above_by (suc n) e = rw (ne_eqb (suc n) 0 (λ z. omega arith)) (holds (n, e))
 
-  empty_by : (o : Owner) (w : Bytes) → get_or vs k (number 0) ≡ words o w → Decides (Empty vs k) (no_bytes (some w))
+  empty_by : (o : Owner) (w : Bytes) → get_or vs k (number 0) ≡ words o w → Decides (Empty vs k) (no_bytes (Some w))
   empty_by o [] e = holds (o, e)
   empty_by o (b ∷ w) e = fails (λ x. let q = x.1 in absurd (false≢true (cc)))
 
-  filled_by : (o : Owner) (w : Bytes) → get_or vs k (number 0) ≡ words o w → Decides (Filled vs k) (not (no_bytes (some w)))
+  filled_by : (o : Owner) (w : Bytes) → get_or vs k (number 0) ≡ words o w → Decides (Filled vs k) (not (no_bytes (Some w)))
   filled_by o [] e = fails (λ x. let q = x.3 in absurd (false≢true (cc)))
   filled_by o (b ∷ w) e = holds (o, b, w, e)
 

@@ -1,4 +1,5 @@
 -- The machine's step goes on exactly where the grammar leads on, and stops exactly by the first broken law.
+use Rattle.std.specs.Prelude.{Err, Ok}
 use mathlib.Core.Path.{◌≡◌, refl, ◌∙◌}
 use mathlib.Core.Bool.{Bool, true, false}
 use mathlib.Core.Logic.{◌↔◌}
@@ -19,7 +20,6 @@ use Rattle.page.specs.Grammar.{fields_of, Says, empty, remark, RecLine}
 use Rattle.page.specs.Refusals.{marks_of, FirstBroken, laws, Leads, quiet, tbl, atr, frm, mark, record_line, end}
 use Rattle.page.specs.declared.Phase.{Phase}
 use Rattle.page.specs.declared.Phase.TheVariants as P
-use Rattle.page.specs.declared.Step.TheVariants as S
 use Rattle.page.proofs.TableLaws.{name_tells}
 use Rattle.page.proofs.OrderLaws.{arranged_long}
 use Rattle.page.proofs.ArrangeLaws.{arrangement_arranged}
@@ -56,7 +56,7 @@ record_right {l = l} t o a m {vs} h =
     )
 
 -- where the grammar leads, the step goes
-pub leads_go : {latin : Bool} {l : Bytes} {p q : Phase} {o x : Order} → Ordered p o → Leads latin l p o q x → Section.step latin p o l ≡ S.Go q
+pub leads_go : {latin : Bool} {l : Bytes} {p q : Phase} {o x : Order} → Ordered p o → Leads latin l p o q x → Section.step latin p o l ≡ Ok q
 unfolding Section.step Section.content_step Section.choose Section.com_step Section.mark_step Section.line_step Section.tbl_step Section.atr_step Section.frm_step Section.rec_step Section.end_step Section.count_step
 leads_go a (quiet (empty ok b)) = rw (ok, b)
 leads_go a (quiet {p} {o} (remark s e)) = rw (known_step Com s (omega arith) p o, e)
@@ -90,9 +90,9 @@ ordered_on (end h) a = a
 
 -- a line leads from one phase to another exactly if the grammar says so
 pub go_exactly : (latin : Bool) (l : Bytes) (p : Phase) (o : Order) → Ordered p o → (q : Phase) →
-    Section.step latin p o l ≡ S.Go q ↔ Leads latin l p o q (Section.order_after p o (content l))
+    Section.step latin p o l ≡ Ok q ↔ Leads latin l p o q (Section.order_after p o (content l))
 go_exactly latin l p o a q = ((step_agrees latin l p o a).led q, leads_go a)
 
 -- a line is refused with v exactly if v is the number of the first law that it breaks
-pub stop_exactly : (latin : Bool) (l : Bytes) (p : Phase) (o : Order) → Ordered p o → (v : ℕ) → Section.step latin p o l ≡ S.Stop v ↔ FirstBroken (laws latin p o l) v
+pub stop_exactly : (latin : Bool) (l : Bytes) (p : Phase) (o : Order) → Ordered p o → (v : ℕ) → Section.step latin p o l ≡ Err v ↔ FirstBroken (laws latin p o l) v
 stop_exactly latin l p o a v = (step_agrees latin l p o a).iff v

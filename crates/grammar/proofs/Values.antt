@@ -1,10 +1,10 @@
 -- A record's fields: what the grammar reads in them is read once, is what `values_of` gives, and the tests on fields decide what is read.
+use Rattle.std.specs.Prelude.{None, Option, Some}
 use mathlib.Core.Path.{◌≡◌, refl, sym, ◌∙◌}
 use mathlib.Core.Bool.{Bool, true, false, ◌&&◌, ◌||◌, false≢true}
 use mathlib.Core.List.Memᴰ
 use mathlib.Core.List.{List, [], ◌∷◌, Memᴰ}
 use mathlib.Core.Logic.{inl, inr}
-use mathlib.Core.Option.{Option, none, some}
 use Prim.Native.Nat.{ℕ, zero, suc, ◌-◌, ◌≤◌, ◌<◌}
 use native.Mathlib.Omega.{arith}
 use lib.Dec.{eqb, leb}
@@ -60,14 +60,14 @@ pub empty_no_number : number_of [] ≡ N.Nothing
 unfolding number_of digits
 empty_no_number = refl
 
-empty_no_text : record_text [] ≡ none
+empty_no_text : record_text [] ≡ None
 unfolding text_of
 empty_no_text = record_text_is []
 
 pub number_some : {f : Bytes} {n : ℕ} → number_of f ≡ N.Plus n → ¬ (f ≡ [])
 number_some e q = let z = empty_no_number in false≢true (cc)
 
-pub text_some : {f t : Bytes} → record_text f ≡ some t → ¬ (f ≡ [])
+pub text_some : {f t : Bytes} → record_text f ≡ Some t → ¬ (f ≡ [])
 text_some e q = let z = empty_no_text in false≢true (cc)
 
 pub number_there : (optional : Bool) (f : Bytes) {n : ℕ} → number_of f ≡ N.Plus n → left_out optional f ≡ false
@@ -109,8 +109,8 @@ right_field o c f = by c.text (left_out c.optional f) refl (left_out_d c.optiona
     of_number N.Nothing t e z = absurd (let y : ⊥ = omega arith in y)
 
     of_text : (x : Option Bytes) → c.text ≡ true → record_text f ≡ x → field_number (text_field c.hi (words_of f)) ≡ 0 → (v : Datum) × Holds o c f v
-    of_text none t e z = let y = rw (worded_none f e) at z in absurd (let y : ⊥ = omega arith in y)
-    of_text (some w) t e z = within (leb (length w) c.hi) (at_most (length w) c.hi) (rw (worded_some f w e) at z)
+    of_text None t e z = let y = rw (worded_none f e) at z in absurd (let y : ⊥ = omega arith in y)
+    of_text (Some w) t e z = within (leb (length w) c.hi) (at_most (length w) c.hi) (rw (worded_some f w e) at z)
       where
         within : (b : Bool) → Decides (length w ≤ c.hi) b → field_number (pick b (F.Text (own_span f)) (F.Refused 13)) ≡ 0 → (v : Datum) × Holds o c f v
         within true (holds p) z = (words o w, a_text t e p)
@@ -176,14 +176,14 @@ unfolding text_of
 number_no_text [] n e = rw empty_no_text
 number_no_text (b ∷ f) n e = rw (record_text_is (b ∷ f)) (by (eqb b 34) (equal b 34))
   where
-    by : (d : Bool) → Decides (b ≡ 34) d → no_bytes (unpadded_in (pick d (body_of false f) none)) ≡ false
+    by : (d : Bool) → Decides (b ≡ 34) d → no_bytes (unpadded_in (pick d (body_of false f) None)) ≡ false
     by true (holds q) = let z : number_of (34 ∷ f) ≡ N.Plus n = rw q at e in let y = quoted_no_number f in absurd (false≢true (cc))
     by false (fails q) = refl
 
-no_bytes_d : (o : Option Bytes) (t : Bytes) → o ≡ some t → Decides (t ≡ []) (no_bytes o)
-no_bytes_d none t e = absurd (false≢true (cc))
-no_bytes_d (some []) t e = holds (cc)
-no_bytes_d (some (b ∷ u)) t e = fails (λ q. absurd (false≢true (cc)))
+no_bytes_d : (o : Option Bytes) (t : Bytes) → o ≡ Some t → Decides (t ≡ []) (no_bytes o)
+no_bytes_d None t e = absurd (false≢true (cc))
+no_bytes_d (Some []) t e = holds (cc)
+no_bytes_d (Some (b ∷ u)) t e = fails (λ q. absurd (false≢true (cc)))
 
 -- field i holds an empty suggestion exactly if the mark is its own and its text is empty
 here_d : (m i : ℕ) {c : Column} {f : Bytes} {v : Datum} → 1 ≤ i → Holds (owner_by (marks_of m) i) c f v → Decides (words O.Suggestion [] ≡ v) (eqb m i && no_bytes (record_text f))

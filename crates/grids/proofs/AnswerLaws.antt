@@ -1,4 +1,5 @@
 -- What a call that hands out a table answers, and what it leaves in the lent numbers. Assumes nothing.
+use Rattle.std.specs.Prelude.{Err, Ok}
 use mathlib.Core.Path.{◌≡◌, refl, ap, sym, ◌∙◌}
 use mathlib.Core.Bool.{Bool, true, false}
 use mathlib.Core.List.{List, [], ◌∷◌}
@@ -14,14 +15,13 @@ use Rattle.page.specs.Fields.{fields}
 use Rattle.page.specs.Tables.{WIDEST, width}
 use Rattle.page.specs.Records.{table_index, atr_in}
 use Rattle.page.specs.Rules.{times}
-use Rattle.page.specs.Answers.{refusal, sound, earlier, refuse_if, written}
+use Rattle.page.specs.Answers.{refusal, sound, earlier, refuse_if, answered}
 use Rattle.page.specs.File.{limit, row_given, row_of}
 use Rattle.page.specs.Head.{latin_of}
 use Rattle.page.specs.Reading.{section_at, row_at, find_refusal, verdict_of}
 use Rattle.page.specs.Handing.{cells_in, cells_of, table_refusal, cells_refusal, table_of, cells_after}
 use Rattle.page.specs.declared.Row.{Row}
 use Rattle.page.specs.declared.Refusal.{Refusal}
-use Rattle.page.specs.declared.Written.TheVariants as W
 use Rattle.arrangement.specs.Orders.{held}
 use Rattle.names.specs.Told.{Told}
 use Rattle.grammar.proofs.Own.{row_count}
@@ -37,18 +37,18 @@ use Rattle.output.proofs.WriteLaws.{put_front}
 
 module _ (s : Bytes) (i : ℕ) (cells : List ℕ) where
   pub table_refused : (q : Refusal) → cells_refusal s i (length cells) ≡ q → (q.number ≡ 0 → ⊥)
-      → (W.Refused q ≡ table_of s i (length cells)) × (cells ≡ cells_after s i cells)
-  unfolding table_of cells_after written
+      → (Err q ≡ table_of s i (length cells)) × (cells ≡ cells_after s i cells)
+  unfolding table_of cells_after answered
   table_refused q e n = (rw (e, ne_eqb q.number 0 n), rw (e, ne_eqb q.number 0 n))
 
   pub table_missing : (x : Refusal) → (x.number ≡ 0 → ⊥) → x ≡ find_refusal s i
-      → (W.Refused x ≡ table_of s i (length cells)) × (cells ≡ cells_after s i cells)
+      → (Err x ≡ table_of s i (length cells)) × (cells ≡ cells_after s i cells)
   unfolding cells_refusal table_refusal earlier
   table_missing x n e = table_refused x (rw (sym e, ne_eqb x.number 0 n, ne_eqb x.number 0 n)) n
 
   pub table_given : cells_refusal s i (length cells) ≡ sound → length (cells_of (section_at s i)) ≤ length cells
-      → (m : List ℕ) (k : ℕ) → Put cells 0 (cells_of (section_at s i)) m k → (W.Length k ≡ table_of s i (length cells)) × (m ≡ cells_after s i cells)
-  unfolding table_of cells_after written
+      → (m : List ℕ) (k : ℕ) → Put cells 0 (cells_of (section_at s i)) m k → (Ok k ≡ table_of s i (length cells)) × (m ≡ cells_after s i cells)
+  unfolding table_of cells_after answered
   table_given e h m k p =
       let z : k ≡ length (cells_of (section_at s i)) = omega (arith, p.next) in
       (rw (e, z), rw e (put_front cells p (omega arith)))

@@ -10,10 +10,9 @@ ghost use Rattle.sections.specs.Located.{Begins};
 ghost use Rattle.output.specs.Put.{Put};
 
 use cells::put_values;
-use lines::Cursor;
-use page::{Refusal, Written};
-use sections::Located;
-use tables::{HIGHS, KINDS, LOWS, MARKS, WIDEST, find_width};
+use lines::lines_from;
+use page::Refusal;
+use tables::{WIDEST, find_width};
 
 // The records of the lines from a place on, in the order o.
 fn put_records(cells: &mut [u64], s: &[u8], from: usize, t: usize, o: &[u8; WIDEST]) -> usize
@@ -23,45 +22,22 @@ fn put_records(cells: &mut [u64], s: &[u8], from: usize, t: usize, o: &[u8; WIDE
         × (length (cells_in t (held t o.now) 0 from (lines (drop from s.now))) ≤ length cells.old) }
     ensures { Put cells.old 0 (cells_in t (held t o.now) 0 from (lines (drop from s.now))) cells.new result }
 {
-    let kinds = KINDS;
-    let marks = MARKS;
-    let lows = LOWS;
-    let highs = HIGHS;
-    let mut c = Cursor { at: from };
     let mut m: u64 = 0;
     let mut i: usize = 0;
-    while c.at < s.len() {
-        let at = c.at;
-        let l = c.line(s);
-        let e = l.span.to;
-        c = l.next;
-        if commands::is_record(&s[at..e]) {
-            let p = places::place_fields(s, at, e, m);
-            let a = p.from;
-            let b = p.to;
-            i = put_values(
-                cells,
-                i,
-                &s[a..b],
-                a,
-                p.mark,
-                t,
-                o,
-                &kinds,
-                &marks,
-                &lows,
-                &highs,
-            );
+    for line in lines_from(s, from) {
+        if commands::is_record(line.bytes) {
+            let p = places::place_fields(s, line.at, line.end(), m);
+            i = put_values(cells, i, &s[p.from..p.to], p.from, p.mark, t, o);
             m = 0;
         } else {
-            m = places::wait_on(&s[at..e], m);
+            m = places::wait_on(line.bytes, m);
         }
     }
     i
 }
 
 // The section at a place: "the section's verdict", then 21 for too little room; three numbers for each column of each record.
-fn hand_table(file: &[u8], section: usize, at: usize, cells: &mut [u64]) -> Written
+fn hand_table(file: &[u8], section: usize, at: usize, cells: &mut [u64]) -> Result<usize, Refusal>
     requires { Begins file.now section at }
     ensures { (result ≡ table_of file.now section (length cells.old))
         × (cells.new ≡ cells_after file.now section cells.old) }
@@ -69,29 +45,27 @@ fn hand_table(file: &[u8], section: usize, at: usize, cells: &mut [u64]) -> Writ
     let latin = headers::read_charset(file);
     let row = sections::read_section(file, at, latin);
     if row.verdict != 0 {
-        return Written::Refused(Refusal {
+        return Err(Refusal {
             number: row.verdict,
-            section: section,
+            section,
             line: row.line,
         });
     }
     let t = names::table_at(file, at);
     let n = find_width(t) * 3;
     if cells.len() < row.records * n {
-        return Written::Refused(sections::refuse_with(21));
+        return Err(sections::refuse_with(21));
     }
     let e = at + row.length;
     let o = names::find_order(&file[at..e], t);
-    Written::Length(put_records(cells, &file[..e], at, t, &o))
+    Ok(put_records(cells, &file[..e], at, t, &o))
 }
 
 // All values of section i, from 1, record by record and column by column.
-pub fn table(file: &[u8], section: usize, cells: &mut [u64]) -> Written
+pub fn table(file: &[u8], section: usize, cells: &mut [u64]) -> Result<usize, Refusal>
     ensures { (result ≡ table_of file.now section (length cells.old))
         × (cells.new ≡ cells_after file.now section cells.old) }
 {
-    match sections::locate(file, section) {
-        Located::At(at) => hand_table(file, section, at, cells),
-        Located::Refused(x) => Written::Refused(x),
-    }
+    let at = sections::locate(file, section)?;
+    hand_table(file, section, at, cells)
 }

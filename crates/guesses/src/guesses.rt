@@ -9,7 +9,7 @@ use bits::choose_word;
 const MARKS: u64 = 2147483648;
 
 // A section's places end here: a file is no longer.
-pub const PLACES: usize = 16777216;
+const PLACES: usize = 16777216;
 
 // How many keys are marked in a room of n entries: with more the walk from a slot is long.
 pub fn most_keys(n: usize) -> usize
@@ -36,53 +36,41 @@ pub fn find_bits(h: u64) -> u32
     (h % 127 + 1) as u32
 }
 
-pub fn wipe(g: &mut [u32]) {
-    let mut i: usize = 0;
-    while i < g.len() {
-        g[i] = 0;
-        i += 1;
-    }
-}
-
-// At the first entry from a key's slot on that is its mark or 0, puts what is to stand there in either case; 1 if it was 0.
-fn put_entry(g: &mut [u32], h: u64, marked: u32, empty: u32) -> usize
-    ensures { result ≤ 1 }
-{
+// At the first entry from a key's slot on that is its mark or 0, puts what is to stand there in either case. Was it 0?
+fn put_entry(g: &mut [u32], h: u64, marked: u32, empty: u32) -> bool {
     let mark = find_mark(h);
-    let mut i = find_slot(h, g.len());
-    while i < g.len() {
-        let x = g[i];
-        if x == mark {
-            g[i] = marked;
-            return 0;
+    let slot = find_slot(h, g.len());
+    for x in &mut g[slot..] {
+        if *x == mark {
+            *x = marked;
+            return false;
         }
-        if x == 0 {
-            g[i] = empty;
-            return 1;
+        if *x == 0 {
+            *x = empty;
+            return true;
         }
-        i += 1;
     }
-    0
+    false
 }
 
-// Marks a key as referred to; 1 if it was not before.
-pub fn note_key(g: &mut [u32], h: u64) -> usize
-    ensures { result ≤ 1 }
-{
+// Marks a key as referred to. Was it not before?
+pub fn note_key(g: &mut [u32], h: u64) -> bool {
     let mark = find_mark(h);
     put_entry(g, h, mark, mark)
 }
 
-pub fn narrow(at: usize) -> u32
-    requires { at < 16777216 }
-    ensures { result < 16777216 }
-{
-    at as u32
+// What stands for a record at a place; nothing past the last place.
+pub fn entry_at(h: u64, at: usize) -> Option<u32> {
+    if at < PLACES {
+        Some(find_bits(h) * 16777216 + at as u32)
+    } else {
+        None
+    }
 }
 
 // Puts a record's place where its key is marked.
 pub fn note_place(g: &mut [u32], h: u64, at: usize) {
-    if at < PLACES {
-        put_entry(g, h, find_bits(h) * 16777216 + narrow(at), 0);
+    if let Some(entry) = entry_at(h, at) {
+        put_entry(g, h, entry, 0);
     }
 }

@@ -2,7 +2,7 @@
 // a line that is no record has one too. Records whose numbers are equal have the same, however they are written and in whatever order.
 use choices::Choice;
 use keys::Key;
-use lines::Cursor;
+use lines::lines_from;
 
 // A line's hash, and where the next line begins.
 #[derive(Clone, Copy)]
@@ -19,33 +19,27 @@ struct Digits {
     last: bool,
 }
 
-fn widen(b: u8) -> u64 {
-    b as u64
-}
-
 fn read_digits(w: &[u8], at: usize) -> Digits {
     let mut value: u64 = 0;
     let mut inside = false;
-    let mut i = at;
-    while i < w.len() {
-        let d = widen(w[i]);
-        i += 1;
-        if (48 <= d) & (d <= 57) {
-            value = value % 1152921504606846976 * 10 + d % 16;
+    for i in at..w.len() {
+        let b = w[i];
+        if (b'0' <= b) & (b <= b'9') {
+            value = value % 1152921504606846976 * 10 + u64::from(b % 16);
         } else {
-            if (d == 10) | (d == 59) & !inside {
+            if (b == b'\n') | (b == b';') & !inside {
                 return Digits {
-                    value: value,
-                    next: i,
-                    last: d == 10,
+                    value,
+                    next: i + 1,
+                    last: b == b'\n',
                 };
             }
-            inside = inside ^ (d == 34);
+            inside ^= b == b'"';
         }
     }
     Digits {
-        value: value,
-        next: i,
+        value,
+        next: w.len(),
         last: true,
     }
 }
@@ -73,34 +67,35 @@ pub fn hash_line(w: &[u8], at: usize, choice: Choice) -> Hashed {
     let mut rest = choice.kinds % 4611686018427387904 * 4;
     let mut slots = choice.slots % 2305843009213693952 * 8;
     let mut hash: u64 = 0;
-    let mut i = at;
+    let mut next = at;
+    // No `for`: the digits that are left say whether the walk goes on.
     while 0 < rest {
-        let x = read_digits(w, i);
-        i = x.next;
+        let x = read_digits(w, next);
+        next = x.next;
         hash = add_field(hash, rest, slots, x.value);
-        rest = rest / 4;
-        slots = slots / 8;
+        rest /= 4;
+        slots /= 8;
         if x.last {
             return Hashed {
                 hash: keys::mix(hash),
-                next: i,
+                next,
             };
         }
     }
+    if let Some(line) = lines_from(w, next).next() {
+        next = line.end();
+    }
     Hashed {
         hash: keys::mix(hash),
-        next: Cursor { at: i }.line(w).span.to,
+        next,
     }
 }
 
 // The hash of a line that has a key's numbers.
 pub fn hash_key(key: Key) -> u64 {
-    let k = key.k;
     let mut hash: u64 = 0;
-    let mut i: usize = 0;
-    while i < 7 {
-        hash = hash ^ mix_number(k[i], i as u64);
-        i += 1;
+    for (i, &value) in key.k.iter().enumerate() {
+        hash ^= mix_number(value, i as u64);
     }
     keys::mix(hash)
 }

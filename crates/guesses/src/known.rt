@@ -11,62 +11,46 @@ pub struct Known {
     pub until: usize,
 }
 
-// Nothing is guessed, so nowhere do guesses end.
-pub fn nothing_known() -> Known {
-    Known {
+impl Known {
+    // Nothing is guessed, so nowhere do guesses end.
+    pub const NOTHING: Known = Known {
         first: 0,
         second: 0,
         third: 0,
         guessed: 0,
-        until: 18446744073709551615,
+        until: usize::MAX,
+    };
+
+    pub fn last_place(self, r: usize) -> usize {
+        match r {
+            0 => self.first,
+            1 => self.second,
+            _ => self.third,
+        }
     }
-}
 
-pub fn last_place(k: Known, r: usize) -> usize {
-    if r == 0 {
-        return k.first;
+    pub fn with_place(self, r: usize, at: usize) -> Known {
+        match r {
+            0 => Known { first: at, ..self },
+            1 => Known { second: at, ..self },
+            2 => Known { third: at, ..self },
+            _ => self,
+        }
     }
-    if r == 1 {
-        return k.second;
+
+    pub fn is_guessed(self, r: usize) -> bool {
+        self.guessed & 1 << r % 64 != 0
     }
-    k.third
-}
 
-fn put_place(here: bool, new: usize, old: usize) -> usize {
-    if here { new } else { old }
-}
-
-pub fn keep_place(k: Known, r: usize, at: usize) -> Known {
-    Known {
-        first: put_place(r == 0, at, k.first),
-        second: put_place(r == 1, at, k.second),
-        third: put_place(r == 2, at, k.third),
-        guessed: k.guessed,
-        until: k.until,
+    // From now on with guesses for a reference.
+    pub fn with_guess(self, r: usize) -> Known {
+        Known {
+            guessed: self.guessed | 1 << r % 64,
+            ..self
+        }
     }
-}
 
-pub fn is_guessed(k: Known, r: usize) -> bool {
-    k.guessed & 1 << r % 64 != 0
-}
-
-// From now on with guesses for a reference.
-pub fn let_guess(k: Known, r: usize) -> Known {
-    Known {
-        first: k.first,
-        second: k.second,
-        third: k.third,
-        guessed: k.guessed | 1 << r % 64,
-        until: k.until,
-    }
-}
-
-pub fn keep_end(k: Known, until: usize) -> Known {
-    Known {
-        first: k.first,
-        second: k.second,
-        third: k.third,
-        guessed: k.guessed,
-        until: until,
+    pub fn with_end(self, until: usize) -> Known {
+        Known { until, ..self }
     }
 }

@@ -7,8 +7,8 @@ mod hashes;
 mod known;
 mod noted;
 
-pub use follow::{finds_guessed, finds_near};
-pub use guesses::{most_keys, note_key, note_place, wipe};
+pub use follow::{find_guessed, find_near};
+pub use guesses::{most_keys, note_key, note_place};
 pub use hashes::{hash_key, hash_line};
-pub use known::{Known, is_guessed, keep_end, keep_place, last_place, let_guess, nothing_known};
+pub use known::Known;
 pub use noted::{add_place, is_noted, set_noted};

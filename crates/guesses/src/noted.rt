@@ -1,27 +1,23 @@
 // The records of whole sections, for files so short that all of them have room: what is noted once serves every reference of the file.
-use crate::guesses::{PLACES, find_bits, find_slot, narrow};
+use crate::guesses::{entry_at, find_slot};
 
 // Puts a record's place behind those that have its slot.
 pub fn add_place(g: &mut [u32], h: u64, at: usize) {
-    if PLACES <= at {
+    let Some(entry) = entry_at(h, at) else {
         return;
-    }
-    let mut i = find_slot(h, g.len());
-    while i < g.len() {
-        if g[i] == 0 {
-            g[i] = find_bits(h) * 16777216 + narrow(at);
+    };
+    let slot = find_slot(h, g.len());
+    for x in &mut g[slot..] {
+        if *x == 0 {
+            *x = entry;
             return;
         }
-        i += 1;
     }
 }
 
 // Are the records of table t noted? The last entries, which stand for no record, tell.
 pub fn is_noted(g: &[u32], t: usize) -> bool {
-    if t < g.len() {
-        return g[g.len() - 1 - t] == 1;
-    }
-    false
+    t < g.len() && g[g.len() - 1 - t] == 1
 }
 
 pub fn set_noted(g: &mut [u32], t: usize) {

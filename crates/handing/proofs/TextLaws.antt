@@ -1,8 +1,9 @@
 -- A text's own bytes are what stands between its quotes, and what a call that hands them out answers. Assumes nothing.
+use Rattle.std.specs.Prelude.{Err, Ok, Result, Some}
+use Rattle.page.specs.declared.Copied.{Copied}
 use mathlib.Core.Path.{◌≡◌, refl, ap, sym, ◌∙◌}
 use mathlib.Core.Bool.{Bool, true, false, not, ◌||◌}
 use mathlib.Core.List.{[]}
-use mathlib.Core.Option.{some}
 use Prim.Native.Nat.{ℕ, ◌+◌, ◌-◌, ◌<◌, ◌≤◌}
 use native.Mathlib.Omega.{arith}
 use borrow.Author.Tests.{eqb-true, eqb-false, ne_eqb}
@@ -17,7 +18,7 @@ use Rattle.page.specs.Head.{latin_of}
 use Rattle.page.specs.Section.{Wording, words_of, record_text, field_of, field_number, rec_verdict, outcome}
 use Rattle.page.specs.Records.{table_index, order_in}
 use Rattle.page.specs.Places.{Standing, field_span}
-use Rattle.page.specs.Answers.{refusal, earlier, refuse_if, got, handed}
+use Rattle.page.specs.Answers.{refusal, earlier, refuse_if, answered}
 use Rattle.page.specs.Writing.{put_refusal, put_after}
 use Rattle.page.specs.File.{limit, header_refusal, row_given, row_of}
 use Rattle.page.specs.Reading.{no_section, outside, section_at, row_at, find_refusal, verdict_of, value_refusal, later_field, field_at, valued, value_in, record_of, value_at}
@@ -27,10 +28,7 @@ use Rattle.page.specs.declared.Column.{Column}
 use Rattle.page.specs.declared.Field.{Field}
 use Rattle.page.specs.declared.Row.{Row}
 use Rattle.page.specs.declared.Value.{Value}
-use Rattle.page.specs.declared.Got.TheVariants as G
 use Rattle.page.specs.declared.Owner.{Owner}
-use Rattle.page.specs.declared.Handed.{Handed}
-use Rattle.page.specs.declared.Handed.TheVariants as Ha
 use Rattle.page.proofs.LimitLaws.{header_short}
 use Rattle.page.proofs.ScanLaws.{part_length, part_moved}
 use Rattle.page.proofs.FieldLaws.{field_span_in, field_span_part}
@@ -53,19 +51,19 @@ use Rattle.laws.proofs.Earlier.{earlier_none}
 
 -- what an answer tells of its refusal
 
-pub got_is : (r : Refusal) (v w : Value) → G.Is w ≡ got r v → (r.number ≡ 0) × (w ≡ v)
-unfolding got
+pub got_is : (r : Refusal) (v w : Value) → Ok w ≡ answered r v → (r.number ≡ 0) × (w ≡ v)
+unfolding answered
 got_is r v w e = by (eqb r.number 0) refl e
   where
-    by : (b : Bool) → eqb r.number 0 ≡ b → G.Is w ≡ pick b (G.Is v) (G.Refused r) → (r.number ≡ 0) × (w ≡ v)
+    by : (b : Bool) → eqb r.number 0 ≡ b → Ok w ≡ pick b (Ok v) (Err r) → (r.number ≡ 0) × (w ≡ v)
     by true q e = (eqb-true r.number 0 q, cc)
     by false q e = absurd (let z : ◌≡◌ {A = ℕ} 0 1 = cc in omega arith)
 
-pub got_refused : (r x : Refusal) (v : Value) → G.Refused x ≡ got r v → (x.number ≡ 0 → ⊥) × (x ≡ r)
-unfolding got
+pub got_refused : (r x : Refusal) (v : Value) → Err x ≡ answered r v → (x.number ≡ 0 → ⊥) × (x ≡ r)
+unfolding answered
 got_refused r x v e = by (eqb r.number 0) refl e
   where
-    by : (b : Bool) → eqb r.number 0 ≡ b → G.Refused x ≡ pick b (G.Is v) (G.Refused r) → (x.number ≡ 0 → ⊥) × (x ≡ r)
+    by : (b : Bool) → eqb r.number 0 ≡ b → Err x ≡ pick b (Ok v) (Err r) → (x.number ≡ 0 → ⊥) × (x ≡ r)
     by true q e = absurd (let z : ◌≡◌ {A = ℕ} 0 1 = cc in omega arith)
     by false q e = let y : x ≡ r = cc in (rw y (eqb-false r.number 0 q), y)
 
@@ -84,7 +82,7 @@ verdict_none i x e = by (eqb x.verdict 0) refl
 
 -- what is refused before there is any writing
 refused_text : (o : Owner) (r : Refusal) (form l : Bytes) → (r.number ≡ 0 → ⊥)
-    → (Ha.Refused r ≡ handed (put_refusal r form (length l)) (copied form o)) × (l ≡ put_after r form l)
+    → (Err r ≡ answered (put_refusal r form (length l)) (copied form o)) × (l ≡ put_after r form l)
 refused_text o r form l n =
     let z = refused r form l n in
     (ap (owned o) z.answer ∙ owned_put o r form (length l), z.left)
@@ -110,12 +108,12 @@ sound_of s i f v =
     }
 
 -- the text of a field is what stands there with its doubled quotes undone
-wording_own : (f : Bytes) (y : Wording) → words_of f ≡ some y → undoubled false (part y.span f) ≡ y.own
+wording_own : (f : Bytes) (y : Wording) → words_of f ≡ Some y → undoubled false (part y.span f) ≡ y.own
 wording_own f y e = ap (undoubled false) (words_there f y e).stands ∙ undoubled_doubled y.own
 
 -- a record's text, of what lies in the file
 module _ (s : Bytes) (x : Standing) (p : ℕ) (y : Wording) (l : Lain s x) (short : length s ≤ limit) (h : p < length (fields x.rest))
-    (e : words_of (get_or (fields x.rest) p []) ≡ some y) where
+    (e : words_of (get_or (fields x.rest) p []) ≡ Some y) where
   abbrev w : Bytes
   w = x.rest
 
@@ -211,14 +209,14 @@ module _ (s : Bytes) (i r f : ℕ) (found : (value_refusal s i r f).number ≡ 0
   spans_by h (no_number q) = tt
   spans_by h (no_value v n) = tt
 
-  gave_none : c.text ≡ false → (l m : Bytes) (w : Handed) → w ≡ Ha.Refused (refusal 11 0 0) → m ≡ l
+  gave_none : c.text ≡ false → (l m : Bytes) (w : Result Copied Refusal) → w ≡ Err (refusal 11 0 0) → m ≡ l
       → (w ≡ text_out s i r f (length l)) × (m ≡ text_after s i r f l)
   unfolding text_out text_after refuse_if
   gave_none q l m w e n =
       let y = refused_text (text_owner s i r f) (refusal 11 0 0) (own_text s i r f) l (λ (e : ◌≡◌ {A = ℕ} 11 0). omega arith) in
       (rw (refusal_is, q) (e ∙ y.0), rw (refusal_is, q) (n ∙ y.1))
 
-  gave_by : There s i r f → {g : Field} → Read c (get_or (fields st.rest) p []) g → field_number g ≡ 0 → (l m : Bytes) (w : Handed)
+  gave_by : There s i r f → {g : Field} → Read c (get_or (fields st.rest) p []) g → field_number g ≡ 0 → (l m : Bytes) (w : Result Copied Refusal)
       → Gave s (handed_as g) l m w → (w ≡ text_out s i r f (length l)) × (m ≡ text_after s i r f l)
   unfolding text_out text_after own_text record_text refuse_if field_number
   gave_by h (a_text y q e) z l m w x =
@@ -236,7 +234,7 @@ module _ (s : Bytes) (i r f : ℕ) (found : (value_refusal s i r f).number ≡ 0
   pub value_spans : (v : Value) → v ≡ value_at (section_at s i) r f → Spans s v
   value_spans v e = rw (e ∙ value_is) (spans_by (there_of s i r f found) (read_of c _))
 
-  pub value_gave : (v : Value) → v ≡ value_at (section_at s i) r f → (l m : Bytes) (w : Handed) → Gave s v l m w
+  pub value_gave : (v : Value) → v ≡ value_at (section_at s i) r f → (l m : Bytes) (w : Result Copied Refusal) → Gave s v l m w
       → (w ≡ text_out s i r f (length l)) × (m ≡ text_after s i r f l)
   value_gave v e l m w x =
       let h = there_of s i r f found in
@@ -244,7 +242,7 @@ module _ (s : Bytes) (i r f : ℕ) (found : (value_refusal s i r f).number ≡ 0
 
 -- a value that is not there
 pub text_refused : (s : Bytes) (i r f : ℕ) (x : Refusal) → (x.number ≡ 0 → ⊥) → x ≡ value_refusal s i r f → (l : Bytes)
-    → (Ha.Refused x ≡ text_out s i r f (length l)) × (l ≡ text_after s i r f l)
+    → (Err x ≡ text_out s i r f (length l)) × (l ≡ text_after s i r f l)
 unfolding text_out text_after text_refusal earlier
 text_refused s i r f x n e l =
     let y : eqb (value_refusal s i r f).number 0 ≡ false = rw e at (ne_eqb x.number 0 n) in

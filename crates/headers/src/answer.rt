@@ -3,7 +3,7 @@ ghost use Rattle.std.specs.Prelude.{◌≡◌};
 ghost use Rattle.page.specs.File.{header_refusal};
 ghost use Rattle.page.specs.Reading.{header_of};
 
-use page::{Headed, Refusal};
+use page::{Header, Refusal};
 
 // "The first of 1, 2."
 pub fn refuse_header(file: &[u8]) -> Refusal
@@ -25,12 +25,12 @@ pub fn refuse_header(file: &[u8]) -> Refusal
 }
 
 // The header's values, or 1 or 2.
-pub fn header(file: &[u8]) -> Headed
+pub fn header(file: &[u8]) -> Result<Header, Refusal>
     ensures { result ≡ header_of file.now }
 {
     let r = refuse_header(file);
     if r.number != 0 {
-        return Headed::Refused(r);
+        return Err(r);
     }
-    Headed::Is(crate::values::read_values(file))
+    Ok(crate::values::read_values(file))
 }

@@ -3,11 +3,13 @@ ghost use Rattle.std.specs.Prelude.{◌≡◌};
 ghost use Rattle.page.specs.Lines.{lines};
 ghost use Rattle.page.specs.Fields.{fields};
 ghost use Rattle.page.specs.Cut.{header_lines};
+ghost use Rattle.commands.specs.Commands.{code};
 ghost use Rattle.page.specs.Header.{mod_step, other_step, met_none, head_step, head_of};
 
 use clauses::{end_header, meet, was_met};
-use lines::Cursor;
-use page::{Finding, Heading, Met};
+use commands::Command;
+use lines::{content_of, lines_of};
+use page::{Finding, Met};
 
 fn begin(form: u32) -> Met
     ensures { result ≡ met_none form }
@@ -24,73 +26,65 @@ fn begin(form: u32) -> Met
 }
 
 // "The first other line is `mod`": a line of command k, before any has been met.
-fn step_mode(w: &[u8], k: u32) -> Heading
-    ensures { result ≡ mod_step k (fields w.now) }
+#[tactic(auto, unfolding(page::specs::Header::mod_step, page::specs::Header::head_choose))]
+fn step_mode(w: &[u8], k: Command) -> Option<Met>
+    ensures { result ≡ mod_step (code k) (fields w.now) }
 {
-    if k != commands::MOD {
-        return Heading::Stop;
+    if k != Command::Mod {
+        return None;
     }
-    let form = clauses::read_mode(w);
-    if form == 0 {
-        return Heading::Stop;
+    match clauses::read_mode(w) {
+        0 => None,
+        form => Some(begin(form)),
     }
-    Heading::Go(begin(form))
 }
 
 // "Then `src`, `chs`, `ver`, `ifv` once each and `dve`, `fft` at most once, in any order."
-fn step_other(w: &[u8], m: Met, k: u32) -> Heading
-    ensures { result ≡ other_step m k (fields w.now) }
+#[tactic(auto, unfolding(page::specs::Header::other_step, page::specs::Header::head_choose))]
+fn step_other(w: &[u8], m: Met, k: Command) -> Option<Met>
+    ensures { result ≡ other_step m (code k) (fields w.now) }
 {
-    if was_met(m, k) {
-        return Heading::Stop;
+    if !was_met(m, k) && clauses::holds(w, k, m.form) {
+        Some(meet(m, k))
+    } else {
+        None
     }
-    let form = m.form;
-    if clauses::holds(w, k, form) {
-        return Heading::Go(meet(m, k));
-    }
-    Heading::Stop
 }
 
 // What a line leads to: `c` is its content.
-pub fn step_header(c: &[u8], m: Met) -> Heading
+#[tactic(auto, unfolding(page::specs::Header::head_step, page::specs::Header::head_choose))]
+pub fn step_header(c: &[u8], m: Met) -> Option<Met>
     ensures { result ≡ head_step m c.now }
 {
     if !commands::is_clean(c, false) {
-        return Heading::Stop;
+        return None;
     }
     if lines::is_blank(c) {
-        return Heading::Go(m);
+        return Some(m);
     }
-    let k = commands::command_of(c);
-    if k == commands::COM {
-        return Heading::Go(m);
+    let k = Command::of(c);
+    if k == Command::Com {
+        return Some(m);
     }
     let w = lines::rest_of(c);
     if m.form == 0 {
-        return step_mode(w, k);
+        step_mode(w, k)
+    } else {
+        step_other(w, m, k)
     }
-    step_other(w, m, k)
 }
 
 // The verdict on a header's bytes.
 fn read_lines(s: &[u8]) -> Finding
     ensures { result ≡ head_of (lines s.now) }
 {
-    let mut c = Cursor { at: 0 };
     let mut m = begin(0);
     let mut n: usize = 0;
-    while c.at < s.len() {
-        let at = c.at;
-        let l = c.line(s);
-        let e = l.span.to;
-        let st = step_header(lines::content_of(&s[at..e]), m);
-        c = l.next;
+    for line in lines_of(s) {
         n += 1;
-        match st {
-            Heading::Go(q) => {
-                m = q;
-            }
-            Heading::Stop => {
+        match step_header(content_of(line.bytes), m) {
+            Some(q) => m = q,
+            None => {
                 return Finding {
                     verdict: 2,
                     line: n,

@@ -1,8 +1,8 @@
 -- A record's fields from the left, against the columns of its table as they stand. Assumes nothing.
+use Rattle.std.specs.Prelude.{None, Option, Some}
 use mathlib.Core.Path.{◌≡◌, refl, ap, sym, ◌∙◌}
 use mathlib.Core.Bool.{Bool, true, false, ◌&&◌}
 use mathlib.Core.List.{List, [], ◌∷◌}
-use mathlib.Core.Option.{Option, none, some}
 use Prim.Native.Nat.{ℕ, ◌+◌, ◌-◌, ◌<◌, ◌≤◌}
 use native.Mathlib.Numerals.{add-one}
 use native.Mathlib.Omega.{arith}
@@ -12,9 +12,9 @@ use lib.Seq.{take_all, take-suc, drop-cons, get_or-set_same, get_or-set_other}
 use borrow.Author.Tests.{eq-eqb, ne_eqb, eqb-true, eqb-false, ltb-true, ltb-false}
 use Rattle.page.specs.Bytes.{Bytes, pick, all, moved}
 use Rattle.page.specs.Fields.{field_size, fields, number_of}
-use Rattle.page.specs.Tables.{Named, WIDEST, no_column, column_at, width}
+use Rattle.page.specs.Tables.{Named, WIDEST, no_column, column_at, width, rules}
 use Rattle.page.specs.Order.{Order, standing, place, by_column}
-use Rattle.page.specs.Section.{Wording, own_of, words_of, record_text, text_field, number_field, left_out, field_of, field_number, first_of, first_wrong, amount, no_bytes}
+use Rattle.page.specs.Section.{Wording, own_of, words_of, record_text, text_field, number_field, left_out, field_of, field_number, first_of, first_wrong, first_broken, empty_marked, rec_verdict, amount, no_bytes}
 use Rattle.page.specs.Form.{doubled}
 use Rattle.page.specs.Reading.{later_field}
 use Rattle.page.specs.declared.Column.{Column}
@@ -29,10 +29,7 @@ use Rattle.page.proofs.FieldLaws.{from, from_end}
 use Rattle.lines.proofs.RunLaws.{all_append, all_run}
 use Rattle.digits.proofs.RunLaws.{stop_at}
 use Rattle.amounts.proofs.AmountLaws.{no_number}
-use Rattle.fields.proofs.ColumnLaws.{column_asked}
-use Rattle.tables.specs.Arrays.{first_column, kinds, marks, lows, highs, Said}
 use Rattle.arrangement.specs.Orders.{held, Stands}
-use Rattle.tables.proofs.ArrayLaws.{said_column}
 use Rattle.arrangement.proofs.OrderLaws.{held_length, held_at, held_standing, held_column}
 use Rattle.rules.specs.Broken.{Kept, Columns}
 use Rattle.judging.specs.Judging.{judged_number, Numbers, Judged}
@@ -70,13 +67,13 @@ span_read c f k sp e = by c.text (left_out c.optional f) e
         let x : sp ≡ moved n s = cc in
         rw x (omega arith)
 
-    sized : (x : Wording) → words_of f ≡ some x → (b : Bool) → F.Text sp ≡ later_field k (pick b (F.Text x.span) (F.Refused 13)) → sp.from ≤ sp.to
+    sized : (x : Wording) → words_of f ≡ Some x → (b : Bool) → F.Text sp ≡ later_field k (pick b (F.Text x.span) (F.Refused 13)) → sp.from ≤ sp.to
     sized x w true q = let y = words_there f x w in later k x.span (omega (arith, y.begins, y.ends)) q
     sized x w false q = absurd (let z : ◌≡◌ {A = ℕ} 0 1 = cc in omega arith)
 
     worded_so : (o : Option Wording) → words_of f ≡ o → F.Text sp ≡ later_field k (text_field c.hi o) → sp.from ≤ sp.to
-    worded_so none w q = absurd (let z : ◌≡◌ {A = ℕ} 0 1 = cc in omega arith)
-    worded_so (some x) w q = sized x w (leb (length x.own) c.hi) q
+    worded_so None w q = absurd (let z : ◌≡◌ {A = ℕ} 0 1 = cc in omega arith)
+    worded_so (Some x) w q = sized x w (leb (length x.own) c.hi) q
 
     no_text : {r : Field} → NumberRead (number_of f) r → F.Text sp ≡ later_field k r → sp.from ≤ sp.to
     no_text (as_number n e) q = absurd (let z : ◌≡◌ {A = ℕ} 0 1 = cc in omega arith)
@@ -84,6 +81,31 @@ span_read c f k sp e = by c.text (left_out c.optional f) e
 
     by : (b d : Bool) → F.Text sp ≡ later_field k (pick b (text_field c.hi (words_of f)) (pick d F.Missing (number_field c.day c.lo c.hi (number_of f)))) → sp.from ≤ sp.to
     by true d q = worded_so (words_of f) refl q
+    by false true q = absurd (let z : ◌≡◌ {A = ℕ} 0 1 = cc in omega arith)
+    by false false q = no_text (number_read_so c.day c.lo c.hi (number_of f)) q
+
+-- a refusal has a number
+pub refused_some : (c : Column) (f : Bytes) (k v : ℕ) → F.Refused v ≡ later_field k (field_of c f) → v ≡ 0 → ⊥
+unfolding field_of text_field
+refused_some c f k v e = by c.text (left_out c.optional f) e
+  where
+    told : (n : ℕ) → F.Refused v ≡ F.Refused n → (n ≡ 0 → ⊥) → v ≡ 0 → ⊥
+    told n q h z = let x : v ≡ n = cc in h (sym x ∙ z)
+
+    sized : (x : Wording) (b : Bool) → F.Refused v ≡ later_field k (pick b (F.Text x.span) (F.Refused 13)) → v ≡ 0 → ⊥
+    sized x true q = absurd (let z : ◌≡◌ {A = ℕ} 0 1 = cc in omega arith)
+    sized x false q = told 13 q (λ z. omega arith)
+
+    worded_so : (o : Option Wording) → F.Refused v ≡ later_field k (text_field c.hi o) → v ≡ 0 → ⊥
+    worded_so None q = told 11 q (λ z. omega arith)
+    worded_so (Some x) q = sized x (leb (length x.own) c.hi) q
+
+    no_text : {r : Field} → NumberRead (number_of f) r → F.Refused v ≡ later_field k r → v ≡ 0 → ⊥
+    no_text (as_number n e) q = absurd (let z : ◌≡◌ {A = ℕ} 0 1 = cc in omega arith)
+    no_text (as_refusal u n) q = told u q n
+
+    by : (b d : Bool) → F.Refused v ≡ later_field k (pick b (text_field c.hi (words_of f)) (pick d F.Missing (number_field c.day c.lo c.hi (number_of f)))) → v ≡ 0 → ⊥
+    by true d q = worded_so (words_of f) q
     by false true q = absurd (let z : ◌≡◌ {A = ℕ} 0 1 = cc in omega arith)
     by false false q = no_text (number_read_so c.day c.lo c.hi (number_of f)) q
 
@@ -102,27 +124,21 @@ text_known : (c : Column) (f : Bytes) → field_number (field_of c f) ≡ 0 → 
 unfolding field_of text_field field_number judged_number record_text doubled
 text_known c f z e = rw e (by (words_of f) refl (rw e at z))
   where
-    bare : (n : ℕ) (t : Bytes) → n ≡ length (doubled t) → eqb n 0 ≡ no_bytes (some t)
+    bare : (n : ℕ) (t : Bytes) → n ≡ length (doubled t) → eqb n 0 ≡ no_bytes (Some t)
     bare n [] q = eq-eqb n 0 q
     bare n (b ∷ t) q = ne_eqb n 0 (λ (y : n ≡ 0). omega (arith, doubled_least (b ∷ t)))
 
-    sized : (x : Wording) → words_of f ≡ some x → (b : Bool) → field_number (pick b (F.Text x.span) (F.Refused 13)) ≡ 0
-        → eqb (judged_number (pick b (F.Text x.span) (F.Refused 13))) 0 ≡ no_bytes (some x.own)
+    sized : (x : Wording) → words_of f ≡ Some x → (b : Bool) → field_number (pick b (F.Text x.span) (F.Refused 13)) ≡ 0
+        → eqb (judged_number (pick b (F.Text x.span) (F.Refused 13))) 0 ≡ no_bytes (Some x.own)
     sized x w true q = let y = words_there f x w in bare (x.span.to - x.span.from) x.own (omega (arith, y.begins, y.ends))
     sized x w false q = absurd (omega arith)
 
     by : (o : Option Wording) → words_of f ≡ o → field_number (text_field c.hi o) ≡ 0 → eqb (judged_number (text_field c.hi o)) 0 ≡ no_bytes (own_of o)
-    by none w q = absurd (omega arith)
-    by (some x) w q = sized x w (leb (length x.own) c.hi) q
+    by None w q = absurd (omega arith)
+    by (Some x) w q = sized x w (leb (length x.own) c.hi) q
 
 kept_of : (c : Column) (f : Bytes) → field_number (field_of c f) ≡ 0 → Kept c f (judged_number (field_of c f))
 kept_of c f z = record { worth = number_known c f z; empty = text_known c f z }
-
--- what the code asks of a column is what its reading asks, by the column's entries in the rows
-pub column_told : (t k i : ℕ) (ks ms ls hs : List ℕ) → (ks ≡ kinds) × (ms ≡ marks) × (ls ≡ lows) × (hs ≡ highs) → i ≡ first_column t + k → k < width t
-    → (d : Column) → Said (get_or ks i 0) (get_or ms i 0) (get_or ls i 0) (get_or hs i 0) d → (f : Bytes) → field_of d f ≡ field_of (column_at t k) f
-column_told t k i ks ms ls hs x e h d s f =
-    column_asked (column_at t k) d (said_column t k i e h d (rw (x.0, x.1, x.2, x.3) at s)) f
 
 -- "each field from the left": no field is left, no column is left, or one of each
 
@@ -223,9 +239,16 @@ module _ (t : ℕ) (a : List ℕ) (x : Stands t a) where
           numbers = λ (z : ◌≡◌ {A = ℕ} 0 0) (q : length (fields w) ≡ width t). by_columns (fields w) ns (rw g m);
         }
 
-pub judged_wrong : (t : ℕ) (o : Order) (fs : List Bytes) (v : ℕ) (ns : List ℕ) → (v ≡ 0 → ⊥) → v ≡ first_wrong (standing t o) fs → Judged t o fs v false ns
-judged_wrong t o fs v ns n e =
-    record { first = e; ends = λ (x : false ≡ true). false_true x; numbers = λ (z : v ≡ 0) (q : length fs ≡ width t). absurd (n z) }
+-- a record with a wrong field does not pass
+pub verdict_wrong : (t : ℕ) (o : Order) (m : ℕ) (fs : List Bytes) (v : ℕ) → v ≡ first_wrong (standing t o) fs → (v ≡ 0 → ⊥)
+    → eqb (rec_verdict t o m fs) 0 ≡ false
+unfolding rec_verdict
+verdict_wrong t o m fs v e n = by (eqb (length fs) (width t))
+  where
+    by : (b : Bool)
+        → eqb (pick b (first_of (first_wrong (standing t o) fs) (first_of (first_broken (rules t) (by_column o fs)) (pick (empty_marked m fs) 15 0))) 10) 0 ≡ false
+    by true = rw (sym e, ne_eqb v 0 n) (ne_eqb v 0 n)
+    by false = refl
 
 -- the bytes that have been walked are allowed: a field's, and the `;` after it
 

@@ -5,3 +5,4 @@ pub mod SoundLaws
 pub mod WordLaws
 pub mod StoreLaws
 pub mod OrderLaws
+pub mod DeriveLaws

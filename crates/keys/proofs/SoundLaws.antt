@@ -1,8 +1,8 @@
 -- What a sound section's verdict tells: its table, that each column stands once, and that each value fits its column. Assumes nothing.
+use Rattle.std.specs.Prelude.{None, Option, Some}
 use mathlib.Core.Path.{◌≡◌, refl, ap, ◌∙◌}
 use mathlib.Core.Bool.{Bool, true, false, false≢true, ◌&&◌, ◌||◌}
 use mathlib.Core.List.{List, [], ◌∷◌, map}
-use mathlib.Core.Option.{Option, none, some}
 use Prim.Native.Nat.{ℕ, zero, suc, ◌+◌, ◌-◌, ◌<◌, ◌≤◌}
 use native.Mathlib.Omega.{arith}
 use lib.Dec.{eqb, leb}
@@ -14,7 +14,7 @@ use Rattle.page.specs.Fields.{parts_here, inside_after, into, split, fields, quo
 use Rattle.page.specs.Tables.{Named, number_at, TABLES, columns, width}
 use Rattle.page.specs.Order.{Order, upto, arranged, place, by_column}
 use Rattle.page.specs.Section.{outcome, record_text}
-use Rattle.page.specs.Records.{Datum, number, Record, records_of, table_index, order_in}
+use Rattle.page.specs.Records.{Datum, Record, records_of, table_index, order_in}
 use Rattle.page.specs.Grammar.{fields_of, Says, Holds, a_number, no_number, a_text, Values, no_field, a_field, Then, found, skip, Records, pause, a_mark, a_record, the_end, Denotes}
 use Rattle.page.specs.Rules.{Every, none_left, one_more}
 use Rattle.page.specs.declared.Outcome.{Outcome}
@@ -74,32 +74,32 @@ module _ (p : ℕ → Bool) where
       go [] h = refl
       go (f ∷ fs) h = rw (all_trim f (and_left (all p f) (each (all p) fs) h)) (go fs (and_right (all p f) (each (all p) fs) h))
 
-  some_byte : (b : ℕ) (o : Option Bytes) (t : Bytes) → p b ≡ true → ((u : Bytes) → o ≡ some u → all p u ≡ true) → with_byte b o ≡ some t → all p t ≡ true
+  some_byte : (b : ℕ) (o : Option Bytes) (t : Bytes) → p b ≡ true → ((u : Bytes) → o ≡ Some u → all p u ≡ true) → with_byte b o ≡ Some t → all p t ≡ true
   unfolding all
-  some_byte b none t h f e = absurd (false≢true (cc))
-  some_byte b (some u) t h f e = let z : t ≡ b ∷ u = cc in rw (z, h) (f u refl)
+  some_byte b None t h f e = absurd (false≢true (cc))
+  some_byte b (Some u) t h f e = let z : t ≡ b ∷ u = cc in rw (z, h) (f u refl)
 
-  all_body : (met : Bool) (w t : Bytes) → all p w ≡ true → body_of met w ≡ some t → all p t ≡ true
+  all_body : (met : Bool) (w t : Bytes) → all p w ≡ true → body_of met w ≡ Some t → all p t ≡ true
   unfolding all body_of
   all_body false [] t h e = absurd (false≢true (cc))
   all_body true [] t h e = let z : t ≡ [] = cc in rw z
   all_body false (b ∷ w) t h e = by (quote b) e (all_body true w t (and_right (p b) (all p w) h)) (λ u. all_body false w u (and_right (p b) (all p w) h))
     where
-      by : (x : Bool) → pick x (body_of true w) (with_byte b (body_of false w)) ≡ some t → (body_of true w ≡ some t → all p t ≡ true)
-          → ((u : Bytes) → body_of false w ≡ some u → all p u ≡ true) → all p t ≡ true
+      by : (x : Bool) → pick x (body_of true w) (with_byte b (body_of false w)) ≡ Some t → (body_of true w ≡ Some t → all p t ≡ true)
+          → ((u : Bytes) → body_of false w ≡ Some u → all p u ≡ true) → all p t ≡ true
       by true e f g = f e
       by false e f g = some_byte b (body_of false w) t (and_left (p b) (all p w) h) g e
   all_body true (b ∷ w) t h e = by (quote b) e (λ u. all_body false w u (and_right (p b) (all p w) h))
     where
-      by : (x : Bool) → pick x (with_byte b (body_of false w)) none ≡ some t → ((u : Bytes) → body_of false w ≡ some u → all p u ≡ true) → all p t ≡ true
+      by : (x : Bool) → pick x (with_byte b (body_of false w)) None ≡ Some t → ((u : Bytes) → body_of false w ≡ Some u → all p u ≡ true) → all p t ≡ true
       by true e g = some_byte b (body_of false w) t (and_left (p b) (all p w) h) g e
       by false e g = absurd (false≢true (cc))
 
-  all_text : (f t : Bytes) → all p f ≡ true → record_text f ≡ some t → all p t ≡ true
+  all_text : (f t : Bytes) → all p f ≡ true → record_text f ≡ Some t → all p t ≡ true
   unfolding text_of unpadded
   all_text f t h e = let x = padded_of f t e in rw x.own (all_take p (keep space x.whole) x.whole (by x.whole (quote (get_or f 0 0)) x.is))
     where
-      by : (u : Bytes) (x : Bool) → pick x (body_of false (drop 1 f)) none ≡ some u → all p u ≡ true
+      by : (u : Bytes) (x : Bool) → pick x (body_of false (drop 1 f)) None ≡ Some u → all p u ≡ true
       by u true e = all_body false (drop 1 f) u (all_drop 1 f h) e
       by u false e = absurd (false≢true (cc))
 

@@ -1,8 +1,8 @@
 -- The own bytes of a text of a record are what stands in its span, each doubled quote counted once. Assumes nothing.
+use Rattle.std.specs.Prelude.{None, Option, Some}
 use mathlib.Core.Path.{◌≡◌, refl, ap, sym, ◌∙◌}
-use mathlib.Core.Bool.{Bool, true, false}
+use mathlib.Core.Bool.{Bool, true, false, true≢false}
 use mathlib.Core.List.{[]}
-use mathlib.Core.Option.{Option, none, some}
 use Prim.Native.Nat.{ℕ, ◌+◌, ◌-◌, ◌≤◌}
 use native.Mathlib.Omega.{arith}
 use borrow.Author.Tests.{le-leb}
@@ -24,6 +24,7 @@ use Rattle.page.proofs.FieldLaws.{span_in, span_part, end_in}
 use Rattle.doubling.specs.Raw.{undoubled}
 use Rattle.doubling.proofs.TextLaws.{undoubled_doubled, undoubled_length}
 use Rattle.digits.specs.Runs.{field_from}
+use Rattle.keys.specs.Numbers.{packed_from, packed}
 
 -- a text of a field, by its span
 record Spanned (f : Bytes) (x : Wording) : Type 0 where
@@ -31,7 +32,7 @@ record Spanned (f : Bytes) (x : Wording) : Type 0 where
   within : x.span.to ≤ length f
   own : undoubled false (part x.span f) ≡ x.own
 
-spanned : (f : Bytes) (x : Wording) → words_of f ≡ some x → Spanned f x
+spanned : (f : Bytes) (x : Wording) → words_of f ≡ Some x → Spanned f x
 spanned f x e =
     let a = words_there f x e in
     record {
@@ -41,13 +42,13 @@ spanned f x e =
     }
 
 -- it has no more bytes than the field
-short : (f : Bytes) (x : Wording) → words_of f ≡ some x → length x.own ≤ length f
+short : (f : Bytes) (x : Wording) → words_of f ≡ Some x → length x.own ≤ length f
 short f x e =
     let z = spanned f x e in
     let n = part_length x.span.from x.span.to f z.within in
     omega (arith, ap length z.own, undoubled_length false (part x.span f))
 
-abbrev pub counted : Field → Bool
+abbrev counted : Field → Bool
 counted (F.Text sp) = false
 counted (F.Number n) = true
 counted F.Missing = true
@@ -78,7 +79,7 @@ module _ (w : Bytes) (at : ℕ) (h : at ≤ length w) (c : Column) (x : c.text �
   unfolding field_of
   read_is r q = q ∙ rw x
 
-  small : (v : Wording) → words_of f ≡ some v → leb (length v.own) c.hi ≡ true
+  small : (v : Wording) → words_of f ≡ Some v → leb (length v.own) c.hi ≡ true
   small v y = le-leb (length v.own) c.hi (omega (arith, short f v y, room, there.1))
 
   pub text_told : (r : Field) → r ≡ later_field k (field_of c f) → (sp : Span) → r ≡ F.Text sp
@@ -88,8 +89,8 @@ module _ (w : Bytes) (at : ℕ) (h : at ≤ length w) (c : Column) (x : c.text �
     where
       by : (o : Option Wording) → words_of f ≡ o → F.Text sp ≡ later_field k (text_field c.hi (words_of f))
           → (sp.from ≤ sp.to) × (sp.to ≤ length w) × (undoubled false (part sp w) ≡ own_bytes (own_of (words_of f)))
-      by none y z = absurd (let u = rw y at z in let n : ◌≡◌ {A = ℕ} 0 1 = cc in omega arith)
-      by (some v) y z =
+      by None y z = absurd (let u = rw y at z in let n : ◌≡◌ {A = ℕ} 0 1 = cc in omega arith)
+      by (Some v) y z =
           let u = rw (y, small v y) at z in
           let m : sp ≡ moved k v.span = cc in
           let a = spanned f v y in
@@ -102,19 +103,26 @@ module _ (w : Bytes) (at : ℕ) (h : at ≤ length w) (c : Column) (x : c.text �
             ap (undoubled false) (sym p ∙ ap (part v.span) b.2) ∙ a.own,
           )
 
-  pub text_refused : (r : Field) → r ≡ later_field k (field_of c f) → (n : ℕ) → r ≡ F.Refused n → own_bytes (record_text f) ≡ []
+  text_refused : (r : Field) → r ≡ later_field k (field_of c f) → (n : ℕ) → r ≡ F.Refused n → own_bytes (record_text f) ≡ []
   unfolding record_text text_field
   text_refused r q n e = by (words_of f) refl (sym e ∙ read_is r q)
     where
       by : (o : Option Wording) → words_of f ≡ o → F.Refused n ≡ later_field k (text_field c.hi (words_of f)) → own_bytes (own_of (words_of f)) ≡ []
-      by none y z = rw y
-      by (some v) y z = absurd (let u = rw (y, small v y) at z in let m : ◌≡◌ {A = ℕ} 0 1 = cc in omega arith)
+      by None y z = rw y
+      by (Some v) y z = absurd (let u = rw (y, small v y) at z in let m : ◌≡◌ {A = ℕ} 0 1 = cc in omega arith)
 
   -- neither a number nor a missing one
-  pub text_only : (r : Field) → r ≡ later_field k (field_of c f) → counted r ≡ false
+  text_only : (r : Field) → r ≡ later_field k (field_of c f) → counted r ≡ false
   unfolding text_field
   text_only r q = by (words_of f) refl (read_is r q)
     where
       by : (o : Option Wording) → words_of f ≡ o → r ≡ later_field k (text_field c.hi (words_of f)) → counted r ≡ false
-      by none y z = rw (z, y)
-      by (some v) y z = rw (z, y, small v y)
+      by None y z = rw (z, y)
+      by (Some v) y z = rw (z, y, small v y)
+
+  pub text_else : (r : Field) → r ≡ later_field k (field_of c f) → ((sp : Span) → r ≡ F.Text sp → ⊥) → packed (own_bytes (record_text f)) ≡ 0
+  unfolding packed packed_from
+  text_else (F.Text sp) q n = absurd (n sp refl)
+  text_else (F.Number m) q n = absurd (true≢false (text_only (F.Number m) q))
+  text_else F.Missing q n = absurd (true≢false (text_only F.Missing q))
+  text_else (F.Refused m) q n = rw (text_refused (F.Refused m) q m refl)

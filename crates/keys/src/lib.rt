@@ -4,5 +4,5 @@
 mod key;
 mod read;
 
-pub use key::{Key, PLACES, hash_key, less_key, mix, same_key};
+pub use key::{Key, PLACES, hash_key, mix};
 pub use read::read_chosen;

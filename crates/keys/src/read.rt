@@ -23,9 +23,10 @@ fn put_byte(n: u64, b: u8) -> u64
     ensures { result ≡ push n b }
 {
     if n < 72057594037927936 {
-        return n * 256 + digits::widen(b);
+        n * 256 + u64::from(b)
+    } else {
+        n
     }
-    n
 }
 
 // A text of a key has at most six bytes, and stands for a number with its length in it: "a doubled quote inside stands for one".
@@ -33,78 +34,70 @@ fn pack_own(raw: &[u8]) -> u64
     ensures { result ≡ packed (undoubled false raw.now) }
 {
     let mut met = false;
-    let mut n: u64 = 1;
-    let mut i = 0;
-    while i < raw.len() {
-        let b = raw[i];
-        i += 1;
+    let mut n = 1;
+    for &b in raw {
         if met {
             met = false;
         } else {
             n = put_byte(n, b);
-            met = b == 34;
+            met = b == b'"';
         }
     }
     n - 1
 }
 
 // A text of any size.
+const WORDS: Column = Column {
+    text: true,
+    day: false,
+    lo: 0,
+    hi: u64::MAX,
+    size: 0,
+    primary: false,
+    second: false,
+    fillable: false,
+    optional: false,
+};
+
 fn take_text(w: &[u8], at: usize) -> Taken
     requires { at ≤ length w.now }
     ensures { (result.end ≡ at + field_size false (drop at w.now))
         × (result.value ≡ packed (own_bytes (record_text (field_from w.now at)))) }
 {
-    let column = Column {
-        text: true,
-        day: false,
-        lo: 0,
-        hi: 18446744073709551615,
-        size: 0,
-        primary: false,
-        second: false,
-        fillable: false,
-        optional: false,
+    let x = fields::read_field(w, at, WORDS, true);
+    let Field::Text(sp) = x.field else {
+        return Taken {
+            value: 0,
+            end: x.end,
+        };
     };
-    let x = fields::read_field(w, at, column, true);
-    let e = x.end;
-    let f = x.field;
-    match f {
-        Field::Text(sp) => {
-            let from = sp.from;
-            let to = sp.to;
-            Taken {
-                value: pack_own(&w[from..to]),
-                end: e,
-            }
-        }
-        Field::Number(_) => Taken { value: 0, end: e },
-        Field::Missing => Taken { value: 0, end: e },
-        Field::Refused(_) => Taken { value: 0, end: e },
+    Taken {
+        value: pack_own(&w[sp.from..sp.to]),
+        end: x.end,
     }
 }
 
-// The field that begins at a place as a choice takes it; 0 where it does not.
+// The field that begins at a place as a choice takes it; 0 where it does not. A kind stays the digit that a choice packs and
+// `Numbers.gather` reads.
 fn take_field(w: &[u8], at: usize, kind: u64) -> Taken
     requires { at ≤ length w.now }
     ensures { (result.end ≡ at + field_size false (drop at w.now))
         × (result.value ≡ pick (eqb kind 0) 0 (field_as kind (field_from w.now at))) }
 {
-    if kind == 1 {
-        let c = digits::number_at(w, at);
-        let n = c.number;
-        let e = c.end;
-        return Taken {
-            value: fields::worth(n),
-            end: e,
-        };
-    }
-    if kind == 0 {
-        return Taken {
+    match kind {
+        0 => Taken {
             value: 0,
             end: commands::field_end(w, at),
-        };
+        },
+        1 => {
+            let c = digits::number_at(w, at);
+            Taken {
+                value: fields::worth(c.number),
+                end: c.end,
+            }
+        }
+        _ => take_text(w, at),
     }
-    take_text(w, at)
 }
 
 // The fields of a choice, in one walk that ends at the last of them.
@@ -113,25 +106,21 @@ pub fn read_chosen(w: &[u8], choice: Choice) -> Key
 {
     let mut k = [0; PLACES];
     let mut at = 0;
-    let mut rest = choice.kinds;
-    let mut slots = choice.slots;
-    while 0 < rest {
-        if w.len() < at {
-            return Key { k: k };
-        }
+    let Choice {
+        kinds: mut rest,
+        mut slots,
+    } = choice;
+    // No `for`: the digits that are left say whether the walk goes on.
+    while 0 < rest && at <= w.len() {
         let kind = rest % 4;
         let n = (slots % 8) as usize;
         let f = take_field(w, at, kind);
-        let v = f.value;
-        let e = f.end;
-        at = e + 1;
-        rest = rest / 4;
-        slots = slots / 8;
-        if kind != 0 {
-            if n < PLACES {
-                k[n] = v;
-            }
+        if kind != 0 && n < PLACES {
+            k[n] = f.value;
         }
+        at = f.end + 1;
+        rest /= 4;
+        slots /= 8;
     }
-    Key { k: k }
+    Key { k }
 }

@@ -1,9 +1,9 @@
 -- What the lines of a header hold: the tests of the reading pass exactly what the document names. Assumes nothing.
+use Rattle.std.specs.Prelude.{None, Option, Some}
 use mathlib.Core.Path.{◌≡◌, refl, ap, sym, ◌∙◌}
 use mathlib.Core.Bool.{Bool, true, false, ◌&&◌, ◌||◌, false≢true}
 use mathlib.Core.List.{List, []}
 use mathlib.Core.Logic.{◌⊎◌, inl, inr, ◌↔◌}
-use mathlib.Core.Option.{Option, none, some}
 use Prim.Native.Nat.{ℕ}
 use native.Mathlib.Omega.{arith}
 use lib.Dec.{eqb}
@@ -99,8 +99,8 @@ text_d : (f : Bytes) → Decides ((t : Bytes) × (f ≡ quoted t)) (is_text (tex
 text_d f = by (text_of f) refl
   where
     by : (o : Option Bytes) → text_of f ≡ o → Decides ((t : Bytes) × (f ≡ quoted t)) (is_text o)
-    by none e = fails (λ x. let z : none ≡ some x.0 = sym e ∙ (ap text_of x.1 ∙ quoted_text x.0) in absurd (false≢true (cc)))
-    by (some t) e = D.holds (t, text_quoted f t e)
+    by None e = fails (λ x. let z : None ≡ Some x.0 = sym e ∙ (ap text_of x.1 ∙ quoted_text x.0) in absurd (false≢true (cc)))
+    by (Some t) e = D.holds (t, text_quoted f t e)
 
 -- `src`
 
@@ -133,7 +133,7 @@ module _ {form : ℕ} {name : Bytes} (w : DateForm form name) where
 
   -- and these are what is read of them
   pub src_read : {source : Bytes} {date : Date} {time : Time} {fs : List Bytes} → SrcFields form source date time fs →
-      (text_of (get_or fs 0 []) ≡ some source) × (date_of form (get_or fs 1 []) ≡ date) × (time_of (get_or fs 2 []) ≡ time)
+      (text_of (get_or fs 0 []) ≡ Some source) × (date_of form (get_or fs 1 []) ≡ date) × (time_of (get_or fs 2 []) ≡ time)
   src_read {source} {date} {time} (src_fields {d} {t} x r y) = (quoted_text source, ((date_exactly w d date).1 (x, r)).1, ((time_exactly t time).1 y).1)
 
 -- `chs`
@@ -190,5 +190,5 @@ unfolding holds
 text_line_exactly k form fs n m = rw (ne_eqb k Src n, ne_eqb k Chs m) (text_into fs, λ x. text_back x.1)
 
 -- and that is what is read of it
-pub text_read : {t : Bytes} {fs : List Bytes} → TextFields t fs → text_of (get_or fs 0 []) ≡ some t
+pub text_read : {t : Bytes} {fs : List Bytes} → TextFields t fs → text_of (get_or fs 0 []) ≡ Some t
 text_read {t} text_fields = quoted_text t

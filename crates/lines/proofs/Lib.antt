@@ -1,2 +1,3 @@
 pub mod CursorLaws
 pub mod RunLaws
+pub mod IterLaws

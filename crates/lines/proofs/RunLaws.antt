@@ -2,10 +2,10 @@
 use mathlib.Core.Path.{◌≡◌, refl, ap, sym, ◌∙◌}
 use mathlib.Core.Bool.{Bool, true, false, ◌&&◌, and-true}
 use mathlib.Core.List.{[], ◌∷◌, ◌++◌}
-use Prim.Native.Nat.{ℕ, zero, suc, ◌+◌, ◌-◌, ◌<◌, ◌≤◌}
+use Prim.Native.Nat.{ℕ, zero, suc, ◌+◌, ◌-◌, ◌≤◌}
 use native.Mathlib.Omega.{arith}
-use borrow.Author.Tests.{not-true, eqb-false, ltb-true, ltb-false}
-use lib.Dec.{eqb, ltb}
+use borrow.Author.Tests.{not-true, eqb-false}
+use lib.Dec.{eqb}
 use lib.ListN.{length, take, drop, get_or, length-drop}
 use lib.Seq.{take-add, take_all, drop-cons, drop-drop}
 use Rattle.page.specs.Bytes.{Bytes, all}
@@ -91,18 +91,6 @@ module _ (p : ℕ → Bool) where
       go : (b : Bool) → all p s ≡ b → all p s ≡ false
       go true h = sym ((split n (drop at s) (split at s h).1).0 ∙ sym h) ∙ e
       go false h = h
-
--- the next sixteen bytes, or the last sixteen, end later
-pub later : (n i r : ℕ) → i < n → 16 ≤ n → r ≤ n - 16 → (r < n - 16 → r ≡ i) → i < r + 16
-later n i r h k l f = go (ltb r (n - 16)) refl
-  where
-    go : (b : Bool) → ltb r (n - 16) ≡ b → i < r + 16
-    go true e =
-        let q = f (ltb-true r (n - 16) e) in
-        omega arith
-    go false e =
-        let q = ltb-false r (n - 16) e in
-        omega arith
 
 -- a line goes on past bytes of which none is an LF
 

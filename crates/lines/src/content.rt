@@ -3,35 +3,25 @@ ghost use Rattle.std.specs.Prelude.{◌≡◌, ◌+◌, ◌≤◌, length, take,
 ghost use Rattle.page.specs.Bytes.{until, all};
 ghost use Rattle.page.specs.Lines.{content_size, content, blank, semicolon, rest, allowed};
 
-use crate::scan::{least, spaces};
+use crate::blocks::{Allowed, pass_block};
+use crate::scan::spaces;
 
 // How long a line is without its end.
 pub fn content_len(l: &[u8]) -> usize
     ensures { result ≡ content_size l.now }
 {
-    let n = l.len();
-    if n == 0 {
-        return 0;
+    match *l {
+        [.., 13, 10] => l.len() - 2,
+        [.., _, 10] => l.len() - 1,
+        [10] => 0,
+        _ => l.len(),
     }
-    let a = n - 1;
-    if l[a] != 10 {
-        return n;
-    }
-    if n == 1 {
-        return 0;
-    }
-    let b = n - 2;
-    if l[b] == 13 {
-        return b;
-    }
-    a
 }
 
 pub fn content_of(l: &[u8]) -> &[u8]
     ensures { result.now ≡ content l.now }
 {
-    let n = content_len(l);
-    &l[..n]
+    &l[..content_len(l)]
 }
 
 // "A line of spaces only, or of nothing, is blank."
@@ -45,14 +35,7 @@ pub fn is_blank(c: &[u8]) -> bool
 pub fn find_semicolon(c: &[u8]) -> usize
     ensures { result ≡ until semicolon c.now }
 {
-    let mut i = 0;
-    while i < c.len() {
-        if c[i] == 59 {
-            return i;
-        }
-        i += 1;
-    }
-    i
+    c.iter().position(|b| *b == 59).unwrap_or(c.len())
 }
 
 // What stands after the first `;`.
@@ -60,11 +43,7 @@ pub fn rest_of(c: &[u8]) -> &[u8]
     ensures { result.now ≡ rest c.now }
 {
     let i = find_semicolon(c);
-    if i < c.len() {
-        let a = i + 1;
-        return &c[a..];
-    }
-    &c[..0]
+    if i < c.len() { &c[i + 1..] } else { &c[..0] }
 }
 
 // "Characters: 32..126 everywhere", and where it is wide also 161..255. No branch, so that many bytes are tested at once.
@@ -74,38 +53,10 @@ pub fn is_allowed(b: u8, wide: bool) -> bool
     (32 <= b) & (b <= 126) | (161 <= b) & wide
 }
 
-fn four_allowed(c: &[u8], at: usize, wide: bool) -> bool
-    requires { at + 4 ≤ length c.now }
-    ensures { result ≡ all (allowed wide) (take 4 (drop at c.now)) }
-{
-    is_allowed(c[at], wide)
-        & is_allowed(c[at + 1], wide)
-        & is_allowed(c[at + 2], wide)
-        & is_allowed(c[at + 3], wide)
-}
-
-fn block_allowed(c: &[u8], at: usize, wide: bool) -> bool
-    requires { at + 16 ≤ length c.now }
-    ensures { result ≡ all (allowed wide) (take 16 (drop at c.now)) }
-{
-    four_allowed(c, at, wide)
-        & four_allowed(c, at + 4, wide)
-        & four_allowed(c, at + 8, wide)
-        & four_allowed(c, at + 12, wide)
-}
-
 fn few_allowed(c: &[u8], wide: bool) -> bool
     ensures { result ≡ all (allowed wide) c.now }
 {
-    let mut i = 0;
-    while i < c.len() {
-        let b = c[i];
-        if !is_allowed(b, wide) {
-            return false;
-        }
-        i += 1;
-    }
-    true
+    c.iter().all(|b| is_allowed(*b, wide))
 }
 
 // Sixteen bytes at a time; the last sixteen overlap those before them.
@@ -118,9 +69,10 @@ pub fn all_allowed(c: &[u8], wide: bool) -> bool
     }
     let last = n - 16;
     let mut i = 0;
+    // No chunks: the last sixteen begin among those before them, where chunks would leave a rest.
     while i < n {
-        let at = least(i, last);
-        if !block_allowed(c, at, wide) {
+        let at = i.min(last);
+        if !pass_block(&Allowed { wide }, c, at) {
             return false;
         }
         i = at + 16;

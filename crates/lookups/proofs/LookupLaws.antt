@@ -1,4 +1,5 @@
 -- One value of a section at a place, and what a call answers for it. Assumes nothing.
+use Rattle.std.specs.Prelude.{Err, Ok}
 use mathlib.Core.Path.{◌≡◌, refl, ap, sym, ◌∙◌}
 use mathlib.Core.Bool.{Bool, true, false, ◌||◌, false≢true}
 use mathlib.Core.List.{List, [], ◌∷◌}
@@ -16,14 +17,13 @@ use Rattle.page.specs.Tables.{WIDEST, width}
 use Rattle.page.specs.Section.{outcome}
 use Rattle.page.specs.Records.{table_index, atr_in, order_in}
 use Rattle.page.specs.Places.{record_at}
-use Rattle.page.specs.Answers.{earlier, refuse_if, got, refusal}
+use Rattle.page.specs.Answers.{earlier, refuse_if, answered, refusal}
 use Rattle.page.specs.File.{row_given, row_of}
 use Rattle.page.specs.Head.{latin_of}
 use Rattle.page.specs.Reading.{outside, row_at, find_refusal, verdict_of, value_refusal, value_at, record_of, value_in, value_of}
 use Rattle.page.specs.declared.Row.{Row}
 use Rattle.page.specs.declared.Refusal.{Refusal}
 use Rattle.page.specs.declared.Value.{Value}
-use Rattle.page.specs.declared.Got.TheVariants as G
 use Rattle.page.proofs.LineLaws.{line_size, joined_lines}
 use Rattle.page.proofs.TableLaws.{width_le}
 use Rattle.arrangement.specs.Orders.{held}
@@ -43,8 +43,8 @@ module _ (s : Bytes) (i : ℕ) where
   unfolding value_of value_refusal value_from refusal_from row_from row_at earlier
   value_here at b r f = rw (b.found, b.is)
 
-  pub value_refused : (x : Refusal) → (x.number ≡ 0 → ⊥) → x ≡ find_refusal s i → (r f : ℕ) → G.Refused x ≡ value_of s i r f
-  unfolding value_of value_refusal got earlier
+  pub value_refused : (x : Refusal) → (x.number ≡ 0 → ⊥) → x ≡ find_refusal s i → (r f : ℕ) → Err x ≡ value_of s i r f
+  unfolding value_of value_refusal answered earlier
   value_refused x n e r f = rw (sym e, ne_eqb x.number 0 n, ne_eqb x.number 0 n)
 
 drop_take : (a n : ℕ) (s : Bytes) → drop a (take n s) ≡ take (n - a) (drop a s)
@@ -89,8 +89,8 @@ module _ (s : Bytes) (at : ℕ) (h : at < length s) (z : Settled s at) (x : Row)
 
 -- the answer for one value, by the section's row
 module _ (s : Bytes) (i at r f : ℕ) (x : Row) (q : x ≡ row_from s at) where
-  pub value_unsound : (x.verdict ≡ 0 → ⊥) → G.Refused (refusal x.verdict i x.line) ≡ value_from s i at r f
-  unfolding value_from refusal_from verdict_of got earlier
+  pub value_unsound : (x.verdict ≡ 0 → ⊥) → Err (refusal x.verdict i x.line) ≡ value_from s i at r f
+  unfolding value_from refusal_from verdict_of answered earlier
   value_unsound n = simp (sym q, ne_eqb x.verdict 0 n)
 
   module _ (z : x.verdict ≡ 0) where
@@ -99,14 +99,14 @@ module _ (s : Bytes) (i at r f : ℕ) (x : Row) (q : x ≡ row_from s at) where
     value_sound = rw (sym q, z)
 
     pub value_outside : (y : Refusal) → y ≡ refusal 24 0 0 → (outside r x.records || outside f (width (table_index (section_from s at).lines))) ≡ true
-        → G.Refused y ≡ value_from s i at r f
-    unfolding value_from refuse_if got
+        → Err y ≡ value_from s i at r f
+    unfolding value_from refuse_if answered
     value_outside y e b = rw (e, value_sound, b)
 
     pub value_inside : (v : Value) → outside r x.records ≡ false → outside f (width (table_index (section_from s at).lines)) ≡ false
         → v ≡ value_in (table_index (section_from s at).lines) (order_in (section_from s at).lines) (record_at (r - 1) 0 at (section_from s at).lines) f
-        → G.Is v ≡ value_from s i at r f
-    unfolding value_from refuse_if got value_at record_of section_from
+        → Ok v ≡ value_from s i at r f
+    unfolding value_from refuse_if answered value_at record_of section_from
     value_inside v a b e = rw (e, value_sound, a, b)
 
 -- a number that stands among n

@@ -1,15 +1,15 @@
 -- The answer for one value.
-use Rattle.std.specs.Prelude.{◌||◌, ℕ}
+use Rattle.std.specs.Prelude.{◌||◌, ℕ, Result}
+use Rattle.page.specs.declared.Value.{Value}
 use Rattle.page.specs.Bytes.{Bytes}
 use Rattle.page.specs.Tables.{width}
 use Rattle.page.specs.Head.{latin_of}
 use Rattle.page.specs.Records.{table_index}
-use Rattle.page.specs.Answers.{earlier, refuse_if, got}
+use Rattle.page.specs.Answers.{earlier, refuse_if, answered}
 use Rattle.page.specs.File.{row_of}
 use Rattle.page.specs.Reading.{outside, verdict_of, value_at}
 use Rattle.page.specs.declared.Row.{Row}
 use Rattle.page.specs.declared.Refusal.{Refusal}
-use Rattle.page.specs.declared.Got.{Got}
 use Rattle.cut.specs.Walk.{section_from}
 
 -- "the section's verdict, 24 for the record or field", of the section at a place
@@ -21,5 +21,5 @@ refusal_from s i at r f =
     earlier (verdict_of i (row_from s at))
     (refuse_if (outside r (row_from s at).records || outside f (width (table_index (section_from s at).lines))) 24)
 
-unfoldable pub value_from : Bytes → ℕ → ℕ → ℕ → ℕ → Got
-value_from s i at r f = got (refusal_from s i at r f) (value_at (section_from s at) r f)
+unfoldable pub value_from : Bytes → ℕ → ℕ → ℕ → ℕ → Result Value Refusal
+value_from s i at r f = answered (refusal_from s i at r f) (value_at (section_from s at) r f)

@@ -12,9 +12,9 @@ ghost use Rattle.cut.specs.Walk.{Settled};
 ghost use Rattle.lookups.specs.Lookups.{value_from};
 
 use names::table_at;
-use page::{Got, Refusal, Value};
+use page::{Refusal, Value};
 use places::find_record;
-use sections::{Located, locate, read_section, refuse_with};
+use sections::{locate, read_section, refuse_with};
 use tables::WIDEST;
 use values::value_in;
 
@@ -40,37 +40,35 @@ fn seek_value(s: &[u8], at: usize, t: usize, o: &[u8; WIDEST], r: usize, f: usiz
 }
 
 // "the section's verdict, 24 for the record or field"
-fn value_at(file: &[u8], i: usize, at: usize, r: usize, f: usize) -> Got
+fn value_at(file: &[u8], i: usize, at: usize, r: usize, f: usize) -> Result<Value, Refusal>
     requires { (at < length file.now) × (length file.now ≤ limit) × Settled file.now at }
     ensures { result ≡ value_from file.now i at r f }
 {
     let latin = headers::read_charset(file);
     let row = read_section(file, at, latin);
     if row.verdict != 0 {
-        return Got::Refused(Refusal {
+        return Err(Refusal {
             number: row.verdict,
             section: i,
             line: row.line,
         });
     }
     if is_outside(r, row.records) {
-        return Got::Refused(refuse_with(24));
+        return Err(refuse_with(24));
     }
     let t = table_at(file, at);
     if is_outside(f, tables::find_width(t)) {
-        return Got::Refused(refuse_with(24));
+        return Err(refuse_with(24));
     }
     let e = at + row.length;
     let o = names::find_order(&file[at..e], t);
-    Got::Is(seek_value(&file[..e], at, t, &o, r - 1, f))
+    Ok(seek_value(&file[..e], at, t, &o, r - 1, f))
 }
 
 // Column f of record r of section i, all from 1.
-pub fn value(file: &[u8], i: usize, r: usize, f: usize) -> Got
+pub fn value(file: &[u8], i: usize, r: usize, f: usize) -> Result<Value, Refusal>
     ensures { result ≡ value_of file.now i r f }
 {
-    match locate(file, i) {
-        Located::At(at) => value_at(file, i, at, r, f),
-        Located::Refused(x) => Got::Refused(x),
-    }
+    let at = locate(file, i)?;
+    value_at(file, i, at, r, f)
 }

@@ -1,8 +1,9 @@
 -- The order that a section's reading carries: what a line leaves of it, and what the `atr` line states. Assumes nothing.
-use mathlib.Core.Path.{◌≡◌, refl, sym}
-use mathlib.Core.Bool.{Bool, true, false}
-use mathlib.Core.Logic.{inl, inr}
-use mathlib.Core.List.{List, [], ◌∷◌}
+use Rattle.std.specs.Prelude.{Err, Ok, Result, Option, Some, None}
+use Rattle.std.specs.Option.{unwrap_or, is_some}
+use mathlib.Core.Path.{◌≡◌, refl, sym, ◌∙◌}
+use mathlib.Core.Bool.{Bool, true, false, false≢true}
+use mathlib.Core.List.{List, []}
 use Prim.Native.Nat.{ℕ}
 use native.Mathlib.Omega.{arith}
 use lib.Dec.{eqb}
@@ -20,11 +21,11 @@ use Rattle.page.specs.declared.Remark.{Remark}
 use Rattle.page.specs.declared.Remark.TheVariants as R
 use Rattle.page.specs.declared.Phase.{Phase}
 use Rattle.page.specs.declared.Phase.TheVariants as P
-use Rattle.page.specs.declared.Step.{Step}
-use Rattle.page.specs.declared.Step.TheVariants as S
 use Rattle.laws.proofs.Tests.{blank_missing}
-use Rattle.names.specs.Told.{Told}
+use Rattle.names.specs.Told.{Arranges, Told}
 use Rattle.machine.specs.Carries.{order_at, Carries, Found, Carried}
+use Rattle.machine.specs.Moves.{phase_of}
+use Rattle.machine.specs.declared.machine.Moved.{Moved}
 
 -- a phase at which no `atr` line is due: what the code's test on the phase tells
 abbrev pub Other : Phase → Type 0
@@ -42,21 +43,21 @@ none_due (P.Rows t m i) w b n = tt
 none_due (P.Ended t i) w b n = tt
 
 -- at such a phase a line that is taken leaves the order
-data Keeps (p : Phase) (o : Order) (c : Bytes) (a : List ℕ) : Step → Type 0 where
-  goes : {q : Phase} → Carried p q o c a → Keeps p o c a (S.Go q)
-  stops : {v : ℕ} → Keeps p o c a (S.Stop v)
+data Keeps (p : Phase) (o : Order) (c : Bytes) (a : List ℕ) : Result Phase ℕ → Type 0 where
+  goes : {q : Phase} → Carried p q o c a → Keeps p o c a (Ok q)
+  stops : {v : ℕ} → Keeps p o c a (Err v)
 
-if : {p : Phase} {o : Order} {c : Bytes} {a : List ℕ} (b : Bool) {x y : Step} → Keeps p o c a x → Keeps p o c a y → Keeps p o c a (choose b x y)
+if : {p : Phase} {o : Order} {c : Bytes} {a : List ℕ} (b : Bool) {x y : Result Phase ℕ} → Keeps p o c a x → Keeps p o c a y → Keeps p o c a (choose b x y)
 unfolding choose
 if true f g = f
 if false f g = g
 
-kept : {p : Phase} {o : Order} {c : Bytes} {a : List ℕ} {x : Step} → Keeps p o c a x → (r : Phase) → x ≡ S.Go r → Carried p r o c a
+kept : {p : Phase} {o : Order} {c : Bytes} {a : List ℕ} {x : Result Phase ℕ} → Keeps p o c a x → (r : Phase) → x ≡ Ok r → Carried p r o c a
 kept (goes {q} h) r e = let z : q ≡ r = cc in rw z at h
 kept stops r e = absurd (let z : ◌≡◌ {A = ℕ} 0 1 = cc in omega arith)
 
 module _ (c : Bytes) (a : List ℕ) where
-  keeps_blank : (p : Phase) → Other p → Carries p a → Keeps p (order_at p a) c a (S.Go p)
+  keeps_blank : (p : Phase) → Other p → Carries p a → Keeps p (order_at p a) c a (Ok p)
   unfolding order_after
   keeps_blank P.Tbl n k = goes {q = P.Tbl} (record { is = refl; carries = k })
   keeps_blank (P.Atr t) n k = due t n
@@ -89,7 +90,7 @@ module _ (c : Bytes) (a : List ℕ) where
       if _ (if _ (goes (record { is = refl; carries = k })) stops) (if _ (if _ (if _ (keeps_count t m j k _) stops) stops) stops)
   keeps_line (P.Ended t j) n k i w = stops
 
-pub carry_on : (latin : Bool) (p q : Phase) (a : List ℕ) (l : Bytes) → Other p → Carries p a → step latin p (order_at p a) l ≡ S.Go q
+pub carry_on : (latin : Bool) (p q : Phase) (a : List ℕ) (l : Bytes) → Other p → Carries p a → step latin p (order_at p a) l ≡ Ok q
     → Carried p q (order_at p a) (content l) a
 unfolding step content_step
 carry_on latin p q a l n k e =
@@ -97,12 +98,12 @@ carry_on latin p q a l n k e =
     (if _ stops (if _ (keeps_com (content l) a p n k (remark_of (rest (content l)))) (keeps_line (content l) a p n k (command (content l)) (rest (content l)))))) stops) q e
 
 -- where the `atr` line is due: the line that is it states an arrangement, and any other leaves it due
-data Turns (t : ℕ) (c : Bytes) : Step → Type 0 where
-  waits : eqb (command c) Atr ≡ false → Turns t c (S.Go (P.Atr t))
-  states : eqb (command c) Atr ≡ true → arranged (width t) (order_of t (fields (rest c))) ≡ true → Turns t c (S.Go (P.Frm t))
-  halts : {v : ℕ} → Turns t c (S.Stop v)
+data Turns (t : ℕ) (c : Bytes) : Result Phase ℕ → Type 0 where
+  waits : eqb (command c) Atr ≡ false → Turns t c (Ok (P.Atr t))
+  states : eqb (command c) Atr ≡ true → arranged (width t) (order_of t (fields (rest c))) ≡ true → Turns t c (Ok (P.Frm t))
+  halts : {v : ℕ} → Turns t c (Err v)
 
-when : {t : ℕ} {c : Bytes} (b : Bool) {x y : Step} → (b ≡ true → Turns t c x) → (b ≡ false → Turns t c y) → Turns t c (choose b x y)
+when : {t : ℕ} {c : Bytes} (b : Bool) {x y : Result Phase ℕ} → (b ≡ true → Turns t c x) → (b ≡ false → Turns t c y) → Turns t c (choose b x y)
 unfolding choose
 when true f g = f refl
 when false f g = g refl
@@ -120,15 +121,38 @@ turns latin t o l =
     when _ (λ y. turns_com t (content l) o (eqb-true (command (content l)) Com y) (remark_of (rest (content l)))) (λ y.
     when _ (λ z. when _ (λ u. states z u) (λ u. halts)) (λ z. halts))))) (λ a. halts)
 
-turned : (t : ℕ) (c : Bytes) (b : List ℕ) → Told t (fields (rest c)) b → {x : Step} → Turns t c x → (q : Phase) → x ≡ S.Go q → Carried (P.Atr t) q [] c b
-unfolding order_after order_at Carries
+-- the line states an arrangement only where its names are one
+Stated : ℕ → Bytes → List ℕ → Type 0
+Stated t w b = arranged (width t) (order_of t (fields w)) ≡ true → Told t (fields w) b
+
+turned : (t : ℕ) (c : Bytes) (b : List ℕ) → Stated t (rest c) b → {x : Result Phase ℕ} → Turns t c x → (q : Phase) → x ≡ Ok q → Carried (P.Atr t) q [] c b
+unfolding order_after order_at Carries Stated
 turned t c b k (waits n) q e = let z : q ≡ P.Atr t = cc in rw z (record { is = rw n; carries = tt })
-turned t c b k (states n r) q e = let z : q ≡ P.Frm t = cc in rw z (record { is = rw n (sym (k.is r)); carries = k.stands })
+turned t c b k (states n r) q e = let z : q ≡ P.Frm t = cc in rw z (record { is = rw n (sym ((k r).is r)); carries = (k r).stands })
 turned t c b k halts q e = absurd (let z : ◌≡◌ {A = ℕ} 0 1 = cc in omega arith)
 
-pub carry_atr : (latin : Bool) (t : ℕ) (p q : Phase) (a b : List ℕ) (l : Bytes) → p ≡ P.Atr t → Told t (fields (rest (content l))) b
-    → step latin p (order_at p a) l ≡ S.Go q → Carried p q (order_at p a) (content l) b
+carry_stated : (latin : Bool) (t : ℕ) (p q : Phase) (a b : List ℕ) (l : Bytes) → p ≡ P.Atr t → Stated t (rest (content l)) b
+    → step latin p (order_at p a) l ≡ Ok q → Carried p q (order_at p a) (content l) b
 unfolding order_at
-carry_atr latin t p q a b l e k x =
+carry_stated latin t p q a b l e k x =
     let y = rw e at x in
     rw e (turned t (content l) b k (turns latin t [] l) q y)
+
+pub carry_atr : (latin : Bool) (t : ℕ) (p q : Phase) (a : List ℕ) (r : Option (List ℕ)) (l : Bytes) → p ≡ P.Atr t → Arranges t (fields (rest (content l))) r
+    → step latin p (order_at p a) l ≡ Ok q → Carried p q (order_at p a) (content l) (unwrap_or r a)
+unfolding Stated
+carry_atr latin t p q a (Some b) l e k x = carry_stated latin t p q a b l e (λ z. k.1) x
+carry_atr latin t p q a None l e k x = carry_stated latin t p q a a l e (λ z. absurd (false≢true (sym k ∙ z))) x
+
+pub found_some : (t : ℕ) (fs : List Bytes) (r : Option (List ℕ)) → Arranges t fs r → is_some r ≡ arranged (width t) (order_of t fs)
+found_some t fs (Some a) k = sym k.0
+found_some t fs None k = sym k
+
+-- what a line leads to, with the order and without
+module _ {p : Phase} {o : Order} {c : Bytes} {x : Result Phase ℕ} where
+  pub err_moves : {r : Result Moved ℕ} {v : ℕ} → r ≡ Err v → x ≡ Err v → (phase_of r ≡ x) × ((m : Moved) → r ≡ Ok m → Carried p m.phase o c m.order)
+  err_moves e f = (rw (e, f), λ m q. absurd (let z : ◌≡◌ {A = ℕ} 0 1 = cc in omega arith))
+
+  pub ok_moves : {q : Phase} {a : List ℕ} → x ≡ Ok q → Carried p q o c a
+      → (Ok q ≡ x) × ((m : Moved) → ◌≡◌ {A = Result Moved ℕ} (Ok (record { phase = q; order = a })) (Ok m) → Carried p m.phase o c m.order)
+  ok_moves {q} {a} e k = (sym e, λ m f. let z : record { phase = q; order = a } ≡ m = cc in rw (← z) k)

@@ -1,4 +1,5 @@
 -- The records of a sound section: each that is handed out passed its rules. Assumes nothing.
+use Rattle.std.specs.Prelude.{Err, Ok, Result}
 use mathlib.Core.Path.{◌≡◌, refl}
 use mathlib.Core.Bool.{Bool, true, false}
 use mathlib.Core.List.{List, [], ◌∷◌}
@@ -23,8 +24,6 @@ use Rattle.page.specs.declared.Remark.{Remark}
 use Rattle.page.specs.declared.Remark.TheVariants as R
 use Rattle.page.specs.declared.Phase.{Phase}
 use Rattle.page.specs.declared.Phase.TheVariants as P
-use Rattle.page.specs.declared.Step.{Step}
-use Rattle.page.specs.declared.Step.TheVariants as S
 use Rattle.machine.specs.Carries.{records_in}
 use Rattle.laws.proofs.Tests.{blank_missing}
 
@@ -44,20 +43,20 @@ data Of (t : ℕ) (x : Order) (ls : List Bytes) : Phase → Order → Type 0 whe
   ended : {o : Order} {n : ℕ} → o ≡ x → Of t x ls (P.Ended t n) o
 
 -- where a line leads
-data Leads (t : ℕ) (x : Order) (p : Phase) (o : Order) (l : Bytes) (ls : List Bytes) : Step → Type 0 where
-  stops : {v : ℕ} → (v ≡ 0 → ⊥) → Leads t x p o l ls (S.Stop v)
+data Leads (t : ℕ) (x : Order) (p : Phase) (o : Order) (l : Bytes) (ls : List Bytes) : Result Phase ℕ → Type 0 where
+  stops : {v : ℕ} → (v ≡ 0 → ⊥) → Leads t x p o l ls (Err v)
   still : {q : Phase} → Of t x ls q (order_after p o (content l)) → records_in q ≡ records_in p → mark_in q ≡ waits (mark_in p) (content l)
-      → eqb (command (content l)) Rec ≡ false → Leads t x p o l ls (S.Go q)
+      → eqb (command (content l)) Rec ≡ false → Leads t x p o l ls (Ok q)
   counts : {q : Phase} → Of t x ls q (order_after p o (content l)) → records_in q ≡ records_in p + 1 → mark_in q ≡ 0
-      → eqb (command (content l)) Rec ≡ true → rec_verdict t x (mark_in p) (fields (rest (content l))) ≡ 0 → Leads t x p o l ls (S.Go q)
+      → eqb (command (content l)) Rec ≡ true → rec_verdict t x (mark_in p) (fields (rest (content l))) ≡ 0 → Leads t x p o l ls (Ok q)
 
-if : {t : ℕ} {x : Order} {p : Phase} {o : Order} {l : Bytes} {ls : List Bytes} (b : Bool) {y z : Step}
+if : {t : ℕ} {x : Order} {p : Phase} {o : Order} {l : Bytes} {ls : List Bytes} (b : Bool) {y z : Result Phase ℕ}
     → (b ≡ true → Leads t x p o l ls y) → (b ≡ false → Leads t x p o l ls z) → Leads t x p o l ls (choose b y z)
 unfolding choose
 if true f g = f refl
 if false f g = g refl
 
-six : {t v : ℕ} {x : Order} {p : Phase} {o : Order} {l : Bytes} {ls : List Bytes} → Leads t x p o l ls (S.Stop (suc v))
+six : {t v : ℕ} {x : Order} {p : Phase} {o : Order} {l : Bytes} {ls : List Bytes} → Leads t x p o l ls (Err (suc v))
 six {v = v} = stops (λ (e : suc v ≡ 0). omega arith)
 
 -- a line that is no `rec` and no `com` leaves the mark
@@ -85,7 +84,7 @@ module _ (t : ℕ) (x : Order) (l : Bytes) (ls : List Bytes) where
   unfolding atr_in order_after
   stated o h e = rw e (rw e at h)
 
-  lead_blank : (p : Phase) (o : Order) → Of t x (l ∷ ls) p o → blank c ≡ true → Leads t x p o l ls (S.Go p)
+  lead_blank : (p : Phase) (o : Order) → Of t x (l ∷ ls) p o → blank c ≡ true → Leads t x p o l ls (Ok p)
   lead_blank p o h b =
       let e = blank_missing c b in
       still {q = p} (stays p o h (is_not c Missing Atr e refl)) refl (other (mark_in p) c Missing e refl) (is_not c Missing Rec e refl)
@@ -158,17 +157,17 @@ module _ (latin : Bool) (t : ℕ) (x : Order) where
   at_end (P.Rows t m i) o n r at (rows h) e k = absurd (omega arith)
   at_end (P.Ended t i) o n r at (ended h) e k = absurd (omega arith)
 
-  at_line : (p : Phase) (o : Order) (n r at : ℕ) (l : Bytes) (ls : List Bytes) (y : Step) → Leads t x p o l ls y
+  at_line : (p : Phase) (o : Order) (n r at : ℕ) (l : Bytes) (ls : List Bytes) (y : Result Phase ℕ) → Leads t x p o l ls y
       → ((q : Phase) (i : ℕ) → Of t x ls q (order_after p o (content l)) → (run latin q (order_after p o (content l)) (suc n) ls).verdict ≡ 0
       → records_in q + i < (run latin q (order_after p o (content l)) (suc n) ls).records → Passed i (mark_in q) (at + length l) ls)
       → (continue y (table_in p) (suc n) (λ q. run latin q (order_after p o (content l)) (suc n) ls)).verdict ≡ 0
       → records_in p + r < (continue y (table_in p) (suc n) (λ q. run latin q (order_after p o (content l)) (suc n) ls)).records
       → Passed r (mark_in p) at (l ∷ ls)
   unfolding continue record_at stands
-  at_line p o n r at l ls (S.Stop v) (stops ne) ih e h = absurd (ne e)
-  at_line p o n r at l ls (S.Go q) (still k i m b) ih e h = rw b (rw m at (ih q r k e (omega arith)))
-  at_line p o n zero at l ls (S.Go q) (counts k i m b v) ih e h = rw b v
-  at_line p o n (suc r) at l ls (S.Go q) (counts k i m b v) ih e h = rw b (rw m at (ih q r k e (omega arith)))
+  at_line p o n r at l ls (Err v) (stops ne) ih e h = absurd (ne e)
+  at_line p o n r at l ls (Ok q) (still k i m b) ih e h = rw b (rw m at (ih q r k e (omega arith)))
+  at_line p o n zero at l ls (Ok q) (counts k i m b v) ih e h = rw b v
+  at_line p o n (suc r) at l ls (Ok q) (counts k i m b v) ih e h = rw b (rw m at (ih q r k e (omega arith)))
 
   run_passed : (ls : List Bytes) (p : Phase) (o : Order) (n r at : ℕ) → Of t x ls p o → (run latin p o n ls).verdict ≡ 0
       → records_in p + r < (run latin p o n ls).records → Passed r (mark_in p) at ls
@@ -179,16 +178,16 @@ module _ (latin : Bool) (t : ℕ) (x : Order) where
       (λ q i. run_passed ls q (order_after p o (content l)) (suc n) i (at + length l)) e h
 
 -- the first line of a section
-data First (t : ℕ) : Step → Type 0 where
-  refuses : {v : ℕ} → (v ≡ 0 → ⊥) → First t (S.Stop v)
-  begins : First t (S.Go (P.Atr t))
+data First (t : ℕ) : Result Phase ℕ → Type 0 where
+  refuses : {v : ℕ} → (v ≡ 0 → ⊥) → First t (Err v)
+  begins : First t (Ok (P.Atr t))
 
-either : {t : ℕ} (b : Bool) {x y : Step} → (b ≡ true → First t x) → (b ≡ false → First t y) → First t (choose b x y)
+either : {t : ℕ} (b : Bool) {x y : Result Phase ℕ} → (b ≡ true → First t x) → (b ≡ false → First t y) → First t (choose b x y)
 unfolding choose
 either true f g = f refl
 either false f g = g refl
 
-no : {t v : ℕ} → First t (S.Stop (suc v))
+no : {t v : ℕ} → First t (Err (suc v))
 no {v = v} = refuses (λ (e : suc v ≡ 0). omega arith)
 
 first_step : (latin : Bool) (l : Bytes) → command (content l) ≡ Tbl → First (table_named (get_or (fields (rest (content l))) 0 [])) (step latin P.Tbl [] l)
@@ -202,16 +201,16 @@ module _ (latin : Bool) (l : Bytes) (ls : List Bytes) (r at : ℕ) where
   abbrev t : ℕ
   t = table_index (l ∷ ls)
 
-  after_first : (y : Step) → First t y → eqb (command (content l)) Rec ≡ false → eqb (command (content l)) Com ≡ false
+  after_first : (y : Result Phase ℕ) → First t y → eqb (command (content l)) Rec ≡ false → eqb (command (content l)) Com ≡ false
       → Of t (order_in (l ∷ ls)) ls (P.Atr t) [] → (continue y 0 1 (λ q. run latin q [] 1 ls)).verdict ≡ 0
       → r < (continue y 0 1 (λ q. run latin q [] 1 ls)).records → Passed latin t (order_in (l ∷ ls)) r 0 at (l ∷ ls)
   unfolding continue record_at waits records_in
-  after_first (S.Stop v) (refuses ne) b d k e h = absurd (ne e)
-  after_first (S.Go P.Tbl) x b d k e h = elim x [ ]
-  after_first (S.Go (P.Frm _)) x b d k e h = elim x [ ]
-  after_first (S.Go (P.Rows _ _ _)) x b d k e h = elim x [ ]
-  after_first (S.Go (P.Ended _ _)) x b d k e h = elim x [ ]
-  after_first (S.Go (P.Atr u)) begins b d k e h =
+  after_first (Err v) (refuses ne) b d k e h = absurd (ne e)
+  after_first (Ok P.Tbl) x b d k e h = elim x [ ]
+  after_first (Ok (P.Frm _)) x b d k e h = elim x [ ]
+  after_first (Ok (P.Rows _ _ _)) x b d k e h = elim x [ ]
+  after_first (Ok (P.Ended _ _)) x b d k e h = elim x [ ]
+  after_first (Ok (P.Atr u)) begins b d k e h =
       rw (b, d) (run_passed latin t (order_in (l ∷ ls)) ls (P.Atr t) [] 1 r (at + length l) k e (omega arith))
 
   order_due : command (content l) ≡ Tbl → order_of t (fields (atr_in ls)) ≡ order_in (l ∷ ls)

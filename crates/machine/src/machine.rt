@@ -1,166 +1,163 @@
 // The machine of a section: what each line leads to.
-ghost use Rattle.std.specs.Prelude.{◌≡◌, ◌&&◌, ◌+◌, ◌<◌, eqb};
+ghost use Rattle.std.specs.Prelude.{◌≡◌, ◌&&◌, ◌+◌, ◌<◌, eqb, Err, Ok};
+ghost use Rattle.commands.specs.Commands.{code};
 ghost use Rattle.page.specs.Lines.{content, rest, Rec};
 ghost use Rattle.page.specs.Fields.{fields};
 ghost use Rattle.page.specs.Marks.{remark_of};
 ghost use Rattle.page.specs.Section.{choose, tbl_step, frm_step, rec_step, mark_step, com_step, line_step, content_step, step};
-ghost use Rattle.page.specs.declared.Phase.{Phase};
 ghost use Rattle.page.specs.declared.Phase.TheVariants as P;
-ghost use Rattle.page.specs.declared.Step.TheVariants as S;
 ghost use Rattle.arrangement.specs.Orders.{held, Orderly, Stands};
 ghost use Rattle.machine.specs.Carries.{records_in, order_at, Carries, Found, Carried};
+ghost use Rattle.machine.specs.Moves.{phase_of};
+ghost use Rattle.machine.specs.declared.machine.Moved.{Moved};
 
+use commands::Command;
 use counts::step_end;
 use judging::judge_record;
-use page::{Phase, Remark, Step};
+use page::{Phase, Remark};
 use tables::{TABLES, WIDEST};
 
 // "`tbl` 10, 7"
-pub fn step_tbl(w: &[u8]) -> Step
+pub fn step_tbl(w: &[u8]) -> Result<Phase, u32>
     ensures { result ≡ tbl_step (fields w.now) }
 {
     if commands::count_fields(w) != 1 {
-        return Step::Stop(10);
+        return Err(10);
     }
     let t = names::find_table(commands::field_at(w, 0));
     if t < TABLES {
-        return Step::Go(Phase::Atr(t));
+        Ok(Phase::Atr(t))
+    } else {
+        Err(7)
     }
-    Step::Stop(7)
 }
 
 // "`atr` 8"
-pub fn step_atr(t: usize, found: bool) -> Step
-    ensures { result ≡ choose found (S.Go (P.Frm t)) (S.Stop 8) }
+pub fn step_atr(t: usize, found: bool) -> Result<Phase, u32>
+    ensures { result ≡ choose found (Ok (P.Frm t)) (Err 8) }
 {
-    if found {
-        return Step::Go(Phase::Frm(t));
-    }
-    Step::Stop(8)
+    if found { Ok(Phase::Frm(t)) } else { Err(8) }
 }
 
 // "`frm` 9"
-pub fn step_frm(w: &[u8], t: usize, o: &[u8; WIDEST]) -> Step
+pub fn step_frm(w: &[u8], t: usize, o: &[u8; WIDEST]) -> Result<Phase, u32>
     requires { Orderly o.now }
     ensures { result ≡ frm_step t (held t o.now) (fields w.now) }
 {
     if names::formats_match(w, t, o) {
-        return Step::Go(Phase::Rows(t, 0, 0));
+        Ok(Phase::Rows(t, 0, 0))
+    } else {
+        Err(9)
     }
-    Step::Stop(9)
 }
 
 // A record takes the mark that waits with it.
-pub fn step_rec(w: &[u8], t: usize, o: &[u8; WIDEST], m: u64, n: usize) -> Step
+pub fn step_rec(w: &[u8], t: usize, o: &[u8; WIDEST], m: u64, n: usize) -> Result<Phase, u32>
     requires { Stands t o.now × (n + 1 < 18446744073709551616) }
     ensures { result ≡ rec_step t (held t o.now) m n (fields w.now) }
 {
-    let v = judge_record(w, t, o, m);
-    if v == 0 {
-        return Step::Go(Phase::Rows(t, 0, n + 1));
+    match judge_record(w, t, o, m) {
+        0 => Ok(Phase::Rows(t, 0, n + 1)),
+        v => Err(v),
     }
-    Step::Stop(v)
 }
 
 // "A mark that is unreadable, not allowed, not rising, before `frm` or after `end` is 15 at its own line."
-pub fn step_mark(p: Phase, o: &[u8; WIDEST], i: u64) -> Step
+pub fn step_mark(p: Phase, o: &[u8; WIDEST], i: u64) -> Result<Phase, u32>
     requires { Carries p o.now }
     ensures { result ≡ mark_step p (order_at p o.now) i }
 {
     match p {
-        Phase::Tbl => Step::Stop(15),
-        Phase::Atr(_) => Step::Stop(15),
-        Phase::Frm(_) => Step::Stop(15),
         Phase::Rows(t, m, n) => {
-            if !arrangement::may_mark(t, o, i) {
-                return Step::Stop(15);
+            if arrangement::may_mark(t, o, i) && m < i {
+                Ok(Phase::Rows(t, i, n))
+            } else {
+                Err(15)
             }
-            if m < i {
-                return Step::Go(Phase::Rows(t, i, n));
-            }
-            Step::Stop(15)
         }
-        Phase::Ended(_, _) => Step::Stop(15),
+        Phase::Tbl | Phase::Atr(_) | Phase::Frm(_) | Phase::Ended(_, _) => Err(15),
     }
 }
 
-pub fn step_com(w: &[u8], p: Phase, o: &[u8; WIDEST]) -> Step
+pub fn step_com(w: &[u8], p: Phase, o: &[u8; WIDEST]) -> Result<Phase, u32>
     requires { Carries p o.now }
     ensures { result ≡ com_step p (order_at p o.now) (remark_of w.now) }
 {
     match quoted::read_remark(w) {
-        Remark::Comment => Step::Go(p),
-        Remark::Unreadable => Step::Stop(15),
+        Remark::Comment => Ok(p),
+        Remark::Unreadable => Err(15),
         Remark::Mark(i) => step_mark(p, o, i),
     }
 }
 
-fn step_rows(w: &[u8], t: usize, o: &[u8; WIDEST], m: u64, n: usize, k: u32) -> Step
+fn step_rows(
+    w: &[u8],
+    t: usize,
+    o: &[u8; WIDEST],
+    m: u64,
+    n: usize,
+    k: Command,
+) -> Result<Phase, u32>
     requires { Stands t o.now × (n + 1 < 18446744073709551616) }
-    ensures { result ≡ line_step (P.Rows t m n) (held t o.now) k w.now }
+    ensures { result ≡ line_step (P.Rows t m n) (held t o.now) (code k) w.now }
 {
-    if k == commands::REC {
-        return step_rec(w, t, o, m, n);
+    match k {
+        Command::Rec => step_rec(w, t, o, m, n),
+        Command::End => step_end(w, t, m, n),
+        _ => Err(6),
     }
-    if k == commands::END {
-        return step_end(w, t, m, n);
-    }
-    Step::Stop(6)
 }
 
 // A line of a known command k, other than `com`, with w after its first `;`: "known command out of its order" is 6.
-pub fn step_line(w: &[u8], p: Phase, o: &[u8; WIDEST], found: bool, k: u32) -> Step
+pub fn step_line(
+    w: &[u8],
+    p: Phase,
+    o: &[u8; WIDEST],
+    found: bool,
+    k: Command,
+) -> Result<Phase, u32>
     requires { Carries p o.now × (records_in p + 1 < 18446744073709551616) × Found p w.now found }
-    ensures { result ≡ line_step p (order_at p o.now) k w.now }
+    ensures { result ≡ line_step p (order_at p o.now) (code k) w.now }
 {
-    match p {
-        Phase::Tbl => {
-            if k == commands::TBL {
-                return step_tbl(w);
-            }
-            Step::Stop(6)
-        }
-        Phase::Atr(t) => {
-            if k == commands::ATR {
-                return step_atr(t, found);
-            }
-            Step::Stop(6)
-        }
-        Phase::Frm(t) => {
-            if k == commands::FRM {
-                return step_frm(w, t, o);
-            }
-            Step::Stop(6)
-        }
-        Phase::Rows(t, m, n) => step_rows(w, t, o, m, n, k),
-        Phase::Ended(_, _) => Step::Stop(6),
+    match (p, k) {
+        (Phase::Tbl, Command::Tbl) => step_tbl(w),
+        (Phase::Atr(t), Command::Atr) => step_atr(t, found),
+        (Phase::Frm(t), Command::Frm) => step_frm(w, t, o),
+        (Phase::Rows(t, m, n), _) => step_rows(w, t, o, m, n, k),
+        _ => Err(6),
     }
 }
 
 // "in `rec` lines under ISO8859-1 also every byte 161..255"
-fn is_wide(latin: bool, k: u32) -> bool
-    ensures { result ≡ (latin && eqb k Rec) }
+fn is_wide(latin: bool, k: Command) -> bool
+    ensures { result ≡ (latin && eqb (code k) Rec) }
 {
-    if latin { k == commands::REC } else { false }
+    latin && k == Command::Rec
 }
 
 // "in that line the first of 4, 5, 6, then" its command's own: c is the line's content.
-pub fn step_content(c: &[u8], p: Phase, o: &[u8; WIDEST], found: bool, latin: bool) -> Step
+pub fn step_content(
+    c: &[u8],
+    p: Phase,
+    o: &[u8; WIDEST],
+    found: bool,
+    latin: bool,
+) -> Result<Phase, u32>
     requires { Carries p o.now × (records_in p + 1 < 18446744073709551616) × Found p (rest c.now) found }
     ensures { result ≡ content_step latin p (order_at p o.now) c.now }
 {
-    let k = commands::command_of(c);
+    let k = Command::of(c);
     if !lines::all_allowed(c, is_wide(latin, k)) {
-        return Step::Stop(4);
+        return Err(4);
     }
     if lines::is_blank(c) {
-        return Step::Go(p);
+        return Ok(p);
     }
-    if commands::UNKNOWN <= k {
-        return Step::Stop(5);
+    if !k.is_known() {
+        return Err(5);
     }
     let w = lines::rest_of(c);
-    if k == commands::COM {
+    if k == Command::Com {
         return step_com(w, p, o);
     }
     step_line(w, p, o, found, k)
@@ -169,27 +166,26 @@ pub fn step_content(c: &[u8], p: Phase, o: &[u8; WIDEST], found: bool, latin: bo
 // What a line leads to, and which column stands where after it.
 #[derive(Clone, Copy)]
 pub struct Moved {
-    pub step: Step,
+    pub phase: Phase,
     pub order: [u8; WIDEST],
 }
 
 // "The reading of `atr` must now say which column stands where": where that line is due, a line's names are read, and once.
-pub fn step(l: &[u8], p: Phase, o: [u8; WIDEST], latin: bool) -> Moved
+pub fn step(l: &[u8], p: Phase, o: [u8; WIDEST], latin: bool) -> Result<Moved, u32>
     requires { Carries p o × (records_in p + 1 < 18446744073709551616) }
-    ensures { (result.step ≡ step latin p (order_at p o) l.now)
-        × ((q : Phase) → result.step ≡ S.Go q → Carried p q (order_at p o) (content l.now) result.order) }
+    ensures { (phase_of result ≡ step latin p (order_at p o) l.now)
+        × ((m : Moved) → result ≡ Ok m → Carried p m.phase (order_at p o) (content l.now) m.order) }
 {
     let c = lines::content_of(l);
     if let Phase::Atr(t) = p {
-        let a = names::arrange(lines::rest_of(c), t);
-        let order = a.order;
-        return Moved {
-            step: step_content(c, p, &o, a.found, latin),
-            order: order,
-        };
+        let arranged = names::arrange(lines::rest_of(c), t);
+        let phase = step_content(c, p, &o, arranged.is_some(), latin)?;
+        let stated = arranged.unwrap_or(o);
+        return Ok(Moved {
+            phase,
+            order: stated,
+        });
     }
-    Moved {
-        step: step_content(c, p, &o, false, latin),
-        order: o,
-    }
+    let phase = step_content(c, p, &o, false, latin)?;
+    Ok(Moved { phase, order: o })
 }

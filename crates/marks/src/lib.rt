@@ -2,67 +2,59 @@
 // waits (0: none).
 #![tactic(auto)]
 
-ghost use Rattle.std.specs.Prelude.{◌≡◌, ◌&&◌, ◌+◌, ◌<◌, ◌^◌, eqb, length};
+ghost use Rattle.std.specs.Prelude.{◌≡◌, ◌&&◌, ◌+◌, ◌<◌, eqb};
 ghost use Rattle.page.specs.Tables.{columns, column_at};
-ghost use Rattle.output.specs.Put.{Put};
+ghost use Rattle.output.specs.Put.{Puts};
+ghost use Rattle.copies.specs.Changed.{strips, field_of};
 ghost use Rattle.copies.specs.Parts.{marked_by, mark_by, marks_form};
 
-use copies::Plan;
+use copies::{Change, Plan};
 use frames::put_mark;
+use output::Output;
 use tables::{find_width, is_text};
 
 // Is the text of a column marked in what is written?
-fn is_marked(t: usize, k: usize, m: u64, plan: Plan) -> bool
+#[tactic(auto, unfolding(copies::specs::Parts::marked_by))]
+fn is_marked(t: usize, k: usize, m: u64, plan: Plan<'_>) -> bool
     requires { k < 65536 }
-    ensures { result ≡ marked_by plan.strip plan.field m (k + 1) (column_at t k) }
+    ensures { result ≡ marked_by (strips plan.entry.change) (field_of plan.entry.change) m (k + 1) (column_at t k) }
 {
-    if plan.field == k + 1 {
-        return true;
+    match plan.change {
+        Change::Nothing => m == k as u64 + 1 && is_text(t, k),
+        Change::Strip => false,
+        Change::Fill(fill) => fill.field == k + 1 || m == k as u64 + 1 && is_text(t, k),
     }
-    if plan.strip {
-        return false;
-    }
-    if m != k as u64 + 1 {
-        return false;
-    }
-    is_text(t, k)
 }
 
-fn put_mark_of(out: &mut [u8], at: usize, t: usize, k: usize, m: u64, plan: Plan) -> usize
-    requires { (k < 65536) × (at + 64 < 2 ^ 62) }
-    ensures { Put out.old at (mark_by plan.ends plan.strip plan.field m (k + 1) (column_at t k)) out.new result }
+fn put_mark_of(out: &mut Output<'_>, t: usize, k: usize, m: u64, plan: Plan<'_>)
+    requires { k < 65536 }
+    ensures { Puts out.old
+        (mark_by plan.entry.ends (strips plan.entry.change) (field_of plan.entry.change) m (k + 1) (column_at t k)) out.new }
 {
     if is_marked(t, k, m, plan) {
-        let ends = plan.ends;
-        return put_mark(out, at, ends, k as u64 + 1);
+        put_mark(out, plan.ends, k as u64 + 1);
     }
-    at
 }
 
 // Is nothing marked: does no mark wait, and is no field filled?
-pub fn is_plain(m: u64, plan: Plan) -> bool
-    ensures { result ≡ (eqb m 0 && eqb plan.field 0) }
+pub fn is_plain(m: u64, plan: Plan<'_>) -> bool
+    ensures { result ≡ (eqb m 0 && eqb (field_of plan.entry.change) 0) }
 {
-    if m == 0 {
-        return plan.field == 0;
+    match plan.change {
+        Change::Nothing | Change::Strip => m == 0,
+        Change::Fill(fill) => m == 0 && fill.field == 0,
     }
-    false
 }
 
 // "marks stand directly before their record"
-pub fn put_marks(out: &mut [u8], at: usize, t: usize, m: u64, plan: Plan) -> usize
-    requires { at + length (marks_form plan.ends plan.strip plan.field m 1 (columns t)) + 64 < 2 ^ 62 }
-    ensures { Put out.old at (marks_form plan.ends plan.strip plan.field m 1 (columns t)) out.new result }
+pub fn put_marks(out: &mut Output<'_>, t: usize, m: u64, plan: Plan<'_>)
+    ensures { Puts out.old
+        (marks_form plan.entry.ends (strips plan.entry.change) (field_of plan.entry.change) m 1 (columns t)) out.new }
 {
     if is_plain(m, plan) {
-        return at;
+        return;
     }
-    let n = find_width(t);
-    let mut o = at;
-    let mut k = 0;
-    while k < n {
-        o = put_mark_of(out, o, t, k, m, plan);
-        k += 1;
+    for k in 0..find_width(t) {
+        put_mark_of(out, t, k, m, plan);
     }
-    o
 }

@@ -195,7 +195,7 @@ module _ (t : ℕ) (fs : List Bytes) (k : ℕ) (o : List ℕ) (seen : List Bool)
           once = λ p q h g e. x.apart p q (within p h) (within q g) (sym (at p h) ∙ e ∙ at q g);
         }
 
-    pub entered_all : (true ≡ arranged (width t) (order_of t fs)) × Told t fs o
+    pub entered_all : (arranged (width t) (order_of t fs) ≡ true) × Told t fs o
     entered_all =
         let r = arrangement_arranged t (held t o) arrangement in
-        (sym (rw order_is at r), record { stands = record { orderly = x.orderly; arranged = r }; is = λ z. order_is })
+        (rw order_is at r, record { stands = record { orderly = x.orderly; arranged = r }; is = λ z. order_is })

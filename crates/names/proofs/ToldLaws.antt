@@ -2,25 +2,36 @@
 use mathlib.Core.Path.{◌≡◌, refl, ap, sym, ◌∙◌}
 use mathlib.Core.Bool.{Bool, true, false, false≢true}
 use mathlib.Core.List.{List, [], ◌∷◌, map}
-use Prim.Native.Nat.{ℕ, zero, suc, ◌+◌, ◌<◌, ◌≤◌}
+use Prim.Native.Nat.{ℕ, zero, suc, ◌+◌, ◌-◌, ◌<◌, ◌≤◌}
 use Prim.Native.String.{String}
 use native.Mathlib.Omega.{arith}
-use lib.ListN.{length, get_or, drop, length-map, length-drop, get_or-map}
+use lib.ListN.{length, get_or, take, drop, length-map, length-drop, get_or-map}
 use borrow.Author.Tests.{eq-eqb, ne_eqb}
-use Rattle.page.specs.Bytes.{Bytes, bytes, same}
+use Rattle.page.specs.Bytes.{Bytes, bytes, same, trim}
 use Rattle.page.specs.Lines.{lines, content, command, rest, Atr}
 use Rattle.page.specs.Fields.{fields, field_size}
-use Rattle.page.specs.Tables.{Named, WIDEST, no_column, columns, width, name_at}
+use Rattle.page.specs.Tables.{Named, Table, TABLES, WIDEST, all_tables, no_table, no_column, table_at, columns, width, name_at}
+use Rattle.page.proofs.TableLaws.{tables_counted}
 use Rattle.page.specs.Order.{upto, order_of, arranged}
 use Rattle.page.specs.Records.{table_index, atr_in, order_in}
 use Rattle.page.proofs.TestLaws.{same_true}
 use Rattle.page.proofs.LineLaws.{lines_end}
-use Rattle.page.proofs.FieldLaws.{from, from_more, from_end}
+use Rattle.page.proofs.FieldLaws.{from, from_more, from_end, end_in, next_left, head_left}
 use Rattle.page.proofs.OrderLaws.{arranged_long, arranged_below}
 use Rattle.page.proofs.ArrangeLaws.{name_found, order_length, arranged_arrangement}
 use Rattle.arrangement.specs.Orders.{held}
 use Rattle.arrangement.proofs.OrderLaws.{listed_stands}
 use Rattle.names.specs.Told.{column_named, Told}
+
+abbrev pub titles : List String
+titles = map (λ (x : Table). x.name) all_tables
+
+pub titles_length : length titles ≡ TABLES
+titles_length = length-map all_tables (λ (x : Table). x.name) ∙ tables_counted
+
+pub title_listed : (t : ℕ) → get_or titles t "" ≡ (table_at t).name
+unfolding table_at
+title_listed t = get_or-map (λ (x : Table). x.name) all_tables t no_table
 
 abbrev pub names : ℕ → List String
 names t = map (λ (c : Named). c.name) (columns t)
@@ -51,6 +62,27 @@ module _ (w : Bytes) (k at : ℕ) (d : drop k (fields w) ≡ from w at) (l : k �
   pub some_left : at ≤ length w → k < length (fields w)
   some_left h = omega (arith, ap length (d ∙ from_more w at (at + field_size false (drop at w)) h refl), length-drop k (fields w))
 
+-- the field that begins at a place, and the column that it names
+pub record Heads (t : ℕ) (w : Bytes) (k at e c : ℕ) : Type 0 where
+  pub there : k < length (fields w)
+  pub named : c ≡ column_named t (get_or (fields w) k [])
+  pub next : drop (k + 1) (fields w) ≡ from w (e + 1)
+  pub within : e ≤ length w
+  pub from : at ≤ e
+
+pub heads : (t : ℕ) (w : Bytes) (k at e c : ℕ) → drop k (fields w) ≡ from w at → k ≤ length (fields w) → at ≤ length w → e ≡ at + field_size false (drop at w)
+    → c ≡ column_named t (trim (take (e - at) (drop at w))) → Heads t w k at e c
+heads t w k at e c d l h q n =
+    let m = from_more w at e h q in
+    let x = end_in w at e h q in
+    record {
+      there = some_left w k at d l h;
+      named = n ∙ ap (column_named t) (sym (head_left (fields w) k _ _ (d ∙ m)));
+      next = next_left (fields w) k _ _ (d ∙ m);
+      within = omega arith;
+      from = omega arith;
+    }
+
 -- no arrangement: too few or too many, a name that is none, a name twice
 
 unless : (b : Bool) → (b ≡ true → ⊥) → b ≡ false
@@ -77,10 +109,9 @@ module _ (t : ℕ) (fs : List Bytes) where
       (arranged_arrangement t (order_of t fs) a).once p k (omega arith) (omega arith) (order_at t fs p (omega arith) ∙ e ∙ sym (order_at t fs k h)) in
       omega arith)
 
-  pub told_not : (found : Bool) (a : List ℕ) → (found ≡ false) × (a ≡ upto 0 WIDEST) → arranged (width t) (order_of t fs) ≡ false
-      → (found ≡ arranged (width t) (order_of t fs)) × Told t fs a
-  told_not found a x n =
-      (x.0 ∙ sym n, record { stands = rw x.1 (listed_stands t); is = λ z. absurd (false≢true (sym n ∙ z)) })
+  -- document 01's own order stands where none is stated
+  pub told_none : (a : List ℕ) → arranged (width t) (order_of t fs) ≡ false → a ≡ upto 0 WIDEST → Told t fs a
+  told_none a n e = record { stands = rw e (listed_stands t); is = λ z. absurd (false≢true (sym n ∙ z)) }
 
 -- a section's `atr` line
 

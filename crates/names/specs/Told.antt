@@ -1,5 +1,5 @@
 -- What an `atr` line says of the order, as the code holds it.
-use Rattle.std.specs.Prelude.{◌≡◌, true, List, map, ℕ}
+use Rattle.std.specs.Prelude.{◌≡◌, true, false, List, map, ℕ, Option, Some, None}
 use Rattle.page.specs.Bytes.{Bytes}
 use Rattle.page.specs.Lines.{find}
 use Rattle.page.specs.Tables.{Named, columns, width}
@@ -14,3 +14,8 @@ column_named t = find 0 (map (λ (c : Named). c.name) (columns t))
 pub record Told (t : ℕ) (fs : List Bytes) (a : List ℕ) : Type 0 where
   pub stands : Stands t a
   pub is : arranged (width t) (order_of t fs) ≡ true → held t a ≡ order_of t fs
+
+-- and one that is stated: none, exactly if they do not arrange the columns
+abbrev pub Arranges : ℕ → List Bytes → Option (List ℕ) → Type 0
+Arranges t fs (Some a) = (arranged (width t) (order_of t fs) ≡ true) × Told t fs a
+Arranges t fs None = arranged (width t) (order_of t fs) ≡ false

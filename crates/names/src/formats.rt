@@ -3,34 +3,26 @@ ghost use Rattle.std.specs.Prelude.{◌≡◌};
 ghost use Rattle.page.specs.Bytes.{until};
 ghost use Rattle.page.specs.Section.{no_digit, size_ok, formed, format_ok};
 
-use digits::{Magnitude, is_digit, read_digits};
+use digits::{is_digit, read_digits};
 
 // How many digits stand at the front.
 fn count_digits(w: &[u8]) -> usize
     ensures { result ≡ until no_digit w.now }
 {
-    let mut i = 0;
-    while i < w.len() {
-        let b = w[i];
-        if !is_digit(b) {
+    for (i, b) in w.iter().enumerate() {
+        if !is_digit(*b) {
             return i;
         }
-        i += 1;
     }
-    i
+    w.len()
 }
 
 fn is_size(w: &[u8]) -> bool
     ensures { result ≡ size_ok w.now }
 {
     match read_digits(w) {
-        Magnitude::Is(v) => {
-            if w[0] == 48 {
-                return false;
-            }
-            v <= 255
-        }
-        Magnitude::Nothing => false,
+        Some(v) => w[0] != 48 && v <= 255,
+        None => false,
     }
 }
 
@@ -39,17 +31,11 @@ pub fn is_formed(w: &[u8], name: &[u8], tail: &[u8]) -> bool
     ensures { result ≡ formed name.now tail.now w.now }
 {
     let p = name.len();
-    if w.len() < p {
-        return false;
-    }
-    if !lines::equal(&w[..p], name) {
+    if w.len() < p || !lines::equal(&w[..p], name) {
         return false;
     }
     let d = p + count_digits(&w[p..]);
-    if !is_size(&w[p..d]) {
-        return false;
-    }
-    lines::equal(&w[d..], tail)
+    is_size(&w[p..d]) && lines::equal(&w[d..], tail)
 }
 
 pub fn is_format(f: &[u8], text: bool) -> bool

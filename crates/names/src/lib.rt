@@ -2,57 +2,30 @@
 #![tactic(auto)]
 
 ghost use Rattle.std.specs.Prelude.{◌≡◌};
-ghost use Rattle.page.specs.Bytes.{bytes, same};
-ghost use Rattle.page.specs.Tables.{name_at, table_named};
+ghost use Rattle.page.specs.Tables.{table_named};
 ghost use Rattle.page.specs.Order.{standing};
 ghost use Rattle.page.specs.Fields.{fields};
 ghost use Rattle.page.specs.Section.{formats_ok};
 ghost use Rattle.arrangement.specs.Orders.{held, Orderly};
-ghost use Rattle.words.specs.Words.{word, row};
 
 mod formats;
 mod orders;
 mod titles;
 
-pub use orders::{Arranged, arrange, find_order};
-use tables::{NAMES, TABLES, WIDEST, find_width, is_text};
+pub use orders::{arrange, find_order};
+use tables::{TABLES, WIDEST, find_title, find_width, is_text};
 pub use titles::table_at;
-use words::{find_word, look_name, look_title};
-
-// `letters` are those of all names: whoever compares many names asks for them once.
-pub fn is_word(letters: &[u8], f: &[u8], n: usize) -> bool
-    requires { letters.now ≡ row }
-    ensures { result ≡ same f.now (bytes (word n)) }
-{
-    let sp = find_word(n);
-    let a = sp.from;
-    let e = sp.to;
-    if f.len() != e - a {
-        return false;
-    }
-    lines::equal(f, &letters[a..e])
-}
-
-pub fn is_name(letters: &[u8], f: &[u8], t: usize, k: usize) -> bool
-    requires { letters.now ≡ row }
-    ensures { result ≡ same f.now (bytes (name_at t k)) }
-{
-    is_word(letters, f, look_name(t, k))
-}
 
 // A table by its name; past the last, if no table has it.
 pub fn find_table(w: &[u8]) -> usize
     ensures { result ≡ table_named w.now }
 {
-    let letters = NAMES;
-    let mut t: usize = 0;
-    while t < TABLES {
-        if is_word(&letters, w, look_title(t)) {
+    for t in 0..TABLES {
+        if lines::equal(w, find_title(t)) {
             return t;
         }
-        t += 1;
     }
-    t
+    TABLES
 }
 
 // "`frm` with one format a column", as the columns stand.
@@ -60,10 +33,8 @@ pub fn formats_match(w: &[u8], t: usize, o: &[u8; WIDEST]) -> bool
     requires { Orderly o.now }
     ensures { result ≡ formats_ok (standing t (held t o.now)) (fields w.now) }
 {
-    let n = find_width(t);
-    let mut k = 0;
     let mut at = 0;
-    while k < n {
+    for k in 0..find_width(t) {
         if w.len() < at {
             return false;
         }
@@ -73,7 +44,6 @@ pub fn formats_match(w: &[u8], t: usize, o: &[u8; WIDEST]) -> bool
             return false;
         }
         at = e + 1;
-        k += 1;
     }
     w.len() < at
 }

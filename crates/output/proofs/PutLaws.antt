@@ -72,14 +72,6 @@ first_of s i h = rw (add-one, drop-cons s i 0)
 pub put_none : {l : Bytes} {i : ℕ} → Put l i [] l i
 put_none = record { is = refl; next = omega arith }
 
--- past the room nothing changes
-pub put_past : {l : Bytes} {i : ℕ} {form : Bytes} → length l ≤ i → Put l i form l (i + length form)
-put_past {l} {i} {form} h = record { is = sym (sets_past l i form h); next = refl }
-
--- a byte that is stored
-pub put_stored : {l : Bytes} {i b : ℕ} → Put l i (b ∷ []) (set l i b) (i + 1)
-put_stored = record { is = refl; next = refl }
-
 -- the same bytes by another name
 pub put_as : {l m a b : Bytes} {i j : ℕ} → a ≡ b → Put l i a m j → Put l i b m j
 put_as {l} {m} {i = i} {j = j} e p = subst (λ (x : Bytes). Put l i x m j) e p

@@ -1,79 +1,61 @@
 // Single bytes and runs of bytes.
-ghost use Rattle.std.specs.Prelude.{[], ◌∷◌, ◌+◌, ◌<◌, ◌≤◌, ◌^◌, length};
+ghost use Rattle.std.specs.Prelude.{◌≡◌, [], ◌∷◌};
+ghost use Rattle.std.proofs.lemmas.List.Edits.{sets};
 ghost use Rattle.page.specs.Bytes.{bytes};
 ghost use Rattle.page.specs.Form.{line_end};
-ghost use Rattle.output.specs.Put.{Put};
+ghost use Rattle.output.specs.Put.{Puts};
 
 use page::LineEnd;
 
-pub fn put_byte(out: &mut [u8], at: usize, b: u8) -> usize
-    requires { at < 2 ^ 62 }
-    ensures { Put out.old at (b ∷ []) out.new result }
-{
-    if at < out.len() {
-        out[at] = b;
-        return at + 1;
-    }
-    at + 1
+// Lent output, and the place of what is put next. Bytes past the room are only counted, so with no room at all a form is measured.
+#[derive(Drop)]
+pub struct Output<'a> {
+    pub room: &'a mut [u8],
+    pub at: usize,
 }
 
-// Where there is room for all of them.
-fn copy_bytes(out: &mut [u8], at: usize, s: &[u8]) -> usize
-    requires { at + length s.now ≤ length out.old }
-    ensures { Put out.old at s.now out.new result }
+// As many of the bytes as the room takes.
+fn copy_clipped(room: &mut [u8], at: usize, s: &[u8])
+    ensures { room.new ≡ sets room.old at s.now }
 {
-    let mut o = at;
-    let mut i = 0;
-    while i < s.len() {
-        out[o] = s[i];
-        o += 1;
-        i += 1;
+    if at < room.len() {
+        let fit = s.len().min(room.len() - at);
+        room[at..at + fit].copy_from_slice(&s[..fit]);
     }
-    o
 }
 
-// Where there may be room for some of them.
-fn clip_bytes(out: &mut [u8], at: usize, s: &[u8]) -> usize
-    requires { at + length s.now < 2 ^ 62 }
-    ensures { Put out.old at s.now out.new result }
-{
-    let mut o = at;
-    let mut i = 0;
-    while i < s.len() {
-        o = put_byte(out, o, s[i]);
-        i += 1;
+impl Output<'_> {
+    pub fn put_byte(&mut self, b: u8)
+        ensures { Puts self.old (b ∷ []) self.new }
+    {
+        if self.at < self.room.len() {
+            self.room[self.at] = b;
+        }
+        self.at = self.at.saturating_add(1);
     }
-    o
-}
 
-pub fn put_bytes(out: &mut [u8], at: usize, s: &[u8]) -> usize
-    requires { at + length s.now < 2 ^ 62 }
-    ensures { Put out.old at s.now out.new result }
-{
-    let e = at + s.len();
-    if out.len() <= at {
-        return e;
+    pub fn put_bytes(&mut self, s: &[u8])
+        ensures { Puts self.old s.now self.new }
+    {
+        copy_clipped(self.room, self.at, s);
+        self.at = self.at.saturating_add(s.len());
     }
-    if e <= out.len() {
-        return copy_bytes(out, at, s);
+
+    // "One space after each separating `;`"
+    #[tactic(auto, unfolding(page::specs::Bytes::bytes))]
+    pub fn put_separator(&mut self)
+        ensures { Puts self.old (bytes "; ") self.new }
+    {
+        self.put_bytes(b"; ");
     }
-    clip_bytes(out, at, s)
-}
 
-// "One space after each separating `;`"
-pub fn put_separator(out: &mut [u8], at: usize) -> usize
-    requires { at + 2 < 2 ^ 62 }
-    ensures { Put out.old at (bytes "; ") out.new result }
-{
-    put_bytes(out, at, b"; ")
-}
-
-// "Each line ends in LF": every written line's end is put here.
-pub fn put_line_end(out: &mut [u8], at: usize, ends: LineEnd) -> usize
-    requires { at + 2 < 2 ^ 62 }
-    ensures { Put out.old at (line_end ends) out.new result }
-{
-    match ends {
-        LineEnd::Lf => put_bytes(out, at, b"\n"),
+    // "Each line ends in LF": every written line's end is put here.
+    #[tactic(auto, unfolding(page::specs::Form::line_end))]
+    pub fn put_line_end(&mut self, ends: LineEnd)
+        ensures { Puts self.old (line_end ends) self.new }
+    {
+        match ends {
+            LineEnd::Lf => self.put_bytes(b"\n"),
+        }
     }
 }

@@ -1,9 +1,9 @@
 -- Marks: neither the word of a mark nor a digit holds a quote, so the bytes between the quotes say as much as the text they stand for.
 -- Assumes nothing.
+use Rattle.std.specs.Prelude.{Some}
 use mathlib.Core.Path.{◌≡◌, refl, ap, sym, ◌∙◌}
 use mathlib.Core.Bool.{Bool, true, false, not, ◌&&◌}
 use mathlib.Core.List.{[], ◌∷◌}
-use mathlib.Core.Option.{some}
 use Prim.Native.Nat.{ℕ, suc, ◌-◌, ◌<◌, ◌≤◌}
 use native.Mathlib.Omega.{arith}
 use borrow.Author.Tests.{eq-eqb, ne_eqb, eqb-true, eqb-false, lt-leb, not-true}
@@ -106,7 +106,7 @@ mark_doubled t = by (same (take 10 t) (bytes "SUGGESTED ")) refl
     by false q = rw (doubled_begins (bytes "SUGGESTED ") t refl, q)
 
 -- a mark by the bytes that code looks at: those between the quotes of a field that is a text
-pub mark_between : (f t : Bytes) → text_of f ≡ some t → mark_in (text_of f) ≡ mark_text (take (length f - 1 - 1) (drop 1 f))
+pub mark_between : (f t : Bytes) → text_of f ≡ Some t → mark_in (text_of f) ≡ mark_text (take (length f - 1 - 1) (drop 1 f))
 mark_between f t e =
     let n : length f - 1 - 1 ≡ length f - 2 = omega arith in
     ap mark_in e ∙ sym (mark_doubled t) ∙ ap mark_text (sym (text_between f t e)) ∙ ap (λ (k : ℕ). mark_text (take k (drop 1 f))) (sym n)

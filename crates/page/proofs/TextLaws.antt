@@ -1,9 +1,9 @@
 -- Texts: a closed text is its quotes and what it stands for with each quote doubled, and nothing else is one.
 -- Assumes nothing.
+use Rattle.std.specs.Prelude.{None, Option, Some}
 use mathlib.Core.Path.{◌≡◌, refl, ap, sym, subst, ◌∙◌}
 use mathlib.Core.Bool.{Bool, true, false}
 use mathlib.Core.List.{[], ◌∷◌, ◌++◌}
-use mathlib.Core.Option.{Option, none, some}
 use Prim.Native.Nat.{ℕ, zero, suc, ◌+◌, ◌-◌, ◌<◌, ◌≤◌}
 use native.Mathlib.Omega.{arith}
 use native.Mathlib.Numerals.{add-one}
@@ -32,31 +32,31 @@ module _ (s : Bytes) (i : ℕ) (h : i < length s) where
   unfolding body_of
   body_double e = rw (add-one, drop-cons s i 0 h, eq-eqb (get_or s i 0) 34 e)
 
-  pub body_broken : (get_or s i 0 ≡ 34 → ⊥) → body_of true (drop i s) ≡ none
+  pub body_broken : (get_or s i 0 ≡ 34 → ⊥) → body_of true (drop i s) ≡ None
   unfolding body_of
   body_broken e = rw (drop-cons s i 0 h, ne_eqb (get_or s i 0) 34 e)
 
 module _ (s : Bytes) (i : ℕ) (h : length s ≤ i) where
-  pub body_open : body_of false (drop i s) ≡ none
+  pub body_open : body_of false (drop i s) ≡ None
   unfolding body_of
   body_open = rw (drop_of_length-le s h)
 
-  pub body_closed : body_of true (drop i s) ≡ some []
+  pub body_closed : body_of true (drop i s) ≡ Some []
   unfolding body_of
   body_closed = rw (drop_of_length-le s h)
 
 -- a field is a text exactly if it is a quoted text
 
-none_some : {A : Type 0} (t : Bytes) → none ≡ some t → A
+none_some : {A : Type 0} (t : Bytes) → None ≡ Some t → A
 none_some t e = absurd (let z : ◌≡◌ {A = ℕ} 0 1 = cc in omega arith)
 
 -- the bytes of a text that begins with b
 data Begins (b : ℕ) (o : Option Bytes) (t : Bytes) : Type 0 where
-  begins : (u : Bytes) → o ≡ some u → t ≡ b ∷ u → Begins b o t
+  begins : (u : Bytes) → o ≡ Some u → t ≡ b ∷ u → Begins b o t
 
-begins_of : (b : ℕ) (o : Option Bytes) (t : Bytes) → with_byte b o ≡ some t → Begins b o t
-begins_of b none t e = none_some t e
-begins_of b (some u) t e = begins u refl (let x : t ≡ b ∷ u = cc in x)
+begins_of : (b : ℕ) (o : Option Bytes) (t : Bytes) → with_byte b o ≡ Some t → Begins b o t
+begins_of b None t e = none_some t e
+begins_of b (Some u) t e = begins u refl (let x : t ≡ b ∷ u = cc in x)
 
 doubled_quote : (b : ℕ) (u : Bytes) → b ≡ 34 → doubled (b ∷ u) ≡ b ∷ b ∷ doubled u
 unfolding doubled
@@ -71,15 +71,15 @@ front : Bool → Bytes → Bytes
 front true w = 34 ∷ w
 front false w = w
 
-body_is : (met : Bool) (w t : Bytes) → body_of met w ≡ some t → front met w ≡ doubled t ++ 34 ∷ []
+body_is : (met : Bool) (w t : Bytes) → body_of met w ≡ Some t → front met w ≡ doubled t ++ 34 ∷ []
 unfolding body_of doubled front
 body_is false [] t e = none_some t e
 body_is true [] t e = let x : t ≡ [] = cc in rw x
 body_is false (b ∷ w) t e = by (eqb b 34) refl e (body_is true w) (body_is false w)
   where
-    by : (q : Bool) → eqb b 34 ≡ q → pick q (body_of true w) (with_byte b (body_of false w)) ≡ some t
-        → ((u : Bytes) → body_of true w ≡ some u → 34 ∷ w ≡ doubled u ++ 34 ∷ [])
-        → ((u : Bytes) → body_of false w ≡ some u → w ≡ doubled u ++ 34 ∷ [])
+    by : (q : Bool) → eqb b 34 ≡ q → pick q (body_of true w) (with_byte b (body_of false w)) ≡ Some t
+        → ((u : Bytes) → body_of true w ≡ Some u → 34 ∷ w ≡ doubled u ++ 34 ∷ [])
+        → ((u : Bytes) → body_of false w ≡ Some u → w ≡ doubled u ++ 34 ∷ [])
         → b ∷ w ≡ doubled t ++ 34 ∷ []
     by true q e f g = rw (eqb-true b 34 q) (f t e)
     by false q e f g = to (begins_of b (body_of false w) t e)
@@ -88,8 +88,8 @@ body_is false (b ∷ w) t e = by (eqb b 34) refl e (body_is true w) (body_is fal
         to (begins u x y) = rw (y, doubled_other b u q) (ap (λ (l : Bytes). b ∷ l) (g u x))
 body_is true (b ∷ w) t e = by (eqb b 34) refl e (body_is false w)
   where
-    by : (q : Bool) → eqb b 34 ≡ q → pick q (with_byte b (body_of false w)) none ≡ some t
-        → ((u : Bytes) → body_of false w ≡ some u → w ≡ doubled u ++ 34 ∷ [])
+    by : (q : Bool) → eqb b 34 ≡ q → pick q (with_byte b (body_of false w)) None ≡ Some t
+        → ((u : Bytes) → body_of false w ≡ Some u → w ≡ doubled u ++ 34 ∷ [])
         → 34 ∷ b ∷ w ≡ doubled t ++ 34 ∷ []
     by true q e g = to (begins_of b (body_of false w) t e)
       where
@@ -97,25 +97,25 @@ body_is true (b ∷ w) t e = by (eqb b 34) refl e (body_is false w)
         to (begins u x y) = rw (y, doubled_quote b u (eqb-true b 34 q), g u x, eqb-true b 34 q)
     by false q e g = none_some t e
 
-doubled_body : (t : Bytes) → body_of false (doubled t ++ 34 ∷ []) ≡ some t
+doubled_body : (t : Bytes) → body_of false (doubled t ++ 34 ∷ []) ≡ Some t
 unfolding body_of doubled
 doubled_body [] = refl
 doubled_body (b ∷ t) = by (eqb b 34) refl (doubled_body t)
   where
-    by : (q : Bool) → eqb b 34 ≡ q → body_of false (doubled t ++ 34 ∷ []) ≡ some t → body_of false (pick q (b ∷ b ∷ doubled t) (b ∷ doubled t) ++ 34 ∷ []) ≡ some (b ∷ t)
+    by : (q : Bool) → eqb b 34 ≡ q → body_of false (doubled t ++ 34 ∷ []) ≡ Some t → body_of false (pick q (b ∷ b ∷ doubled t) (b ∷ doubled t) ++ 34 ∷ []) ≡ Some (b ∷ t)
     by true q ih = simp (q, ih)
     by false q ih = simp (q, ih)
 
-pub text_quoted : (f t : Bytes) → text_of f ≡ some t → f ≡ quoted t
+pub text_quoted : (f t : Bytes) → text_of f ≡ Some t → f ≡ quoted t
 unfolding text_of quoted front
 text_quoted [] t e = none_some t e
 text_quoted (b ∷ w) t e = by (eqb b 34) refl e
   where
-    by : (q : Bool) → eqb b 34 ≡ q → pick q (body_of false w) none ≡ some t → b ∷ w ≡ 34 ∷ (doubled t ++ 34 ∷ [])
+    by : (q : Bool) → eqb b 34 ≡ q → pick q (body_of false w) None ≡ Some t → b ∷ w ≡ 34 ∷ (doubled t ++ 34 ∷ [])
     by true q e = rw (eqb-true b 34 q) (ap (λ (l : Bytes). 34 ∷ l) (body_is false w t e))
     by false q e = none_some t e
 
-pub quoted_text : (t : Bytes) → text_of (quoted t) ≡ some t
+pub quoted_text : (t : Bytes) → text_of (quoted t) ≡ Some t
 unfolding text_of quoted
 quoted_text t = doubled_body t
 
@@ -133,7 +133,7 @@ quoted_between t =
     let e : length (34 ∷ (doubled t ++ 34 ∷ [])) - 2 ≡ length (doubled t) = omega (arith, length-append (doubled t) (34 ∷ [])) in
     rw e (take_at (doubled t) (34 ∷ []) (length (doubled t)) refl)
 
-module _ (f t : Bytes) (e : text_of f ≡ some t) where
+module _ (f t : Bytes) (e : text_of f ≡ Some t) where
   pub text_long : 2 ≤ length f
   text_long = rw (text_quoted f t e) (omega (arith, quoted_length t))
 
@@ -203,7 +203,7 @@ doubled_take (suc n) (b ∷ t) = by (eqb b 34) (doubled_take n t)
     by true ih = ap (λ (l : Bytes). b ∷ b ∷ l) ih
     by false ih = ap (λ (l : Bytes). b ∷ l) ih
 
-module _ (f t : Bytes) (e : text_of f ≡ some t) where
+module _ (f t : Bytes) (e : text_of f ≡ Some t) where
   before_quote : take (length f - 1) f ≡ 34 ∷ doubled t
   unfolding quoted
   before_quote =
@@ -235,13 +235,13 @@ pub record Worded (f : Bytes) (x : Wording) : Type 0 where
   pub stands : part x.span f ≡ doubled x.own
   pub trimmed : unpadded x.own ≡ x.own
 
-pub words_there : (f : Bytes) (x : Wording) → words_of f ≡ some x → Worded f x
+pub words_there : (f : Bytes) (x : Wording) → words_of f ≡ Some x → Worded f x
 unfolding words_of
 words_there f x e = by (text_of f) refl e
   where
-    by : (o : Option Bytes) → text_of f ≡ o → worded f o ≡ some x → Worded f x
-    by none q z = absurd (let y : ◌≡◌ {A = ℕ} 0 1 = cc in omega arith)
-    by (some t) q z =
+    by : (o : Option Bytes) → text_of f ≡ o → worded f o ≡ Some x → Worded f x
+    by None q z = absurd (let y : ◌≡◌ {A = ℕ} 0 1 = cc in omega arith)
+    by (Some t) q z =
         let k = text_kept f t q in
         let n : keep space (take (length f - 1) f) - 1 ≡ length (doubled (unpadded t)) = omega arith in
         let y : record { own = unpadded t; span = own_span f } ≡ x = cc in
@@ -255,50 +255,50 @@ words_there f x e = by (text_of f) refl e
         })
 
 abbrev pub unpadded_in : Option Bytes → Option Bytes
-unpadded_in none = none
-unpadded_in (some t) = some (unpadded t)
+unpadded_in None = None
+unpadded_in (Some t) = Some (unpadded t)
 
 own_worded : (f : Bytes) (x : Option Bytes) → own_of (worded f x) ≡ unpadded_in x
-own_worded f none = refl
-own_worded f (some t) = refl
+own_worded f None = refl
+own_worded f (Some t) = refl
 
 pub record_text_is : (f : Bytes) → record_text f ≡ unpadded_in (text_of f)
 unfolding record_text words_of
 record_text_is f = own_worded f (text_of f)
 
-pub worded_none : (f : Bytes) → record_text f ≡ none → words_of f ≡ none
+pub worded_none : (f : Bytes) → record_text f ≡ None → words_of f ≡ None
 unfolding record_text words_of
 worded_none f e = by (text_of f) e
   where
-    by : (o : Option Bytes) → own_of (worded f o) ≡ none → worded f o ≡ none
-    by none h = refl
-    by (some t) h = none_some (unpadded t) (sym h)
+    by : (o : Option Bytes) → own_of (worded f o) ≡ None → worded f o ≡ None
+    by None h = refl
+    by (Some t) h = none_some (unpadded t) (sym h)
 
-pub worded_some : (f t : Bytes) → record_text f ≡ some t → words_of f ≡ some (record { own = t; span = own_span f })
+pub worded_some : (f t : Bytes) → record_text f ≡ Some t → words_of f ≡ Some (record { own = t; span = own_span f })
 unfolding record_text words_of
 worded_some f t e = by (text_of f) e
   where
-    by : (o : Option Bytes) → own_of (worded f o) ≡ some t → worded f o ≡ some (record { own = t; span = own_span f })
-    by none h = none_some t h
-    by (some u) h = let x : unpadded u ≡ t = cc in rw x
+    by : (o : Option Bytes) → own_of (worded f o) ≡ Some t → worded f o ≡ Some (record { own = t; span = own_span f })
+    by None h = none_some t h
+    by (Some u) h = let x : unpadded u ≡ t = cc in rw x
 
 -- a record's text is a text without its padding
 pub record Padded (f t : Bytes) : Type 0 where
   pub whole : Bytes
-  pub is : text_of f ≡ some whole
+  pub is : text_of f ≡ Some whole
   pub own : t ≡ unpadded whole
 
-pub padded_of : (f t : Bytes) → record_text f ≡ some t → Padded f t
+pub padded_of : (f t : Bytes) → record_text f ≡ Some t → Padded f t
 padded_of f t e = by (text_of f) refl (sym (record_text_is f) ∙ e)
   where
-    by : (o : Option Bytes) → text_of f ≡ o → unpadded_in o ≡ some t → Padded f t
-    by none q h = none_some t h
-    by (some u) q h = record { whole = u; is = q; own = (let x : t ≡ unpadded u = cc in x) }
+    by : (o : Option Bytes) → text_of f ≡ o → unpadded_in o ≡ Some t → Padded f t
+    by None q h = none_some t h
+    by (Some u) q h = record { whole = u; is = q; own = (let x : t ≡ unpadded u = cc in x) }
 
 -- and has no space at its end
-pub record_trimmed : (f t : Bytes) → record_text f ≡ some t → unpadded t ≡ t
+pub record_trimmed : (f t : Bytes) → record_text f ≡ Some t → unpadded t ≡ t
 record_trimmed f t e = let p = padded_of f t e in rw p.own (unpadded_once p.whole)
 
 -- a quoted text is read as it is, if no space stands at its end
-pub quoted_own : (t : Bytes) → unpadded t ≡ t → record_text (quoted t) ≡ some t
+pub quoted_own : (t : Bytes) → unpadded t ≡ t → record_text (quoted t) ≡ Some t
 quoted_own t e = record_text_is (quoted t) ∙ rw (quoted_text t, e)

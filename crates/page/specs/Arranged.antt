@@ -1,11 +1,10 @@
 -- Columns in the sender's order (document 02, E1), computed as one list: short inputs, some of them of a file that is arranged throughout.
-use Rattle.std.specs.Prelude.{◌≡◌, refl, true, List, [], ◌∷◌, ◌++◌, map}
+use Rattle.std.specs.Prelude.{◌≡◌, refl, true, List, [], ◌∷◌, ◌++◌, map, Ok}
 use Prim.Native.String.{String}
 use Rattle.page.specs.Bytes.{Bytes, bytes}
 use Rattle.page.specs.Open.{open_all}
 use Rattle.page.specs.Cases.{section_case, file_case, form_case, value_case, a_form, a_value, answer, says, files, versions, day_types, head}
 use Rattle.page.specs.Settled.{Pair, ◌gives◌}
-use Rattle.page.specs.declared.Got.TheVariants as G
 use Rattle.page.specs.declared.Value.TheVariants as Va
 use Rattle.page.specs.declared.Owner.TheVariants as O
 
@@ -45,8 +44,8 @@ order_points =
     (file_case turned_file gives files 0 0 0) ∷
     (file_case (head ++ (turned_types "rec; \"a\"; 1; 7\nrec; \"b\"; 1; 007\nend; 2\n" ++ (versions "rec; 7; \"\"\nend; 1\n" ++ bytes "eof; 2\n"))) gives files 18 1 5) ∷
     -- a column goes by its number in document 01's table, and its text stands where the file has it
-    (value_case turned_file 1 1 1 gives a_value (G.Is (Va.Number 7))) ∷
-    (value_case turned_file 1 1 3 gives a_value (G.Is (Va.Words (record { from = 233; to = 234; owner = O.Suggestion })))) ∷
+    (value_case turned_file 1 1 1 gives a_value (Ok (Va.Number 7))) ∷
+    (value_case turned_file 1 1 3 gives a_value (Ok (Va.Words (record { from = 233; to = 234; owner = O.Suggestion })))) ∷
     -- "The written file uses 452's order and renumbers the marks."
     (form_case turned_file gives
     a_form (head ++ (day_types "com; \"SUGGESTED 3\"\nrec; 7; 1; \"a\"\nrec; 7; 2; \"\"\nend; 2\n" ++ (versions "rec; 7; \"\"\nend; 1\n" ++ bytes "eof; 2\n")))) ∷

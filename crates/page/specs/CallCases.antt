@@ -1,5 +1,8 @@
 -- What each call answers and leaves in what is lent to it, and what a record and a mark are judged as: inputs for the computed lists beside `Case`.
-use Rattle.std.specs.Prelude.{Bool, true, List, ℕ, length}
+use Rattle.std.specs.Prelude.{Bool, true, List, ℕ, length, Result}
+use Rattle.page.specs.declared.Refusal.{Refusal}
+use Rattle.page.specs.declared.Header.{Header}
+use Rattle.page.specs.declared.Copied.{Copied}
 use Prim.Native.String.{String}
 use Rattle.page.specs.Bytes.{Bytes, bytes}
 use Rattle.page.specs.Lines.{lines}
@@ -13,14 +16,9 @@ use Rattle.page.specs.Reading.{header_of, section_of, list_of, rows_after}
 use Rattle.page.specs.Writing.{write_of, write_after, strip_of, strip_after, fill_of, fill_after}
 use Rattle.page.specs.Listing.{listing}
 use Rattle.page.specs.Handing.{text_refusal, place_of, own_text, text_owner, text_out, text_after, cell_of, record_cells, cells_in, cells_of, table_refusal, cells_refusal, table_of, cells_after}
-use Rattle.page.specs.Answers.{handed}
+use Rattle.page.specs.Answers.{answered}
 use Rattle.page.specs.Open.{open_all}
 use Rattle.page.specs.declared.Row.{Row}
-use Rattle.page.specs.declared.Checked.{Checked}
-use Rattle.page.specs.declared.Headed.{Headed}
-use Rattle.page.specs.declared.Listed.{Listed}
-use Rattle.page.specs.declared.Handed.{Handed}
-use Rattle.page.specs.declared.Written.{Written}
 
 pub data Call : Type 0 where
   -- the fields of a record of the named table, and a field to mark, in its own order; the records of a section under ISO8859-1
@@ -41,14 +39,14 @@ pub data Reply : Type 0 where
   a_verdict : ℕ → Reply
   a_mark : Bool → Reply
   a_entries : List Entry → Reply
-  a_headed : Headed → Reply
+  a_headed : Result Header Refusal → Reply
   a_listing : Bytes → Reply
-  a_row : Listed → Reply
+  a_row : Result Row Refusal → Reply
   -- the answer, and what was lent afterwards
-  a_list : Checked → List Row → Reply
-  a_table : Written → List ℕ → Reply
-  a_handed : Handed → Bytes → Reply
-  a_written : Written → Bytes → Reply
+  a_list : Result (Unit {0}) Refusal → List Row → Reply
+  a_table : Result ℕ Refusal → List ℕ → Reply
+  a_handed : Result Copied Refusal → Bytes → Reply
+  a_written : Result ℕ Refusal → Bytes → Reply
 
 abbrev pub markable : ℕ → ℕ → Bool
 markable t i = may_mark t (listed_order t) i
@@ -80,5 +78,5 @@ abbrev pub ◌replies◌ : Call → Reply → Exchange
 infix 5 ◌replies◌
 -- the definitions that these cases open, beside those of `open_all`
 unfoldable pub open_calls : Unit {0}
-unfolding open_all reply handed text_refusal place_of own_text text_owner text_out text_after cell_of record_cells cells_in cells_of table_refusal cells_refusal table_of cells_after
+unfolding open_all reply answered text_refusal place_of own_text text_owner text_out text_after cell_of record_cells cells_in cells_of table_refusal cells_refusal table_of cells_after
 open_calls = tt

@@ -1,5 +1,5 @@
 -- What each call answers, and what it leaves in what was lent to it, computed as lists.
-use Rattle.std.specs.Prelude.{◌≡◌, refl, true, false, List, [], ◌∷◌, ◌++◌, map, ℕ, zero, suc}
+use Rattle.std.specs.Prelude.{◌≡◌, refl, true, false, List, [], ◌∷◌, ◌++◌, map, ℕ, zero, suc, Err, None, Ok, Some}
 use Prim.Native.String.{String}
 use Rattle.page.specs.Bytes.{Bytes, bytes}
 use Rattle.page.specs.Open.{open_all}
@@ -13,14 +13,7 @@ use Rattle.page.specs.declared.Span.{Span}
 use Rattle.page.specs.declared.Row.{Row}
 use Rattle.page.specs.declared.Owner.{Owner}
 use Rattle.page.specs.declared.Owner.TheVariants as O
-use Rattle.page.specs.declared.Stated.TheVariants as S
-use Rattle.page.specs.declared.Checked.TheVariants as C
-use Rattle.page.specs.declared.Headed.TheVariants as H
-use Rattle.page.specs.declared.Listed.TheVariants as L
 use Rattle.page.specs.declared.Value.TheVariants as Va
-use Rattle.page.specs.declared.Got.TheVariants as G
-use Rattle.page.specs.declared.Handed.TheVariants as Ha
-use Rattle.page.specs.declared.Written.TheVariants as W
 
 -- what is lent: n numbers or bytes
 unfoldable pub lent : ℕ → List ℕ
@@ -74,7 +67,7 @@ unfoldable pub header_calls : List Exchange
 header_calls =
     (headed_case full_header replies
     a_headed
-    (H.Is
+    (Ok
     (record {
       source = span 86 90;
       date = record { year = 2024; month = 2; day = 29 };
@@ -82,12 +75,12 @@ header_calls =
       latin = true;
       ver = span 72 79;
       ifv = span 126 126;
-      dve = S.At (span 153 155);
-      fft = S.At (span 61 62);
+      dve = Some (span 153 155);
+      fft = Some (span 61 62);
     }))) ∷
     (headed_case plain_header replies
     a_headed
-    (H.Is
+    (Ok
     (record {
       source = span 38 38;
       date = record { year = 1999; month = 12; day = 31 };
@@ -95,14 +88,14 @@ header_calls =
       latin = false;
       ver = span 85 88;
       ifv = span 96 97;
-      dve = S.Absent;
-      fft = S.Absent;
+      dve = None;
+      fft = None;
     }))) ∷
-    (headed_case (bytes "\nver; \"1\"\n") replies a_headed (H.Refused (refusal 2 0 2))) ∷
+    (headed_case (bytes "\nver; \"1\"\n") replies a_headed (Err (refusal 2 0 2))) ∷
     -- trailer and sections are not asked
     (headed_case head replies
     a_headed
-    (H.Is
+    (Ok
     (record {
       source = span 38 42;
       date = record { year = 2024; month = 2; day = 1 };
@@ -110,8 +103,8 @@ header_calls =
       latin = true;
       ver = span 93 94;
       ifv = span 102 105;
-      dve = S.Absent;
-      fft = S.Absent;
+      dve = None;
+      fft = None;
     }))) ∷
     []
 
@@ -134,38 +127,38 @@ spare = row 1 2 3 4 5 6
 unfoldable pub list_calls : List Exchange
 list_calls =
     -- one row a section; other verdicts go into the rows and the file's answer
-    (list_case mixed (spare ∷ spare ∷ spare ∷ []) replies a_list (C.Refused (refusal 7 2 1)) (mixed_rows [])) ∷
+    (list_case mixed (spare ∷ spare ∷ spare ∷ []) replies a_list (Err (refusal 7 2 1)) (mixed_rows [])) ∷
     -- Spare rows keep their values.
-    (list_case mixed (spare ∷ spare ∷ spare ∷ spare ∷ []) replies a_list (C.Refused (refusal 7 2 1)) (mixed_rows (spare ∷ []))) ∷
+    (list_case mixed (spare ∷ spare ∷ spare ∷ spare ∷ []) replies a_list (Err (refusal 7 2 1)) (mixed_rows (spare ∷ []))) ∷
     -- Too few rows is 21, after 1 and 2, and then writes no row
-    (list_case mixed (spare ∷ spare ∷ []) replies a_list (C.Refused (refusal 21 0 0)) (spare ∷ spare ∷ [])) ∷
-    (list_case headless [] replies a_list (C.Refused (refusal 2 0 0)) []) ∷
-    (list_case headless (spare ∷ []) replies a_list (C.Refused (refusal 2 0 0)) (spare ∷ [])) ∷
-    (list_case miscounted (spare ∷ spare ∷ []) replies a_list (C.Refused (refusal 3 0 1)) (row 485 107 97 0 0 0 ∷ row 290 204 108 0 0 0 ∷ [])) ∷
-    (list_case asked (spare ∷ spare ∷ []) replies a_list C.Sound (row 485 107 110 1 0 0 ∷ row 290 217 169 2 0 0 ∷ [])) ∷
-    (list_case plain_header [] replies a_list C.Sound []) ∷
-    (list_case late (spare ∷ []) replies a_list (C.Refused (refusal 3 0 2)) (row 485 121 97 0 0 0 ∷ [])) ∷
+    (list_case mixed (spare ∷ spare ∷ []) replies a_list (Err (refusal 21 0 0)) (spare ∷ spare ∷ [])) ∷
+    (list_case headless [] replies a_list (Err (refusal 2 0 0)) []) ∷
+    (list_case headless (spare ∷ []) replies a_list (Err (refusal 2 0 0)) (spare ∷ [])) ∷
+    (list_case miscounted (spare ∷ spare ∷ []) replies a_list (Err (refusal 3 0 1)) (row 485 107 97 0 0 0 ∷ row 290 204 108 0 0 0 ∷ [])) ∷
+    (list_case asked (spare ∷ spare ∷ []) replies a_list (Ok tt) (row 485 107 110 1 0 0 ∷ row 290 217 169 2 0 0 ∷ [])) ∷
+    (list_case plain_header [] replies a_list (Ok tt) []) ∷
+    (list_case late (spare ∷ []) replies a_list (Err (refusal 3 0 2)) (row 485 121 97 0 0 0 ∷ [])) ∷
     -- one row by value: 1, 2, 24 for the section
-    (row_case mixed 1 replies a_row (L.Is (row 485 107 108 1 0 0))) ∷
-    (row_case mixed 3 replies a_row (L.Is (row 290 222 120 0 11 4))) ∷
-    (row_case mixed 0 replies a_row (L.Refused (refusal 24 0 0))) ∷
-    (row_case mixed 4 replies a_row (L.Refused (refusal 24 0 0))) ∷
-    (row_case headless 2 replies a_row (L.Refused (refusal 2 0 0))) ∷
+    (row_case mixed 1 replies a_row (Ok (row 485 107 108 1 0 0))) ∷
+    (row_case mixed 3 replies a_row (Ok (row 290 222 120 0 11 4))) ∷
+    (row_case mixed 0 replies a_row (Err (refusal 24 0 0))) ∷
+    (row_case mixed 4 replies a_row (Err (refusal 24 0 0))) ∷
+    (row_case headless 2 replies a_row (Err (refusal 2 0 0))) ∷
     []
 
 abbrev pub no_value : ℕ → ℕ → ℕ → Answer
-no_value v i n = a_value (G.Refused (refusal v i n))
+no_value v i n = a_value (Err (refusal v i n))
 
 abbrev pub text_at : ℕ → ℕ → Owner → Answer
-text_at a b o = a_value (G.Is (Va.Words (record { from = a; to = b; owner = o })))
+text_at a b o = a_value (Ok (Va.Words (record { from = a; to = b; owner = o })))
 
 -- Reading one record gives the first of 1, 2, 24 for the section, the section's verdict, 24 for the record or field.
 unfoldable pub value_calls : List Pair
 value_calls =
-    (value_case asked 1 1 1 gives a_value (G.Is (Va.Number 7))) ∷
+    (value_case asked 1 1 1 gives a_value (Ok (Va.Number 7))) ∷
     (value_case asked 1 1 2 gives text_at 208 208 O.Operator) ∷
     (value_case asked 2 1 3 gives text_at 349 359 O.Suggestion) ∷
-    (value_case asked 2 2 2 gives a_value (G.Is (Va.Number 2))) ∷
+    (value_case asked 2 2 2 gives a_value (Ok (Va.Number 2))) ∷
     (value_case asked 2 2 3 gives text_at 372 374 O.Operator) ∷
     (value_case asked 0 1 1 gives no_value 24 0 0) ∷
     (value_case asked 3 1 1 gives no_value 24 0 0) ∷
@@ -176,7 +169,7 @@ value_calls =
     (value_case headless 9 1 1 gives no_value 2 0 0) ∷
     (value_case mixed 3 9 9 gives no_value 11 3 4) ∷
     -- the other sections and the trailer are not asked
-    (value_case mixed 1 1 1 gives a_value (G.Is (Va.Number 7))) ∷
+    (value_case mixed 1 1 1 gives a_value (Ok (Va.Number 7))) ∷
     -- It speaks of the next `rec`.
     (value_case apart 1 1 2 gives text_at 243 244 O.Suggestion) ∷
     (value_case apart 1 2 2 gives text_at 256 257 O.Operator) ∷
@@ -193,10 +186,10 @@ record_points =
     []
 
 abbrev pub a_copy : ℕ → Owner → Bytes → Reply
-a_copy n o out = a_handed (Ha.Is (record { length = n; owner = o })) out
+a_copy n o out = a_handed (Ok (record { length = n; owner = o })) out
 
 abbrev pub no_copy : ℕ → ℕ → ℕ → Bytes → Reply
-no_copy v i n out = a_handed (Ha.Refused (refusal v i n)) out
+no_copy v i n out = a_handed (Err (refusal v i n)) out
 
 -- a text's own bytes: refused as its value is, then 11, then 21
 unfoldable pub text_calls : List Exchange
@@ -236,17 +229,17 @@ gapped_cells =
 
 unfoldable pub table_calls : List Exchange
 table_calls =
-    (table_case asked 2 (lent 18) replies a_table (W.Length 18) asked_cells) ∷
-    (table_case asked 2 (lent 19) replies a_table (W.Length 18) (asked_cells ++ lent 1)) ∷
-    (table_case asked 2 (lent 17) replies a_table (W.Refused (refusal 21 0 0)) (lent 17)) ∷
-    (table_case gapped 2 (lent 60) replies a_table (W.Length 60) gapped_cells) ∷
+    (table_case asked 2 (lent 18) replies a_table (Ok 18) asked_cells) ∷
+    (table_case asked 2 (lent 19) replies a_table (Ok 18) (asked_cells ++ lent 1)) ∷
+    (table_case asked 2 (lent 17) replies a_table (Err (refusal 21 0 0)) (lent 17)) ∷
+    (table_case gapped 2 (lent 60) replies a_table (Ok 60) gapped_cells) ∷
     (table_case turned_file 1 (lent 18) replies
-    a_table (W.Length 18) (0 ∷ 7 ∷ 0 ∷ 0 ∷ 1 ∷ 0 ∷ 2 ∷ 233 ∷ 234 ∷ 0 ∷ 7 ∷ 0 ∷ 0 ∷ 2 ∷ 0 ∷ 1 ∷ 250 ∷ 250 ∷ [])) ∷
-    (table_case apart 1 (lent 12) replies a_table (W.Length 12) (0 ∷ 999999999 ∷ 0 ∷ 2 ∷ 243 ∷ 244 ∷ 0 ∷ 10 ∷ 0 ∷ 1 ∷ 256 ∷ 257 ∷ [])) ∷
-    (table_case asked 0 (lent 18) replies a_table (W.Refused (refusal 24 0 0)) (lent 18)) ∷
-    (table_case asked 3 [] replies a_table (W.Refused (refusal 24 0 0)) []) ∷
-    (table_case mixed 3 [] replies a_table (W.Refused (refusal 11 3 4)) []) ∷
-    (table_case headless 9 [] replies a_table (W.Refused (refusal 2 0 0)) []) ∷
+    a_table (Ok 18) (0 ∷ 7 ∷ 0 ∷ 0 ∷ 1 ∷ 0 ∷ 2 ∷ 233 ∷ 234 ∷ 0 ∷ 7 ∷ 0 ∷ 0 ∷ 2 ∷ 0 ∷ 1 ∷ 250 ∷ 250 ∷ [])) ∷
+    (table_case apart 1 (lent 12) replies a_table (Ok 12) (0 ∷ 999999999 ∷ 0 ∷ 2 ∷ 243 ∷ 244 ∷ 0 ∷ 10 ∷ 0 ∷ 1 ∷ 256 ∷ 257 ∷ [])) ∷
+    (table_case asked 0 (lent 18) replies a_table (Err (refusal 24 0 0)) (lent 18)) ∷
+    (table_case asked 3 [] replies a_table (Err (refusal 24 0 0)) []) ∷
+    (table_case mixed 3 [] replies a_table (Err (refusal 11 3 4)) []) ∷
+    (table_case headless 9 [] replies a_table (Err (refusal 2 0 0)) []) ∷
     []
 
 -- the written forms: as it stands, stripped, and filled with b"
@@ -265,26 +258,26 @@ filled =
     "com; \"SUGGESTED 3\"\nrec; 7; 1; \"say \"\"so\"\"\"\nrec; 7; 2; \" x\"\nend; 2\n"
 
 abbrev pub unwritten : ℕ → ℕ → ℕ → ℕ → Reply
-unwritten v i n room = a_written (W.Refused (refusal v i n)) (lent room)
+unwritten v i n room = a_written (Err (refusal v i n)) (lent room)
 
 -- 21 exactly if the form is longer than the lent output; the form's length is given, and the bytes after the form keep their values
 unfoldable pub write_calls : List Exchange
 write_calls =
-    (write_case asked (lent 389) replies a_written (W.Length 389) asked_form) ∷
+    (write_case asked (lent 389) replies a_written (Ok 389) asked_form) ∷
     (write_case asked (lent 388) replies unwritten 21 0 0 388) ∷
-    (strip_case asked (lent 361) replies a_written (W.Length 360) (stripped ++ lent 1)) ∷
+    (strip_case asked (lent 361) replies a_written (Ok 360) (stripped ++ lent 1)) ∷
     (strip_case asked (lent 359) replies unwritten 21 0 0 359) ∷
-    (filled_case asked 1 1 2 (bytes "b\" ") (lent 412) replies a_written (W.Length 411) (filled ++ lent 1)) ∷
+    (filled_case asked 1 1 2 (bytes "b\" ") (lent 412) replies a_written (Ok 411) (filled ++ lent 1)) ∷
     (filled_case asked 1 1 2 (bytes "b\"") (lent 410) replies unwritten 21 0 0 410) ∷
     (filled_case turned_file 1 2 3 (bytes "b") (lent 398) replies
-    a_written (W.Length 398)
+    a_written (Ok 398)
     (head ++
     (day_types "com; \"SUGGESTED 3\"\nrec; 7; 1; \"a\"\ncom; \"SUGGESTED 3\"\nrec; 7; 2; \"b\"\nend; 2\n" ++
     (versions "rec; 7; \"\"\nend; 1\n" ++ bytes "eof; 2\n")))) ∷
     -- Ordinary comments and blank lines go; marks stand directly before their record
     (write_case apart (lent 263) replies
-    a_written (W.Length 263) (head ++ (versions "com; \"SUGGESTED 2\"\nrec; 999999999; \"a\"\nrec; 10; \"b\"\nend; 2\n" ++ bytes "eof; 1\n"))) ∷
-    (strip_case gapped (lent 807) replies a_written (W.Length 807) gapped) ∷
+    a_written (Ok 263) (head ++ (versions "com; \"SUGGESTED 2\"\nrec; 999999999; \"a\"\nrec; 10; \"b\"\nend; 2\n" ++ bytes "eof; 1\n"))) ∷
+    (strip_case gapped (lent 807) replies a_written (Ok 807) gapped) ∷
     -- Only a file with verdict 0 is written; else its verdict is given.
     (write_case mixed (lent 3) replies unwritten 7 2 1 3) ∷
     (strip_case miscounted (lent 3) replies unwritten 3 0 1 3) ∷

@@ -1,6 +1,6 @@
 -- Inputs and what the definitions say of them, for the computed lists.
-use Rattle.std.specs.Prelude.{Bool, ◌++◌, ℕ}
-use Rattle.std.proofs.Math.Option.{Option}
+use Rattle.std.specs.Prelude.{Bool, ◌++◌, ℕ, Option, Result}
+use Rattle.page.specs.declared.Value.{Value}
 use Prim.Native.String.{String}
 use Rattle.page.specs.Bytes.{Bytes, bytes}
 use Rattle.page.specs.Lines.{lines, command}
@@ -13,8 +13,6 @@ use Rattle.page.specs.Writing.{write_form, fill_of}
 use Rattle.page.specs.declared.Outcome.{Outcome}
 use Rattle.page.specs.declared.Finding.{Finding}
 use Rattle.page.specs.declared.Refusal.{Refusal}
-use Rattle.page.specs.declared.Got.{Got}
-use Rattle.page.specs.declared.Written.{Written}
 
 -- a line's content, a field, a header, a section under ASCII (false) or ISO8859-1 (true), a file, its written form, a value of it, a fill
 pub data Case : Type 0 where
@@ -30,8 +28,8 @@ pub data Answer : Type 0 where
   a_section : Outcome → Answer
   a_file : Refusal → Answer
   a_form : Bytes → Answer
-  a_value : Got → Answer
-  a_fill : Written → Answer
+  a_value : Result Value Refusal → Answer
+  a_fill : Result ℕ Refusal → Answer
 
 unfoldable pub answer : Case → Answer
 answer (content_case c) = a_command (command c)

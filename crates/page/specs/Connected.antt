@@ -1,14 +1,12 @@
 -- Connections and missing numbers (document 02, E3), computed as one list.
-use Rattle.std.specs.Prelude.{◌≡◌, refl, true, List, [], ◌∷◌, ◌++◌, map}
+use Rattle.std.specs.Prelude.{◌≡◌, refl, true, List, [], ◌∷◌, ◌++◌, map, Err, Ok}
 use Prim.Native.String.{String}
 use Rattle.page.specs.Bytes.{Bytes, bytes}
 use Rattle.page.specs.Open.{open_all}
 use Rattle.page.specs.Answers.{refusal}
 use Rattle.page.specs.Cases.{Case, section_case, file_case, form_case, value_case, fill_case, a_form, a_value, a_fill, answer, says, files, versions, day_types, connections, transfers, head}
 use Rattle.page.specs.Settled.{Pair, ◌gives◌}
-use Rattle.page.specs.declared.Got.TheVariants as G
 use Rattle.page.specs.declared.Value.TheVariants as Va
-use Rattle.page.specs.declared.Written.TheVariants as W
 
 -- a connection by LEITSTELLENKENNUNG, ZUB_LI_NR, ZUB_LI_RI_NR and ZUB_ORT_REF_ORT, and by LinienID, RichtungsID and ASBID; all that may be missing is
 unfoldable pub feeder : String → String → Case
@@ -96,15 +94,15 @@ connected_points =
     (connected (connections "end; 0\n")
     (transfers "rec; 7; 1; 2; 0; 9; 0; 0; 0; 0\nrec; 7; 1; 2; 0; 8; 0; 0; 0; 0\nrec; 7; 1; 2; 0; 9; 1; 1; 1; 1\nend; 3\n")) gives files 18 4 6) ∷
     -- a missing number is no 0, and no text
-    (value_case connected_file 3 1 9 gives a_value (G.Is Va.Missing)) ∷
-    (value_case connected_file 3 1 11 gives a_value (G.Is (Va.Number 4))) ∷
-    (value_case connected_file 3 1 20 gives a_value (G.Is Va.Missing)) ∷
+    (value_case connected_file 3 1 9 gives a_value (Ok Va.Missing)) ∷
+    (value_case connected_file 3 1 11 gives a_value (Ok (Va.Number 4))) ∷
+    (value_case connected_file 3 1 20 gives a_value (Ok Va.Missing)) ∷
     -- it is written as an empty field
     (form_case connected_file gives a_form connected_file) ∷
     -- "ANSCHLUSS_NAME may be marked"
-    (fill_case connected_file 3 1 3 (bytes "Bahnhof") gives a_fill (W.Length 1219)) ∷
-    (fill_case connected_file 3 1 4 (bytes "Bahnhof") gives a_fill (W.Refused (refusal 23 0 0))) ∷
-    (fill_case connected_file 3 1 20 (bytes "Bahnhof") gives a_fill (W.Refused (refusal 23 0 0))) ∷
+    (fill_case connected_file 3 1 3 (bytes "Bahnhof") gives a_fill (Ok 1219)) ∷
+    (fill_case connected_file 3 1 4 (bytes "Bahnhof") gives a_fill (Err (refusal 23 0 0))) ∷
+    (fill_case connected_file 3 1 20 (bytes "Bahnhof") gives a_fill (Err (refusal 23 0 0))) ∷
     []
 
 unfoldable pub points : List Pair

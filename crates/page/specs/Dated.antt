@@ -1,12 +1,11 @@
 -- Only real days (document 02, E5), computed as one list.
-use Rattle.std.specs.Prelude.{◌≡◌, refl, true, List, [], ◌∷◌, ◌++◌, map, ℕ}
+use Rattle.std.specs.Prelude.{◌≡◌, refl, true, List, [], ◌∷◌, ◌++◌, map, ℕ, Ok}
 use Prim.Native.String.{String}
 use Rattle.page.specs.Bytes.{Bytes, bytes, pick}
 use Rattle.page.specs.Tables.{Named, Table, all_tables}
 use Rattle.page.specs.Open.{open_all}
 use Rattle.page.specs.Cases.{section_case, file_case, form_case, value_case, a_form, a_value, answer, says, files, versions, day_types, valid_days, calendar, head}
 use Rattle.page.specs.Settled.{Pair, ◌gives◌}
-use Rattle.page.specs.declared.Got.TheVariants as G
 use Rattle.page.specs.declared.Value.TheVariants as Va
 
 -- a version valid from a day: it passes, or is refused
@@ -95,7 +94,7 @@ dated_points =
     (file_case (dated "rec; 20231210; 7\nend; 1\n" "rec; 7; 20240229; \"\"; 2\nrec; 7; 20240230; \"\"; 2\nend; 2\n") gives files 26 4 5) ∷
     -- keys by value
     (file_case (dated "end; 0\n" "rec; 7; 20240229; \"\"; 2\nrec; 7; 020240229; \"\"; 2\nend; 2\n") gives files 18 4 5) ∷
-    (value_case (dated "rec; 010101; 7\nend; 1\n" "end; 0\n") 2 1 1 gives a_value (G.Is (Va.Number 10101))) ∷
+    (value_case (dated "rec; 010101; 7\nend; 1\n" "end; 0\n") 2 1 1 gives a_value (Ok (Va.Number 10101))) ∷
     -- written without leading zeros
     (form_case (dated "rec; 00010101; 7\nend; 1\n" "rec; 7; 020240229; \"\"; 2\nend; 1\n") gives
     a_form (dated "rec; 10101; 7\nend; 1\n" "rec; 7; 20240229; \"\"; 2\nend; 1\n")) ∷

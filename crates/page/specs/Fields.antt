@@ -1,6 +1,5 @@
 -- Fields, texts, numbers.
-use Rattle.std.specs.Prelude.{Bool, true, false, not, ◌&&◌, List, [], ◌∷◌, map, ℕ, suc, ◌+◌, ◌-◌, ◌*◌, eqb, leb, length, get_or, drop}
-use Rattle.std.proofs.Math.Option.{Option, none, some}
+use Rattle.std.specs.Prelude.{Bool, true, false, not, ◌&&◌, List, [], ◌∷◌, map, ℕ, suc, ◌+◌, ◌-◌, ◌*◌, eqb, leb, length, get_or, drop, None, Option, Some}
 use Rattle.page.specs.Bytes.{Bytes, pick, all, trim}
 use Rattle.page.specs.declared.Number.{Number}
 use Rattle.page.specs.declared.Number.TheVariants as N
@@ -36,18 +35,18 @@ fields w = map trim (split false w)
 
 -- "A text field is one closed quoted string with nothing beside it; a doubled quote inside stands for one."
 abbrev pub with_byte : ℕ → Option Bytes → Option Bytes
-with_byte b none = none
-with_byte b (some t) = some (b ∷ t)
+with_byte b None = None
+with_byte b (Some t) = Some (b ∷ t)
 
 -- what follows the opening quote; `met`: a quote was just met, which closes the text unless another follows
 unfoldable pub body_of : Bool → Bytes → Option Bytes
-body_of false [] = none
-body_of true [] = some []
+body_of false [] = None
+body_of true [] = Some []
 body_of false (b ∷ bs) = pick (quote b) (body_of true bs) (with_byte b (body_of false bs))
-body_of true (b ∷ bs) = pick (quote b) (with_byte b (body_of false bs)) none
+body_of true (b ∷ bs) = pick (quote b) (with_byte b (body_of false bs)) None
 
 unfoldable pub text_of : Bytes → Option Bytes
-text_of f = pick (quote (get_or f 0 0)) (body_of false (drop 1 f)) none
+text_of f = pick (quote (get_or f 0 0)) (body_of false (drop 1 f)) None
 
 -- "A number is an optional `-` and 1 to 18 digits, leading zeros allowed, `-0` being 0."
 unfoldable pub digit : ℕ → Bool

@@ -1,5 +1,5 @@
 -- The file's answer: "the first of 1, 2, 3, the first unsound section in file order, 17, 18, 19, 20".
-use Rattle.std.specs.Prelude.{Bool, true, false, not, ◌&&◌, ◌||◌, List, [], ◌∷◌, ◌++◌, map, ℕ, suc, eqb, ltb, length, get_or}
+use Rattle.std.specs.Prelude.{Bool, true, false, not, ◌&&◌, ◌||◌, List, [], ◌∷◌, ◌++◌, map, ℕ, suc, eqb, ltb, length, get_or, Result}
 use Rattle.page.specs.Bytes.{Bytes, bytes, pick, same}
 use Rattle.page.specs.Lines.{joined}
 use Rattle.page.specs.Tables.{Named, Reference, columns, table_at, table_named}
@@ -9,13 +9,12 @@ use Rattle.page.specs.Head.{latin_of}
 use Rattle.page.specs.Section.{outcome}
 use Rattle.page.specs.Records.{Datum, number, missing, words, Record, Entry, entries_of, table_index}
 use Rattle.page.specs.Trailer.{trailer_of}
-use Rattle.page.specs.Answers.{refusal, sound, earlier, refuse_if, checked}
+use Rattle.page.specs.Answers.{refusal, sound, earlier, refuse_if, answered}
 use Rattle.page.specs.declared.Column.{Column}
 use Rattle.page.specs.declared.Finding.{Finding}
 use Rattle.page.specs.declared.Outcome.{Outcome}
 use Rattle.page.specs.declared.Row.{Row}
 use Rattle.page.specs.declared.Refusal.{Refusal}
-use Rattle.page.specs.declared.Checked.{Checked}
 
 -- 1: "file over 16,777,216 bytes"
 abbrev pub limit : ℕ
@@ -152,5 +151,5 @@ section_refusal s = earlier (first_unsound 1 (rows_of s)) (earlier (first_again 
 unfoldable pub file_refusal : Bytes → Refusal
 file_refusal s = earlier (header_refusal s) (earlier (found (trailer_of s)) (section_refusal s))
 
-unfoldable pub check_of : Bytes → Checked
-check_of s = checked (file_refusal s)
+unfoldable pub check_of : Bytes → Result (Unit {0}) Refusal
+check_of s = answered (file_refusal s) tt

@@ -1,6 +1,5 @@
 -- The written file.
-use Rattle.std.specs.Prelude.{Bool, true, false, List, [], ◌∷◌, ◌++◌, map, ℕ, zero, suc, ◌+◌, ◌/◌, ◌%◌, ltb, length}
-use Rattle.std.proofs.Math.Option.{Option, none, some}
+use Rattle.std.specs.Prelude.{Bool, true, false, List, [], ◌∷◌, ◌++◌, map, ℕ, zero, suc, ◌+◌, ◌/◌, ◌%◌, ltb, length, None, Option, Some}
 use Prim.Native.String.{String}
 use Rattle.page.specs.Bytes.{Bytes, bytes, pick}
 use Rattle.page.specs.Fields.{quote}
@@ -62,8 +61,8 @@ charset_name false = bytes "ASCII"
 
 -- "present ones only"
 unfoldable pub line_if : LineEnd → String → Option Bytes → Bytes
-line_if e command none = []
-line_if e command (some t) = line e command (quoted t ∷ [])
+line_if e command None = []
+line_if e command (Some t) = line e command (quoted t ∷ [])
 
 -- "Order mod, src, chs, ver, ifv, dve, fft"
 unfoldable pub head_form : LineEnd → Head → Bytes

@@ -1,6 +1,5 @@
 -- The fourteen rows of document 01, row 14 turned round by document 02 (E2), computed as one table.
-use Rattle.std.specs.Prelude.{◌≡◌, refl, true, false, List, [], ◌∷◌, ◌++◌, map}
-use Rattle.std.proofs.Math.Option.{some}
+use Rattle.std.specs.Prelude.{◌≡◌, refl, true, false, List, [], ◌∷◌, ◌++◌, map, Some}
 use Rattle.page.specs.Bytes.{Bytes, bytes}
 use Rattle.page.specs.Lines.{Rec}
 use Rattle.page.specs.Open.{open_all}
@@ -50,7 +49,7 @@ unfoldable pub answers : List (List Answer)
 answers =
     (files 2 0 0 ∷ []) ∷
     (a_command Rec ∷ []) ∷
-    (a_text (some (bytes "Bake \"1\"")) ∷ []) ∷
+    (a_text (Some (bytes "Bake \"1\"")) ∷ []) ∷
     (says 485 4 0 0 ∷ []) ∷
     (says 225 1 0 0 ∷ says 225 0 13 4 ∷ []) ∷
     (says 225 2 0 0 ∷ says 225 0 13 4 ∷ says 225 0 13 4 ∷ []) ∷

@@ -1,7 +1,6 @@
 -- What a sound section is, with no machine and no order of checks: these lines denote this table with these records.
-use Rattle.std.specs.Prelude.{◌≡◌, Bool, true, false, ◌||◌, ℕ, suc, ◌+◌, ◌*◌, ◌≤◌, ◌<◌, eqb, length, get_or}
+use Rattle.std.specs.Prelude.{◌≡◌, Bool, true, false, ◌||◌, ℕ, suc, ◌+◌, ◌*◌, ◌≤◌, ◌<◌, eqb, length, get_or, Some}
 use mathlib.Core.List.{List, [], ◌∷◌, map, Memᴰ}
-use Rattle.std.proofs.Math.Option.{some}
 use Rattle.page.specs.Bytes.{Bytes, bytes, pick}
 use Rattle.page.specs.Lines.{content, blank, command, rest, clean, Tbl, Atr, Frm, Rec, End, Com}
 use Rattle.page.specs.Fields.{fields, number_of}
@@ -69,7 +68,7 @@ pub record Day (n : ℕ) : Type 0 where
 pub data Holds (o : Owner) (c : Column) (f : Bytes) : Datum → Type 0 where
   a_number : {n : ℕ} → c.text ≡ false → number_of f ≡ N.Plus n → c.lo ≤ n → n ≤ c.hi → (c.day ≡ true → Day n) → Holds o c f (number n)
   no_number : c.text ≡ false → c.optional ≡ true → f ≡ [] → Holds o c f missing
-  a_text : {t : Bytes} → c.text ≡ true → record_text f ≡ some t → length t ≤ c.hi → Holds o c f (words o t)
+  a_text : {t : Bytes} → c.text ≡ true → record_text f ≡ Some t → length t ≤ c.hi → Holds o c f (words o t)
 
 -- whose the text of column i is, where these are marked
 unfoldable pub marked : ℕ → List ℕ → Bool

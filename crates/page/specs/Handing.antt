@@ -1,5 +1,5 @@
 -- What a call hands out into lent room: a text's own bytes with its owner, and all values of one table as numbers.
-use Rattle.std.specs.Prelude.{not, List, [], ◌∷◌, ◌++◌, ℕ, zero, suc, ◌+◌, ◌-◌, eqb, ltb, length, get_or, drop}
+use Rattle.std.specs.Prelude.{not, List, [], ◌∷◌, ◌++◌, ℕ, zero, suc, ◌+◌, ◌-◌, eqb, ltb, length, get_or, drop, Result}
 use Rattle.page.specs.Bytes.{Bytes, pick}
 use Rattle.page.specs.Lines.{content, command, Rec}
 use Rattle.page.specs.Fields.{fields}
@@ -10,7 +10,7 @@ use Rattle.page.specs.Cut.{Section}
 use Rattle.page.specs.Section.{record_text}
 use Rattle.page.specs.Records.{own_bytes, waits, table_index, order_in}
 use Rattle.page.specs.Places.{Standing, stands}
-use Rattle.page.specs.Answers.{earlier, refuse_if, written, handed}
+use Rattle.page.specs.Answers.{earlier, refuse_if, answered}
 use Rattle.page.specs.Reading.{section_at, row_at, find_refusal, verdict_of, value_refusal, record_of, value_in}
 use Rattle.page.specs.Writing.{put_refusal, put_after}
 use Rattle.page.specs.declared.Owner.TheVariants as O
@@ -18,9 +18,7 @@ use Rattle.page.specs.declared.Owner.{Owner}
 use Rattle.page.specs.declared.Value.{Value}
 use Rattle.page.specs.declared.Value.TheVariants as Va
 use Rattle.page.specs.declared.Refusal.{Refusal}
-use Rattle.page.specs.declared.Written.{Written}
 use Rattle.page.specs.declared.Copied.{Copied}
-use Rattle.page.specs.declared.Handed.{Handed}
 
 -- a text's own bytes, doubled quotes undone: refused as reading its value is, then 11 if it is a number, then 21
 unfoldable pub text_refusal : Bytes → ℕ → ℕ → ℕ → Refusal
@@ -41,9 +39,9 @@ text_owner s i r f = owner_of (record_of (section_at s i) r).mark (suc (place_of
 abbrev pub copied : Bytes → Owner → Copied
 copied t o = record { length = length t; owner = o }
 
-unfoldable pub text_out : Bytes → ℕ → ℕ → ℕ → ℕ → Handed
+unfoldable pub text_out : Bytes → ℕ → ℕ → ℕ → ℕ → Result Copied Refusal
 text_out s i r f room =
-    handed (put_refusal (text_refusal s i r f) (own_text s i r f) room) (copied (own_text s i r f) (text_owner s i r f))
+    answered (put_refusal (text_refusal s i r f) (own_text s i r f) room) (copied (own_text s i r f) (text_owner s i r f))
 
 unfoldable pub text_after : Bytes → ℕ → ℕ → ℕ → Bytes → Bytes
 text_after s i r f out = put_after (text_refusal s i r f) (own_text s i r f) out
@@ -80,8 +78,8 @@ table_refusal s i = earlier (find_refusal s i) (verdict_of i (row_at s i))
 unfoldable pub cells_refusal : Bytes → ℕ → ℕ → Refusal
 cells_refusal s i room = earlier (table_refusal s i) (refuse_if (ltb room (length (cells_of (section_at s i)))) 21)
 
-unfoldable pub table_of : Bytes → ℕ → ℕ → Written
-table_of s i room = written (cells_refusal s i room) (length (cells_of (section_at s i)))
+unfoldable pub table_of : Bytes → ℕ → ℕ → Result ℕ Refusal
+table_of s i room = answered (cells_refusal s i room) (length (cells_of (section_at s i)))
 
 unfoldable pub cells_after : Bytes → ℕ → List ℕ → List ℕ
 cells_after s i cells =

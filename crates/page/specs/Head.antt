@@ -1,6 +1,5 @@
 -- A sound header's values: "the texts, date, time and character set, not the mode or the date's form".
-use Rattle.std.specs.Prelude.{Bool, false, ◌||◌, List, [], ◌∷◌, ℕ, eqb, get_or}
-use Rattle.std.proofs.Math.Option.{Option, none, some}
+use Rattle.std.specs.Prelude.{Bool, false, ◌||◌, List, [], ◌∷◌, ℕ, eqb, get_or, None, Option, Some}
 use Rattle.page.specs.Bytes.{Bytes, pick, moved}
 use Rattle.page.specs.Lines.{content, command, Mod, Src, Chs, Ver, Ifv, Dve, Fft}
 use Rattle.page.specs.Fields.{fields, text_of}
@@ -12,8 +11,6 @@ use Rattle.page.specs.Places.{line_of, field_span, unquoted}
 use Rattle.page.specs.declared.Span.{Span}
 use Rattle.page.specs.declared.Date.{Date}
 use Rattle.page.specs.declared.Time.{Time}
-use Rattle.page.specs.declared.Stated.{Stated}
-use Rattle.page.specs.declared.Stated.TheVariants as St
 use Rattle.page.specs.declared.Header.{Header}
 
 pub record Head : Type 0 where
@@ -45,7 +42,7 @@ latin_in ls = names_latin (field_in Chs 0 ls)
 
 -- "Whether `dve` and `fft` stand is kept."
 unfoldable pub text_if : ℕ → List Bytes → Option Bytes
-text_if k ls = pick (stands_in k ls) (some (text_in k ls)) none
+text_if k ls = pick (stands_in k ls) (Some (text_in k ls)) None
 
 unfoldable pub head_values : List Bytes → Head
 head_values ls =
@@ -64,8 +61,8 @@ head_values ls =
 unfoldable pub text_span : ℕ → List Bytes → Span
 text_span k ls = moved (line_of k 0 ls).at (unquoted (field_span (line_of k 0 ls).rest 0))
 
-unfoldable pub span_if : ℕ → List Bytes → Stated
-span_if k ls = pick (stands_in k ls) (St.At (text_span k ls)) St.Absent
+unfoldable pub span_if : ℕ → List Bytes → Option Span
+span_if k ls = pick (stands_in k ls) (Some (text_span k ls)) None
 
 unfoldable pub header_values : List Bytes → Header
 header_values ls =

@@ -1,18 +1,15 @@
 -- The header.
-use Rattle.std.specs.Prelude.{Bool, true, false, not, ◌&&◌, ◌||◌, List, [], ◌∷◌, ℕ, suc, eqb, length, get_or}
-use Rattle.std.proofs.Math.Option.{Option, none, some}
+use Rattle.std.specs.Prelude.{Bool, true, false, not, ◌&&◌, ◌||◌, List, [], ◌∷◌, ℕ, suc, eqb, length, get_or, None, Option, Some}
 use Rattle.page.specs.Bytes.{Bytes, bytes, pick, same}
 use Rattle.page.specs.Lines.{content, blank, command, rest, clean, Mod, Src, Chs, Ver, Ifv, Dve, Fft, Com}
 use Rattle.page.specs.Fields.{fields, text_of}
 use Rattle.page.specs.Dates.{date_ok, time_ok}
 use Rattle.page.specs.declared.Met.{Met}
-use Rattle.page.specs.declared.Heading.{Heading}
-use Rattle.page.specs.declared.Heading.TheVariants as H
 use Rattle.page.specs.declared.Finding.{Finding}
 
 abbrev pub is_text : Option Bytes → Bool
-is_text none = false
-is_text (some t) = true
+is_text None = false
+is_text (Some t) = true
 
 -- "`mod`, with `DD.MM.YYYY` or `YYYY/MM/DD`, `HH:MM:SS`, and `free` or `aligned`": the date's form, or 0
 unfoldable pub form_named : Bytes → ℕ
@@ -69,25 +66,25 @@ meet k m =
 abbrev pub met_none : ℕ → Met
 met_none form = record { form = form; src = false; chs = false; ver = false; ifv = false; dve = false; fft = false }
 
-unfoldable pub head_choose : Bool → Heading → Heading → Heading
+unfoldable pub head_choose : Bool → Option Met → Option Met → Option Met
 head_choose true x y = x
 head_choose false x y = y
 
 -- "The first other line is `mod`"
-unfoldable pub mod_step : ℕ → List Bytes → Heading
-mod_step k fs = head_choose (eqb k Mod && not (eqb (mod_form fs) 0)) (H.Go (met_none (mod_form fs))) H.Stop
+unfoldable pub mod_step : ℕ → List Bytes → Option Met
+mod_step k fs = head_choose (eqb k Mod && not (eqb (mod_form fs) 0)) (Some (met_none (mod_form fs))) None
 
 -- "Then `src`, `chs`, `ver`, `ifv` once each and `dve`, `fft` at most once, in any order."
-unfoldable pub other_step : Met → ℕ → List Bytes → Heading
-other_step m k fs = head_choose (not (met_before k m) && holds k m.form fs) (H.Go (meet k m)) H.Stop
+unfoldable pub other_step : Met → ℕ → List Bytes → Option Met
+other_step m k fs = head_choose (not (met_before k m) && holds k m.form fs) (Some (meet k m)) None
 
 -- "Blank and `com` lines may stand anywhere in it." c is the line's content
-unfoldable pub head_step : Met → Bytes → Heading
+unfoldable pub head_step : Met → Bytes → Option Met
 head_step m c =
     head_choose (clean false c)
-    (head_choose (blank c || eqb (command c) Com) (H.Go m)
+    (head_choose (blank c || eqb (command c) Com) (Some m)
     (head_choose (eqb m.form 0) (mod_step (command c) (fields (rest c))) (other_step m (command c) (fields (rest c)))))
-    H.Stop
+    None
 
 -- is nothing missing?
 unfoldable pub complete : Met → Bool
@@ -97,9 +94,9 @@ complete m = not (eqb m.form 0) && m.src && m.chs && m.ver && m.ifv
 unfoldable pub head_end : Met → ℕ → Finding
 head_end m n = pick (complete m) (record { verdict = 0; line = 0 }) (record { verdict = 2; line = n })
 
-unfoldable pub head_continue : Heading → ℕ → (Met → Finding) → Finding
-head_continue (H.Go m) n further = further m
-head_continue H.Stop n further = record { verdict = 2; line = n }
+unfoldable pub head_continue : Option Met → ℕ → (Met → Finding) → Finding
+head_continue (Some m) n further = further m
+head_continue None n further = record { verdict = 2; line = n }
 
 unfoldable pub head_run : Met → ℕ → List Bytes → Finding
 head_run m n [] = head_end m n

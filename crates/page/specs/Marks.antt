@@ -1,6 +1,5 @@
 -- Marks.
-use Rattle.std.specs.Prelude.{Bool, not, ◌&&◌, ℕ, ◌-◌, eqb, leb, get_or, take, drop}
-use Rattle.std.proofs.Math.Option.{Option, none, some}
+use Rattle.std.specs.Prelude.{Bool, not, ◌&&◌, ℕ, ◌-◌, eqb, leb, get_or, take, drop, None, Option, Some}
 use Rattle.page.specs.Bytes.{Bytes, bytes, pick, same, trim}
 use Rattle.page.specs.Fields.{text_of, digits, value}
 use Rattle.page.specs.Tables.{no_column}
@@ -19,8 +18,8 @@ unfoldable pub mark_text : Bytes → Remark
 mark_text t = pick (same (take 10 t) (bytes "SUGGESTED ")) (mark_number (drop 10 t)) R.Comment
 
 abbrev pub mark_in : Option Bytes → Remark
-mark_in none = R.Comment
-mark_in (some t) = mark_text t
+mark_in None = R.Comment
+mark_in (Some t) = mark_text t
 
 -- w is what stands after the first `;`
 unfoldable pub remark_of : Bytes → Remark

@@ -1,5 +1,6 @@
 -- What a call hands out of a file: the header's values, one row, all rows, one value.
-use Rattle.std.specs.Prelude.{Bool, ◌||◌, List, [], ◌++◌, ℕ, suc, ◌-◌, eqb, ltb, length, get_or, drop}
+use Rattle.std.specs.Prelude.{Bool, ◌||◌, List, [], ◌++◌, ℕ, suc, ◌-◌, eqb, ltb, length, get_or, drop, Result}
+use Rattle.page.specs.declared.Header.{Header}
 use Rattle.page.specs.Bytes.{Bytes, pick, moved}
 use Rattle.page.specs.Fields.{fields}
 use Rattle.page.specs.Tables.{column_at, width}
@@ -10,7 +11,7 @@ use Rattle.page.specs.Marks.{owner_of}
 use Rattle.page.specs.Section.{field_of}
 use Rattle.page.specs.Records.{table_index, order_in}
 use Rattle.page.specs.Places.{Standing, field_span, record_at}
-use Rattle.page.specs.Answers.{refusal, sound, earlier, refuse_if, checked, headed, listed, got}
+use Rattle.page.specs.Answers.{refusal, sound, earlier, refuse_if, answered}
 use Rattle.page.specs.File.{header_refusal, row_of, rows_of, file_refusal}
 use Rattle.page.specs.declared.Column.{Column}
 use Rattle.page.specs.declared.Field.{Field}
@@ -20,14 +21,10 @@ use Rattle.page.specs.declared.Value.{Value}
 use Rattle.page.specs.declared.Value.TheVariants as Va
 use Rattle.page.specs.declared.Row.{Row}
 use Rattle.page.specs.declared.Refusal.{Refusal}
-use Rattle.page.specs.declared.Checked.{Checked}
-use Rattle.page.specs.declared.Headed.{Headed}
-use Rattle.page.specs.declared.Listed.{Listed}
-use Rattle.page.specs.declared.Got.{Got}
 
 -- the header's values, or 1 or 2
-unfoldable pub header_of : Bytes → Headed
-header_of s = headed (header_refusal s) (header_values (header_lines s))
+unfoldable pub header_of : Bytes → Result Header Refusal
+header_of s = answered (header_refusal s) (header_values (header_lines s))
 
 -- i is none of n, counted from 1
 unfoldable pub outside : ℕ → ℕ → Bool
@@ -47,16 +44,16 @@ unfoldable pub find_refusal : Bytes → ℕ → Refusal
 find_refusal s i = earlier (header_refusal s) (refuse_if (outside i (length (sections s))) 24)
 
 -- one row by value
-unfoldable pub section_of : Bytes → ℕ → Listed
-section_of s i = listed (find_refusal s i) (row_at s i)
+unfoldable pub section_of : Bytes → ℕ → Result Row Refusal
+section_of s i = answered (find_refusal s i) (row_at s i)
 
 -- "Too few rows is 21, after 1 and 2."
 unfoldable pub list_refusal : Bytes → ℕ → Refusal
 list_refusal s room = earlier (header_refusal s) (refuse_if (ltb room (length (sections s))) 21)
 
 -- "Listing is refused by 1, 2 and 21 only and then writes no row; other verdicts go into the rows and the file's answer."
-unfoldable pub list_of : Bytes → ℕ → Checked
-list_of s room = checked (earlier (list_refusal s room) (file_refusal s))
+unfoldable pub list_of : Bytes → ℕ → Result (Unit {0}) Refusal
+list_of s room = answered (earlier (list_refusal s room) (file_refusal s)) tt
 
 -- "Spare rows keep their values."
 unfoldable pub rows_after : Bytes → List Row → List Row
@@ -104,5 +101,5 @@ record_of x r = record_at (r - 1) 0 x.place x.lines
 unfoldable pub value_at : Section → ℕ → ℕ → Value
 value_at x r f = value_in (table_index x.lines) (order_in x.lines) (record_of x r) f
 
-unfoldable pub value_of : Bytes → ℕ → ℕ → ℕ → Got
-value_of s i r f = got (value_refusal s i r f) (value_at (section_at s i) r f)
+unfoldable pub value_of : Bytes → ℕ → ℕ → ℕ → Result Value Refusal
+value_of s i r f = answered (value_refusal s i r f) (value_at (section_at s i) r f)

@@ -1,6 +1,5 @@
 -- A section's records: their values, whose the texts are, and the lines where they stand.
-use Rattle.std.specs.Prelude.{Bool, List, [], ◌∷◌, map, ℕ, suc, eqb, get_or}
-use Rattle.std.proofs.Math.Option.{Option, none, some}
+use Rattle.std.specs.Prelude.{Bool, List, [], ◌∷◌, map, ℕ, suc, eqb, get_or, None, Option, Some}
 use Rattle.page.specs.Bytes.{Bytes, pick}
 use Rattle.page.specs.Lines.{content, command, rest, Atr, Rec, Com}
 use Rattle.page.specs.Fields.{fields, number_of}
@@ -28,8 +27,8 @@ pub record Entry : Type 0 where
   pub values : Record
 
 abbrev pub own_bytes : Option Bytes → Bytes
-own_bytes none = []
-own_bytes (some t) = t
+own_bytes None = []
+own_bytes (Some t) = t
 
 unfoldable pub datum_of : Owner → Column → Bytes → Datum
 datum_of o c f =

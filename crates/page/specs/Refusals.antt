@@ -1,7 +1,6 @@
 -- The order of refusals: the rules of a line as statements, each with its number, in the page's order.
-use Rattle.std.specs.Prelude.{◌≡◌, Bool, true, false, ◌⊎◌, ℕ, zero, suc, ◌≤◌, ◌<◌, eqb, length}
+use Rattle.std.specs.Prelude.{◌≡◌, Bool, true, false, ◌⊎◌, ℕ, zero, suc, ◌≤◌, ◌<◌, eqb, length, None, Some}
 use mathlib.Core.List.{List, [], ◌∷◌, ◌++◌, map, Memᴰ}
-use Rattle.std.proofs.Math.Option.{none, some}
 use Rattle.page.specs.Bytes.{Bytes, bytes}
 use Rattle.page.specs.Lines.{content, blank, command, rest, clean, Tbl, Atr, Frm, Rec, End, Com, Unknown, Missing}
 use Rattle.page.specs.Fields.{number_of}
@@ -56,7 +55,7 @@ One fs = (f : Bytes) × (fs ≡ f ∷ [])
 pub data Outside (c : Column) (f : Bytes) : Type 0 where
   negative : {n : ℕ} → c.text ≡ false → number_of f ≡ N.Minus n → Outside c f
   out_of_range : {n : ℕ} → c.text ≡ false → number_of f ≡ N.Plus n → ¬ ((c.lo ≤ n) × (n ≤ c.hi)) → Outside c f
-  over_size : {t : Bytes} → c.text ≡ true → record_text f ≡ some t → c.hi < length t → Outside c f
+  over_size : {t : Bytes} → c.text ≡ true → record_text f ≡ Some t → c.hi < length t → Outside c f
 
 -- "26, no such day"
 pub record NoSuchDay (c : Column) (f : Bytes) : Type 0 where
@@ -68,7 +67,7 @@ pub record NoSuchDay (c : Column) (f : Bytes) : Type 0 where
 
 -- "each field from the left (11 or 12, then 13)"; "26, no such day, at its field directly after 13"
 abbrev pub kind_law : Bool → Bool → Bytes → Law
-kind_law true optional f = law 11 (record_text f ≡ none)
+kind_law true optional f = law 11 (record_text f ≡ None)
 kind_law false optional f = law 12 ((number_of f ≡ N.Nothing) × ¬ ((optional ≡ true) × (f ≡ [])))
 
 abbrev pub fields_laws : List Named → List Bytes → List Law

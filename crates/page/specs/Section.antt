@@ -1,6 +1,5 @@
 -- A section's verdict: a machine over its lines, which counts records. Its records stand in Records.
-use Rattle.std.specs.Prelude.{◌≡◌, Bool, true, false, not, ◌&&◌, List, [], ◌∷◌, ℕ, suc, ◌+◌, ◌-◌, eqb, leb, ltb, length, get_or, take, drop}
-use Rattle.std.proofs.Math.Option.{Option, none, some}
+use Rattle.std.specs.Prelude.{◌≡◌, Bool, true, false, not, ◌&&◌, List, [], ◌∷◌, ℕ, suc, ◌+◌, ◌-◌, eqb, leb, ltb, length, get_or, take, drop, Err, None, Ok, Option, Result, Some}
 use Rattle.page.specs.Bytes.{Bytes, bytes, pick, same, until, keep, space, unpadded}
 use Rattle.page.specs.Lines.{content, blank, command, rest, clean, Tbl, Atr, Frm, Rec, End, Com, Unknown}
 use Rattle.page.specs.Fields.{fields, text_of, number_of, digit, digits, value}
@@ -18,12 +17,10 @@ use Rattle.page.specs.declared.Remark.{Remark}
 use Rattle.page.specs.declared.Remark.TheVariants as R
 use Rattle.page.specs.declared.Phase.{Phase}
 use Rattle.page.specs.declared.Phase.TheVariants as P
-use Rattle.page.specs.declared.Step.{Step}
-use Rattle.page.specs.declared.Step.TheVariants as S
 use Rattle.page.specs.declared.Outcome.{Outcome}
 
 -- which of two steps
-unfoldable pub choose : Bool → Step → Step → Step
+unfoldable pub choose : Bool → Result Phase ℕ → Result Phase ℕ → Result Phase ℕ
 choose true x y = x
 choose false x y = y
 
@@ -32,14 +29,14 @@ abbrev pub first_of : ℕ → ℕ → ℕ
 first_of v w = pick (eqb v 0) w v
 
 -- `tbl; name`: 10, 7
-unfoldable pub tbl_step : List Bytes → Step
+unfoldable pub tbl_step : List Bytes → Result Phase ℕ
 tbl_step fs =
     choose (eqb (length fs) 1)
-    (choose (ltb (table_named (get_or fs 0 [])) TABLES) (S.Go (P.Atr (table_named (get_or fs 0 [])))) (S.Stop 7)) (S.Stop 10)
+    (choose (ltb (table_named (get_or fs 0 [])) TABLES) (Ok (P.Atr (table_named (get_or fs 0 [])))) (Err 7)) (Err 10)
 
 -- "8 is now given exactly if the names are no such arrangement"
-unfoldable pub atr_step : ℕ → List Bytes → Step
-atr_step t fs = choose (arranged (width t) (order_of t fs)) (S.Go (P.Frm t)) (S.Stop 8)
+unfoldable pub atr_step : ℕ → List Bytes → Result Phase ℕ
+atr_step t fs = choose (arranged (width t) (order_of t fs)) (Ok (P.Frm t)) (Err 8)
 
 -- "A format is `num[n.0]` or `char[n]` as the column's kind asks, n from 1 to 255 without leading zeros": 9
 abbrev pub no_digit : ℕ → Bool
@@ -65,8 +62,8 @@ formats_ok [] (f ∷ fs) = false
 formats_ok (c ∷ cs) [] = false
 formats_ok (c ∷ cs) (f ∷ fs) = format_ok c.column.text f && formats_ok cs fs
 
-unfoldable pub frm_step : ℕ → Order → List Bytes → Step
-frm_step t o fs = choose (formats_ok (standing t o) fs) (S.Go (P.Rows t 0 0)) (S.Stop 9)
+unfoldable pub frm_step : ℕ → Order → List Bytes → Result Phase ℕ
+frm_step t o fs = choose (formats_ok (standing t o) fs) (Ok (P.Rows t 0 0)) (Err 9)
 
 -- the text of a record's field: its own bytes, and where it stands in the field, between the quotes
 pub record Wording : Type 0 where
@@ -78,23 +75,23 @@ abbrev pub own_span : Bytes → Span
 own_span f = record { from = 1; to = keep space (take (length f - 1) f) }
 
 abbrev pub worded : Bytes → Option Bytes → Option Wording
-worded f none = none
-worded f (some t) = some (record { own = unpadded t; span = own_span f })
+worded f None = None
+worded f (Some t) = Some (record { own = unpadded t; span = own_span f })
 
 unfoldable pub words_of : Bytes → Option Wording
 words_of f = worded f (text_of f)
 
 abbrev pub own_of : Option Wording → Option Bytes
-own_of none = none
-own_of (some x) = some x.own
+own_of None = None
+own_of (Some x) = Some x.own
 
 unfoldable pub record_text : Bytes → Option Bytes
 record_text f = own_of (words_of f)
 
 -- "11 or 12, then 13": 13 is a number out of range, or a text over its size, a doubled quote counting once; "13 measures the trimmed text"
 unfoldable pub text_field : ℕ → Option Wording → Field
-text_field size none = F.Refused 11
-text_field size (some x) = pick (leb (length x.own) size) (F.Text x.span) (F.Refused 13)
+text_field size None = F.Refused 11
+text_field size (Some x) = pick (leb (length x.own) size) (F.Text x.span) (F.Refused 13)
 
 -- "26, no such day, at its field directly after 13"
 unfoldable pub day_field : Bool → ℕ → Field
@@ -146,9 +143,9 @@ amount_at fs k = amount (number_of (get_or fs k []))
 
 -- a record's text in field k, from 0, is empty
 abbrev pub no_bytes : Option Bytes → Bool
-no_bytes none = false
-no_bytes (some []) = true
-no_bytes (some (b ∷ bs)) = false
+no_bytes None = false
+no_bytes (Some []) = true
+no_bytes (Some (b ∷ bs)) = false
 
 abbrev pub empty_at : List Bytes → ℕ → Bool
 empty_at fs k = no_bytes (record_text (get_or fs k []))
@@ -185,51 +182,51 @@ rec_verdict t o m fs =
     pick (eqb (length fs) (width t))
     (first_of (first_wrong (standing t o) fs) (first_of (first_broken (rules t) (by_column o fs)) (pick (empty_marked m fs) 15 0))) 10
 
-unfoldable pub rec_step : ℕ → Order → ℕ → ℕ → List Bytes → Step
-rec_step t o m n fs = choose (eqb (rec_verdict t o m fs) 0) (S.Go (P.Rows t 0 (n + 1))) (S.Stop (rec_verdict t o m fs))
+unfoldable pub rec_step : ℕ → Order → ℕ → ℕ → List Bytes → Result Phase ℕ
+rec_step t o m n fs = choose (eqb (rec_verdict t o m fs) 0) (Ok (P.Rows t 0 (n + 1))) (Err (rec_verdict t o m fs))
 
 -- "`end` 15 for a mark without record, 10, 12, 16": "The count equals the number of `rec` lines."
-unfoldable pub count_step : ℕ → ℕ → Number → Step
-count_step t n (N.Plus c) = choose (eqb c n) (S.Go (P.Ended t n)) (S.Stop 16)
-count_step t n (N.Minus c) = S.Stop 16
-count_step t n N.Nothing = S.Stop 12
+unfoldable pub count_step : ℕ → ℕ → Number → Result Phase ℕ
+count_step t n (N.Plus c) = choose (eqb c n) (Ok (P.Ended t n)) (Err 16)
+count_step t n (N.Minus c) = Err 16
+count_step t n N.Nothing = Err 12
 
-unfoldable pub end_step : ℕ → ℕ → ℕ → List Bytes → Step
+unfoldable pub end_step : ℕ → ℕ → ℕ → List Bytes → Result Phase ℕ
 end_step t m n fs =
-    choose (eqb m 0) (choose (eqb (length fs) 1) (count_step t n (number_of (get_or fs 0 []))) (S.Stop 10)) (S.Stop 15)
+    choose (eqb m 0) (choose (eqb (length fs) 1) (count_step t n (number_of (get_or fs 0 []))) (Err 10)) (Err 15)
 
 -- "A mark that is unreadable, not allowed, not rising, before `frm` or after `end` is 15 at its own line."
-unfoldable pub mark_step : Phase → Order → ℕ → Step
-mark_step P.Tbl o i = S.Stop 15
-mark_step (P.Atr t) o i = S.Stop 15
-mark_step (P.Frm t) o i = S.Stop 15
-mark_step (P.Rows t m n) o i = choose (may_mark t o i && ltb m i) (S.Go (P.Rows t i n)) (S.Stop 15)
-mark_step (P.Ended t n) o i = S.Stop 15
+unfoldable pub mark_step : Phase → Order → ℕ → Result Phase ℕ
+mark_step P.Tbl o i = Err 15
+mark_step (P.Atr t) o i = Err 15
+mark_step (P.Frm t) o i = Err 15
+mark_step (P.Rows t m n) o i = choose (may_mark t o i && ltb m i) (Ok (P.Rows t i n)) (Err 15)
+mark_step (P.Ended t n) o i = Err 15
 
-unfoldable pub com_step : Phase → Order → Remark → Step
-com_step p o R.Comment = S.Go p
-com_step p o R.Unreadable = S.Stop 15
+unfoldable pub com_step : Phase → Order → Remark → Result Phase ℕ
+com_step p o R.Comment = Ok p
+com_step p o R.Unreadable = Err 15
 com_step p o (R.Mark i) = mark_step p o i
 
 -- a line of a known command k, other than `com`, with w after its first `;`: "known command out of its order" is 6
-unfoldable pub line_step : Phase → Order → ℕ → Bytes → Step
-line_step P.Tbl o k w = choose (eqb k Tbl) (tbl_step (fields w)) (S.Stop 6)
-line_step (P.Atr t) o k w = choose (eqb k Atr) (atr_step t (fields w)) (S.Stop 6)
-line_step (P.Frm t) o k w = choose (eqb k Frm) (frm_step t o (fields w)) (S.Stop 6)
+unfoldable pub line_step : Phase → Order → ℕ → Bytes → Result Phase ℕ
+line_step P.Tbl o k w = choose (eqb k Tbl) (tbl_step (fields w)) (Err 6)
+line_step (P.Atr t) o k w = choose (eqb k Atr) (atr_step t (fields w)) (Err 6)
+line_step (P.Frm t) o k w = choose (eqb k Frm) (frm_step t o (fields w)) (Err 6)
 line_step (P.Rows t m n) o k w =
-    choose (eqb k Rec) (rec_step t o m n (fields w)) (choose (eqb k End) (end_step t m n (fields w)) (S.Stop 6))
-line_step (P.Ended t n) o k w = S.Stop 6
+    choose (eqb k Rec) (rec_step t o m n (fields w)) (choose (eqb k End) (end_step t m n (fields w)) (Err 6))
+line_step (P.Ended t n) o k w = Err 6
 
 -- "in that line the first of 4, 5, 6, then" its command's own; c is the line's content
-unfoldable pub content_step : Bool → Phase → Order → Bytes → Step
+unfoldable pub content_step : Bool → Phase → Order → Bytes → Result Phase ℕ
 content_step latin p o c =
     choose (clean latin c)
-    (choose (blank c) (S.Go p)
-    (choose (leb Unknown (command c)) (S.Stop 5)
+    (choose (blank c) (Ok p)
+    (choose (leb Unknown (command c)) (Err 5)
     (choose (eqb (command c) Com) (com_step p o (remark_of (rest c))) (line_step p o (command c) (rest c)))))
-    (S.Stop 4)
+    (Err 4)
 
-unfoldable pub step : Bool → Phase → Order → Bytes → Step
+unfoldable pub step : Bool → Phase → Order → Bytes → Result Phase ℕ
 step latin p o l = content_step latin p o (content l)
 
 -- the order after a line with the content c: the `atr` line states it
@@ -261,9 +258,9 @@ finish (P.Rows t m k) n = refused (number_at t) 6 n
 finish (P.Ended t k) n = record { table = number_at t; records = k; verdict = 0; line = 0 }
 
 -- "A section gives its first failing line": what follows the step of line n
-unfoldable pub continue : Step → ℕ → ℕ → (Phase → Outcome) → Outcome
-continue (S.Go p) t n further = further p
-continue (S.Stop v) t n further = refused t v n
+unfoldable pub continue : Result Phase ℕ → ℕ → ℕ → (Phase → Outcome) → Outcome
+continue (Ok p) t n further = further p
+continue (Err v) t n further = refused t v n
 
 unfoldable pub run : Bool → Phase → Order → ℕ → List Bytes → Outcome
 run latin p o n [] = finish p n

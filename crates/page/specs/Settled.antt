@@ -1,6 +1,5 @@
 -- How document 01's open points are settled (docs/DECISIONS.md), computed as one list: a short input for each point.
-use Rattle.std.specs.Prelude.{◌≡◌, refl, true, List, [], ◌∷◌, ◌++◌, map}
-use Rattle.std.proofs.Math.Option.{none}
+use Rattle.std.specs.Prelude.{◌≡◌, refl, true, List, [], ◌∷◌, ◌++◌, map, None}
 use Rattle.page.specs.Bytes.{bytes}
 use Rattle.page.specs.Lines.{Unknown, Missing}
 use Rattle.page.specs.Open.{open_all}
@@ -59,7 +58,7 @@ field_points =
     (section_case true (versions "end; -0\n") gives says 485 0 0 0) ∷
     (section_case true (versions "end; -1\n") gives says 485 0 16 4) ∷
     -- an empty field is neither a text nor a number
-    (field_case [] gives a_text none) ∷
+    (field_case [] gives a_text None) ∷
     []
 
 -- header and trailer

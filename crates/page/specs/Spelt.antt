@@ -1,6 +1,5 @@
 -- How lines, fields, headers and trailers are spelt, computed as one list: bytes, numbers, formats, dates and times, each at its bounds.
-use Rattle.std.specs.Prelude.{◌≡◌, refl, Bool, true, false, List, [], ◌∷◌, ◌++◌, map, ℕ}
-use Rattle.std.proofs.Math.Option.{none, some}
+use Rattle.std.specs.Prelude.{◌≡◌, refl, Bool, true, false, List, [], ◌∷◌, ◌++◌, map, ℕ, None, Some}
 use Prim.Native.String.{String}
 use Rattle.page.specs.Bytes.{bytes}
 use Rattle.page.specs.Lines.{Tbl, Atr, Frm, Rec, End, Com, Eof, Mod, Src, Chs, Ver, Ifv, Dve, Fft, Unknown, Missing}
@@ -36,17 +35,17 @@ command_points =
 -- A text field is one closed quoted string with nothing beside it; a doubled quote inside stands for one.
 unfoldable pub text_points : List Pair
 text_points =
-    (field_case (bytes "\"\"") gives a_text (some [])) ∷
-    (field_case (bytes "\"a;b\"") gives a_text (some (bytes "a;b"))) ∷
-    (field_case (bytes "\"a \"") gives a_text (some (bytes "a "))) ∷
-    (field_case (bytes "\"\"\"\"") gives a_text (some (bytes "\""))) ∷
-    (field_case (bytes "\"\"\"\"\"\"") gives a_text (some (bytes "\"\""))) ∷
-    (field_case (bytes "\"") gives a_text none) ∷
-    (field_case (bytes "\"\"\"") gives a_text none) ∷
-    (field_case (bytes "\"a\"b") gives a_text none) ∷
-    (field_case (bytes "a\"b\"") gives a_text none) ∷
-    (field_case (bytes "\"a\" \"b\"") gives a_text none) ∷
-    (field_case (bytes "a") gives a_text none) ∷
+    (field_case (bytes "\"\"") gives a_text (Some [])) ∷
+    (field_case (bytes "\"a;b\"") gives a_text (Some (bytes "a;b"))) ∷
+    (field_case (bytes "\"a \"") gives a_text (Some (bytes "a "))) ∷
+    (field_case (bytes "\"\"\"\"") gives a_text (Some (bytes "\""))) ∷
+    (field_case (bytes "\"\"\"\"\"\"") gives a_text (Some (bytes "\"\""))) ∷
+    (field_case (bytes "\"") gives a_text None) ∷
+    (field_case (bytes "\"\"\"") gives a_text None) ∷
+    (field_case (bytes "\"a\"b") gives a_text None) ∷
+    (field_case (bytes "a\"b\"") gives a_text None) ∷
+    (field_case (bytes "\"a\" \"b\"") gives a_text None) ∷
+    (field_case (bytes "a") gives a_text None) ∷
     []
 
 -- a version by how its number is written

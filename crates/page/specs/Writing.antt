@@ -1,12 +1,12 @@
 -- Writing, filling, stripping into lent output.
-use Rattle.std.specs.Prelude.{Bool, false, not, ◌||◌, ◌++◌, ℕ, ◌-◌, eqb, ltb, length, drop}
+use Rattle.std.specs.Prelude.{Bool, false, not, ◌||◌, ◌++◌, ℕ, ◌-◌, eqb, ltb, length, drop, Result}
 use Rattle.page.specs.Bytes.{Bytes, pick, all, unpadded}
 use Rattle.page.specs.Lines.{allowed}
 use Rattle.page.specs.Tables.{column_at, width}
 use Rattle.page.specs.Cut.{sections}
 use Rattle.page.specs.Head.{latin_of}
 use Rattle.page.specs.Records.{Datum, number, missing, words, table_index}
-use Rattle.page.specs.Answers.{earlier, refuse_if, written}
+use Rattle.page.specs.Answers.{earlier, refuse_if, answered}
 use Rattle.page.specs.File.{limit, file_refusal}
 use Rattle.page.specs.Reading.{outside, section_at, row_at}
 use Rattle.page.specs.Model.{model_of, Changes, nothing, strip, fill, changed, kept, datum_at}
@@ -16,15 +16,14 @@ use Rattle.page.specs.declared.LineEnd.TheVariants as E
 use Rattle.page.specs.declared.Stays.{Stays}
 use Rattle.page.specs.declared.Stays.TheVariants as St
 use Rattle.page.specs.declared.Refusal.{Refusal}
-use Rattle.page.specs.declared.Written.{Written}
 
 -- "21 exactly if the form is longer than the lent output or than 16,777,216 bytes"
 unfoldable pub put_refusal : Refusal → Bytes → ℕ → Refusal
 put_refusal r form room = earlier r (refuse_if (ltb room (length form) || ltb limit (length form)) 21)
 
 -- "On success the form's length is given, and the bytes after the form keep their values."
-unfoldable pub put_of : Refusal → Bytes → ℕ → Written
-put_of r form room = written (put_refusal r form room) (length form)
+unfoldable pub put_of : Refusal → Bytes → ℕ → Result ℕ Refusal
+put_of r form room = answered (put_refusal r form room) (length form)
 
 unfoldable pub put_after : Refusal → Bytes → Bytes → Bytes
 put_after r form out = pick (eqb (put_refusal r form (length out)).number 0) (form ++ drop (length form) out) out
@@ -46,7 +45,7 @@ form_by p s = form_of p.ends (changed p.changes (kept p.stays (model_of s)))
 unfoldable pub write_form : Bytes → Bytes
 write_form s = form_by (plan nothing) s
 
-unfoldable pub write_of : Bytes → ℕ → Written
+unfoldable pub write_of : Bytes → ℕ → Result ℕ Refusal
 write_of s room = put_of (file_refusal s) (write_form s) room
 
 unfoldable pub write_after : Bytes → Bytes → Bytes
@@ -55,7 +54,7 @@ write_after s out = put_after (file_refusal s) (write_form s) out
 unfoldable pub strip_form : Bytes → Bytes
 strip_form s = form_by (plan strip) s
 
-unfoldable pub strip_of : Bytes → ℕ → Written
+unfoldable pub strip_of : Bytes → ℕ → Result ℕ Refusal
 strip_of s room = put_of (file_refusal s) (strip_form s) room
 
 unfoldable pub strip_after : Bytes → Bytes → Bytes
@@ -84,7 +83,7 @@ unfoldable pub fill_form : Bytes → ℕ → ℕ → ℕ → Bytes → Bytes
 fill_form s i r f t = form_by (plan (fill i r f t)) s
 
 -- "a fill's text is trimmed likewise": what is left of it is judged and put in
-unfoldable pub fill_of : Bytes → ℕ → ℕ → ℕ → Bytes → ℕ → Written
+unfoldable pub fill_of : Bytes → ℕ → ℕ → ℕ → Bytes → ℕ → Result ℕ Refusal
 fill_of s i r f t room = put_of (fill_refusal s i r f (unpadded t)) (fill_form s i r f (unpadded t)) room
 
 unfoldable pub fill_after : Bytes → ℕ → ℕ → ℕ → Bytes → Bytes → Bytes

@@ -83,13 +83,6 @@ pub enum Phase {
     Ended(usize, usize),
 }
 
-// What a line of a section leads to.
-#[derive(Clone, Copy)]
-pub enum Step {
-    Go(Phase),
-    Stop(u32),
-}
-
 // A section's answer: its table's number (0 if the `tbl` line fails), its records, its verdict and the line that fails.
 #[derive(Clone, Copy)]
 pub struct Outcome {
@@ -145,20 +138,6 @@ pub struct Met {
     pub fft: bool,
 }
 
-// What a line of a header leads to.
-#[derive(Clone, Copy)]
-pub enum Heading {
-    Go(Met),
-    Stop,
-}
-
-// The text of a header line that need not stand.
-#[derive(Clone, Copy)]
-pub enum Stated {
-    Absent,
-    At(Span),
-}
-
 // A header's values: its texts by their bytes between the quotes.
 #[derive(Clone, Copy)]
 pub struct Header {
@@ -168,8 +147,8 @@ pub struct Header {
     pub latin: bool,
     pub ver: Span,
     pub ifv: Span,
-    pub dve: Stated,
-    pub fft: Stated,
+    pub dve: Option<Span>,
+    pub fft: Option<Span>,
 }
 
 // A refusal: the paper's number, and its place.
@@ -181,53 +160,11 @@ pub struct Refusal {
     pub line: usize,
 }
 
-// The file's answer.
-#[derive(Clone, Copy)]
-pub enum Checked {
-    Sound,
-    Refused(Refusal),
-}
-
-// The answer of a call that reads the header.
-#[derive(Clone, Copy)]
-pub enum Headed {
-    Is(Header),
-    Refused(Refusal),
-}
-
-// The answer of a call that reads one section.
-#[derive(Clone, Copy)]
-pub enum Listed {
-    Is(Row),
-    Refused(Refusal),
-}
-
-// The answer of a call that reads one value.
-#[derive(Clone, Copy)]
-pub enum Got {
-    Is(Value),
-    Refused(Refusal),
-}
-
-// The answer of a call that writes into lent output: how much it wrote.
-#[derive(Clone, Copy)]
-pub enum Written {
-    Length(usize),
-    Refused(Refusal),
-}
-
 // A text's own bytes in lent output: how many they are, and whose the text is.
 #[derive(Clone, Copy)]
 pub struct Copied {
     pub length: usize,
     pub owner: Owner,
-}
-
-// The answer of a call that hands out one text.
-#[derive(Clone, Copy)]
-pub enum Handed {
-    Is(Copied),
-    Refused(Refusal),
 }
 
 // How the lines of a written file end.

@@ -6,8 +6,8 @@ use Prim.Native.Nat.{ℕ, ◌+◌, ◌-◌, ◌<◌, ◌≤◌}
 use native.Mathlib.Omega.{arith}
 use borrow.Author.Tests.{eqb-true, eqb-false}
 use lib.Dec.{eqb}
-use lib.ListN.{length, get_or, set, take, drop, length-append, length-drop, drop_of_length-le}
-use lib.Seq.{get_or-set_same, get_or-set_other, length-take-le}
+use lib.ListN.{length, get_or, set, take, drop, drop_of_length-le}
+use lib.Seq.{get_or-set_same, get_or-set_other}
 use Rattle.page.specs.Bytes.{Bytes, bytes}
 use Rattle.page.specs.Fields.{fields}
 use Rattle.page.specs.Tables.{WIDEST, columns, width}
@@ -24,11 +24,12 @@ use Rattle.copies.specs.Parts.{Ends, fields_form, stands}
 use Rattle.copies.proofs.FieldLaws.{fields_cons}
 use Rattle.copies.proofs.ReadLaws.{field_begins, field_there}
 use Rattle.copies.proofs.StandLaws.{ends_spaced, ends_stand, stand_all, fields_kept}
-use Rattle.parts.specs.Parted.{Part, Parted}
+use Rattle.page.specs.declared.Span.{Span}
+use Rattle.parts.specs.Parted.{Part, part_at, Parted}
 
 -- those of the columns that stand at the first k places
-abbrev pub Placed : ℕ → List ℕ → Bytes → ℕ → List ℕ → List ℕ → Type 0
-Placed t a w k starts ends = (c : ℕ) → c < width t → place c (held t a) < k → Part w (place c (held t a)) (get_or starts c 0) (get_or ends c 0)
+abbrev pub Placed : ℕ → List ℕ → Bytes → ℕ → List Span → Type 0
+Placed t a w k parts = (c : ℕ) → c < width t → place c (held t a) < k → Part w (place c (held t a)) (part_at parts c).from (part_at parts c).to
 
 module _ (t : ℕ) (a : List ℕ) (x : Stands t a) (w : Bytes) where
   abbrev o : Order
@@ -37,50 +38,55 @@ module _ (t : ℕ) (a : List ℕ) (x : Stands t a) (w : Bytes) where
   long : length o ≡ width t
   long = held_length t a x.orderly
 
-  module _ (k at e : ℕ) (starts ends : List ℕ) (h : k < width t) (l : length starts ≡ WIDEST) (j : length ends ≡ WIDEST)
-      (m : Placed t a w k starts ends) (q : at ≡ field_place k 0 w) (u : Ends w at e) where
+  module _ (k at e : ℕ) (parts : List Span) (h : k < width t) (l : length parts ≡ WIDEST) (m : Placed t a w k parts)
+      (q : at ≡ field_place k 0 w) (u : Ends w at e) where
     abbrev i : ℕ
     i = get_or a k 0
+
+    abbrev n : Span
+    n = record { from = at; to = e }
+
+    abbrev none : Span
+    none = record { from = 0; to = 0 }
 
     small : i < WIDEST
     small = x.orderly.small k
 
-    here : (c : ℕ) → c ≡ i → Part w (place c o) (get_or (set starts i at) c 0) (get_or (set ends i e) c 0)
+    here : (c : ℕ) → c ≡ i → Part w (place c o) (part_at (set parts i n) c).from (part_at (set parts i n) c).to
     here c y =
         let z : place c o ≡ k =
         ap (λ (v : ℕ). place v o) (y ∙ sym (held_at t a k h)) ∙ place_at (width t) o x.arranged k (omega (arith, long)) in
-        let s : get_or (set starts i at) c 0 ≡ at = rw y (get_or-set_same starts i at 0 (omega (arith, small, l))) in
-        let f : get_or (set ends i e) c 0 ≡ e = rw y (get_or-set_same ends i e 0 (omega (arith, small, j))) in
-        record { begins = s ∙ q ∙ ap (λ (p : ℕ). field_place p 0 w) (sym z); ends = rw (s, f) u }
+        let s : part_at (set parts i n) c ≡ n = rw y (get_or-set_same parts i n none (omega (arith, small, l))) in
+        rw s (record { begins = q ∙ ap (λ (p : ℕ). field_place p 0 w) (sym z); ends = u })
 
-    other : (c : ℕ) → c < width t → place c o < k + 1 → (c ≡ i → ⊥) → Part w (place c o) (get_or (set starts i at) c 0) (get_or (set ends i e) c 0)
+    other : (c : ℕ) → c < width t → place c o < k + 1 → (c ≡ i → ⊥) → Part w (place c o) (part_at (set parts i n) c).from (part_at (set parts i n) c).to
     other c g p y =
-        let n : place c o ≡ k → ⊥ =
+        let z : place c o ≡ k → ⊥ =
         λ (z : place c o ≡ k). y (sym (place_in (width t) o x.arranged c g).1 ∙ ap (λ (v : ℕ). get_or o v 0) z ∙ held_at t a k h) in
-        rw (get_or-set_other starts i c at 0 y, get_or-set_other ends i c e 0 y) (m c g (omega (arith, n)))
+        rw (get_or-set_other parts i c n none y) (m c g (omega (arith, z)))
 
-    pub placed_more : Placed t a w (k + 1) (set starts i at) (set ends i e)
+    pub placed_more : Placed t a w (k + 1) (set parts i n)
     placed_more c g p = by (eqb c i) refl
       where
-        by : (b : Bool) → eqb c i ≡ b → Part w (place c o) (get_or (set starts i at) c 0) (get_or (set ends i e) c 0)
+        by : (b : Bool) → eqb c i ≡ b → Part w (place c o) (part_at (set parts i n) c).from (part_at (set parts i n) c).to
         by true d = here c (eqb-true c i d)
         by false d = other c g p (eqb-false c i d)
 
-  pub placed_all : (k : ℕ) (starts ends : List ℕ) → width t ≤ k → Placed t a w k starts ends → Parted t o w starts ends
-  placed_all k starts ends h m c g = m c g (omega (arith, (place_in (width t) o x.arranged c g).0, long))
+  pub placed_all : (k : ℕ) (parts : List Span) → width t ≤ k → Placed t a w k parts → Parted t o w parts
+  placed_all k parts h m c g = m c g (omega (arith, (place_in (width t) o x.arranged c g).0, long))
 
   -- as many fields as columns
   module _ (n : length (fields w) ≡ width t) where
     abbrev ws : List Bytes
     ws = by_column o (fields w)
 
-    module _ (starts ends : List ℕ) (m : Parted t o w starts ends) where
+    module _ (parts : List Span) (m : Parted t o w parts) where
       module _ (c : ℕ) (h : c < width t) where
         abbrev s : ℕ
-        s = get_or starts c 0
+        s = (part_at parts c).from
 
         abbrev e : ℕ
-        e = get_or ends c 0
+        e = (part_at parts c).to
 
         placed : place c o < length (fields w)
         placed = omega (arith, (place_in (width t) o x.arranged c h).0, long)
@@ -102,13 +108,6 @@ module _ (t : ℕ) (a : List ℕ) (x : Stands t a) (w : Bytes) where
             ap separated (fields_cons o (fields w) c (omega (arith, long)))
             ∙ ap (λ (y : Bytes). 59 ∷ 32 ∷ (y ++ separated (drop (c + 1) ws))) (sym part_field)
             ∙ ap (λ (y : Bytes). 59 ∷ (y ++ separated (drop (c + 1) ws))) (sym (ends_spaced w s e (m c h).ends))
-
-        -- what is left has room for it
-        pub part_room : e - s + 1 ≤ length (separated (drop c ws))
-        part_room =
-            let i = part_in in
-            let l : length (take (e - s) (drop s w)) ≡ e - s = length-take-le (e - s) (drop s w) (simp length-drop (omega arith)) in
-            rw part_more (simp length-append (omega arith))
 
       pub parts_end : (c : ℕ) → width t ≤ c → separated (drop c ws) ≡ []
       unfolding separated

@@ -4,6 +4,7 @@ use Rattle.page.specs.Bytes.{Bytes}
 use Rattle.page.specs.Tables.{width}
 use Rattle.page.specs.Order.{Order, place}
 use Rattle.page.specs.Places.{field_place}
+use Rattle.page.specs.declared.Span.{Span}
 use Rattle.copies.specs.Parts.{Ends}
 
 -- the field at place p of w begins at a, ends at e, and stands as it is written
@@ -11,6 +12,10 @@ pub record Part (w : Bytes) (p a e : ℕ) : Type 0 where
   pub begins : a ≡ field_place p 0 w
   pub ends : Ends w a e
 
+-- the part of column c, of the parts by column
+abbrev pub part_at : List Span → ℕ → Span
+part_at parts c = get_or parts c (record { from = 0; to = 0 })
+
 -- those of all columns of table t, by column
-abbrev pub Parted : ℕ → Order → Bytes → List ℕ → List ℕ → Type 0
-Parted t o w starts ends = (c : ℕ) → c < width t → Part w (place c o) (get_or starts c 0) (get_or ends c 0)
+abbrev pub Parted : ℕ → Order → Bytes → List Span → Type 0
+Parted t o w parts = (c : ℕ) → c < width t → Part w (place c o) (part_at parts c).from (part_at parts c).to

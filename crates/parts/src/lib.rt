@@ -2,88 +2,50 @@
 // after the record's first `;`, its fields in the order o.
 #![tactic(auto)]
 
-ghost use Rattle.std.specs.Prelude.{◌≡◌, true, ◌∷◌, ◌+◌, ◌-◌, ◌<◌, ◌≤◌, ◌^◌, length, take, drop};
+ghost use Rattle.std.specs.Prelude.{◌≡◌, ◌∷◌, ◌-◌, ◌≤◌, length, take, drop, IfSome};
 ghost use Rattle.page.specs.Fields.{fields};
 ghost use Rattle.page.specs.Tables.{width};
 ghost use Rattle.page.specs.Order.{by_column};
 ghost use Rattle.page.specs.Form.{separated};
-ghost use Rattle.output.specs.Put.{Put};
+ghost use Rattle.output.specs.Put.{Puts};
 ghost use Rattle.arrangement.specs.Orders.{held, Stands};
 ghost use Rattle.parts.specs.Parted.{Parted};
 
 use copies::written_end;
-use output::{put_byte, put_bytes};
+use output::Output;
+use page::Span;
 use tables::{WIDEST, find_width};
 
-// Whether all fields stand as they are written, and then where they begin, with the space before them, and end, by column.
-#[derive(Clone, Copy)]
-pub struct Parts {
-    pub all: bool,
-    pub starts: [usize; WIDEST],
-    pub ends: [usize; WIDEST],
-}
-
-pub fn find_parts(w: &[u8], t: usize, o: &[u8; WIDEST]) -> Parts
+// If all fields stand as they are written, where they stand, with the space before them, by column.
+pub fn find_parts(w: &[u8], t: usize, o: &[u8; WIDEST]) -> Option<[Span; WIDEST]>
     requires { Stands t o.now × (length (fields w.now) ≡ width t) }
-    ensures { result.all ≡ true → Parted t (held t o.now) w.now result.starts result.ends }
+    ensures { IfSome result (λ parts. Parted t (held t o.now) w.now parts) }
 {
-    let n = find_width(t);
-    let mut starts = [0; WIDEST];
-    let mut ends = [0; WIDEST];
+    let mut parts = [Span { from: 0, to: 0 }; WIDEST];
     let mut at = 0;
-    let mut k = 0;
-    while k < n {
-        let e = written_end(w, at);
-        if e == 0 {
-            return Parts {
-                all: false,
-                starts: starts,
-                ends: ends,
-            };
-        }
-        let c = o[k] as usize;
-        starts[c] = at;
-        ends[c] = e;
-        at = e + 1;
-        k += 1;
+    for k in 0..find_width(t) {
+        let to = written_end(w, at)?;
+        parts[o[k] as usize] = Span { from: at, to };
+        at = to + 1;
     }
-    Parts {
-        all: true,
-        starts: starts,
-        ends: ends,
-    }
+    Some(parts)
 }
 
-fn put_part(out: &mut [u8], at: usize, w: &[u8], a: usize, e: usize) -> usize
-    requires { (a ≤ e) × (e ≤ length w.now) × (at + (e - a) + 1 < 2 ^ 62) }
-    ensures { Put out.old at (59 ∷ take (e - a) (drop a w.now)) out.new result }
+fn put_part(out: &mut Output<'_>, w: &[u8], part: Span)
+    requires { (part.from ≤ part.to) × (part.to ≤ length w.now) }
+    ensures { Puts out.old (59 ∷ take (part.to - part.from) (drop part.from w.now)) out.new }
 {
-    let s = put_byte(out, at, 59);
-    put_bytes(out, s, &w[a..e])
+    out.put_byte(59);
+    out.put_bytes(&w[part.from..part.to]);
 }
 
-pub fn put_parts(
-    out: &mut [u8],
-    at: usize,
-    w: &[u8],
-    t: usize,
-    o: &[u8; WIDEST],
-    parts: Parts,
-) -> usize
-    requires { (at + length (separated (by_column (held t o.now) (fields w.now))) + 64 < 2 ^ 62)
-        × Stands t o.now
+pub fn put_parts(out: &mut Output<'_>, w: &[u8], t: usize, o: &[u8; WIDEST], parts: &[Span; WIDEST])
+    requires { Stands t o.now
         × (length (fields w.now) ≡ width t)
-        × Parted t (held t o.now) w.now parts.starts parts.ends }
-    ensures { Put out.old at (separated (by_column (held t o.now) (fields w.now))) out.new result }
+        × Parted t (held t o.now) w.now parts.now }
+    ensures { Puts out.old (separated (by_column (held t o.now) (fields w.now))) out.new }
 {
-    let n = find_width(t);
-    let starts = parts.starts;
-    let ends = parts.ends;
-    let mut q = at;
-    let mut k = 0;
-    while k < n {
-        q = put_part(out, q, w, starts[k], ends[k]);
-        k += 1;
+    for k in 0..find_width(t) {
+        put_part(out, w, parts[k]);
     }
-    q
 }

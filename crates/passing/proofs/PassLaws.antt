@@ -1,4 +1,5 @@
 -- A record that passes is a turn of the machine. Assumes nothing.
+use Rattle.std.specs.Prelude.{Ok}
 use mathlib.Core.Path.{◌≡◌, refl, ap, sym, ◌∙◌}
 use mathlib.Core.Bool.{Bool, true, false, ◌&&◌, and-true}
 use mathlib.Core.List.{[], ◌∷◌, ◌++◌}
@@ -16,7 +17,6 @@ use Rattle.page.specs.Order.{Order}
 use Rattle.page.specs.Section.{choose, rec_verdict, rec_step, line_step, content_step, step, order_after, table_in, continue, run}
 use Rattle.page.specs.declared.Phase.{Phase}
 use Rattle.page.specs.declared.Phase.TheVariants as P
-use Rattle.page.specs.declared.Step.TheVariants as S
 use Rattle.page.proofs.TestLaws.{and_left, and_right}
 use Rattle.page.proofs.LineLaws.{line_size, cut_at}
 use Rattle.laws.proofs.Tests.{blank_missing}
@@ -31,19 +31,6 @@ plain_shape (x ∷ []) w e h = absurd (omega (arith, h.0))
 plain_shape (x ∷ y ∷ []) w e h = absurd (omega (arith, h.0))
 plain_shape (x ∷ y ∷ z ∷ []) w e h = absurd (omega (arith, h.0))
 plain_shape (x ∷ y ∷ z ∷ u ∷ c) w e h = rw (e, h.1, h.2, h.3, h.4)
-
-pub plain_bytes : (c : Bytes) → 4 ≤ length c
-    → (((eqb (get_or c 0 0) 114 && eqb (get_or c 1 0) 101) && eqb (get_or c 2 0) 99) && eqb (get_or c 3 0) 59) ≡ true
-    → (4 ≤ length c) × (get_or c 0 0 ≡ 114) × (get_or c 1 0 ≡ 101) × (get_or c 2 0 ≡ 99) × (get_or c 3 0 ≡ 59)
-plain_bytes c h e =
-    let x = and_left _ (eqb (get_or c 3 0) 59) e in
-    let y = and_left _ (eqb (get_or c 2 0) 99) x in (
-      h,
-      eqb-true (get_or c 0 0) 114 (and_left _ (eqb (get_or c 1 0) 101) y),
-      eqb-true (get_or c 1 0) 101 (and_right (eqb (get_or c 0 0) 114) _ y),
-      eqb-true (get_or c 2 0) 99 (and_right (eqb (get_or c 0 0) 114 && eqb (get_or c 1 0) 101) _ x),
-      eqb-true (get_or c 3 0) 59 (and_right ((eqb (get_or c 0 0) 114 && eqb (get_or c 1 0) 101) && eqb (get_or c 2 0) 99) _ e),
-    )
 
 module _ (w : Bytes) where
   abbrev line : Bytes
@@ -67,7 +54,7 @@ module _ (w : Bytes) where
   plain_clean false = refl
 
   pub plain_step : (latin : Bool) (t : ℕ) (o : Order) (m n : ℕ) → (eqb (rec_verdict t o m (fields w)) 0 && all (allowed latin) w) ≡ true
-      → content_step latin (P.Rows t m n) o line ≡ S.Go (P.Rows t 0 (n + 1))
+      → content_step latin (P.Rows t m n) o line ≡ Ok (P.Rows t 0 (n + 1))
   unfolding content_step choose line_step rec_step
   plain_step latin t o m n e =
       rw (plain_clean latin, and_right (eqb (rec_verdict t o m (fields w)) 0) _ e, plain_blank, plain_command, plain_rest, and_left (eqb (rec_verdict t o m (fields w)) 0) _ e)
@@ -112,7 +99,7 @@ module _ (c : Bytes) (k : command c ≡ Rec) where
       rw b (ap (all (allowed latin)) p ∙ all_append (allowed latin) (take i c) (59 ∷ drop (i + 1) c) ∙ rw (f, r))
 
   pub other_step : (latin : Bool) (t : ℕ) (o : Order) (m n : ℕ) → all (allowed latin) (take (until semicolon c) c) ≡ true
-      → (eqb (rec_verdict t o m (fields (rest c))) 0 && all (allowed latin) (rest c)) ≡ true → content_step latin (P.Rows t m n) o c ≡ S.Go (P.Rows t 0 (n + 1))
+      → (eqb (rec_verdict t o m (fields (rest c))) 0 && all (allowed latin) (rest c)) ≡ true → content_step latin (P.Rows t m n) o c ≡ Ok (P.Rows t 0 (n + 1))
   unfolding content_step choose line_step rec_step
   other_step latin t o m n f e =
       rw (other_clean latin f (and_right (eqb (rec_verdict t o m (fields (rest c))) 0) _ e), other_blank, k, and_left (eqb (rec_verdict t o m (fields (rest c))) 0) _ e)
@@ -127,7 +114,7 @@ module _ (s : Bytes) (at e : ℕ) (h : at < length s) (q : e ≡ at + line_size 
   unfolding run
   run_more p o n = rw (cut_at s at e h q, add-one)
 
-  pub pass_turn : (t : ℕ) (o : Order) (m n k : ℕ) → step latin (P.Rows t m n) o l ≡ S.Go (P.Rows t 0 (n + 1))
+  pub pass_turn : (t : ℕ) (o : Order) (m n k : ℕ) → step latin (P.Rows t m n) o l ≡ Ok (P.Rows t 0 (n + 1))
       → run latin (P.Rows t m n) o k (lines (drop at s)) ≡ run latin (P.Rows t 0 (n + 1)) o (k + 1) (lines (drop e s))
   unfolding continue order_after
   pass_turn t o m n k x = run_more (P.Rows t m n) o k ∙ rw x

@@ -8,7 +8,7 @@ ghost use Rattle.page.specs.Places.{stands, record_at};
 ghost use Rattle.page.proofs.LineLaws.{line_size};
 ghost use Rattle.places.specs.Placed.{Placed};
 
-use lines::Cursor;
+use lines::lines_from;
 
 // A record's fields: what stands after its line's first `;`, and the field of the mark that waits for it (0: none).
 #[derive(Clone, Copy)]
@@ -36,7 +36,7 @@ pub fn place_fields(s: &[u8], at: usize, e: usize, m: u64) -> Place
     let i = lines::find_semicolon(&s[at..to]);
     Place {
         from: at + i + 1,
-        to: to,
+        to,
         mark: m,
     }
 }
@@ -46,22 +46,17 @@ pub fn find_record(s: &[u8], from: usize, r: usize) -> Place
     requires { from ≤ length s.now }
     ensures { Placed s.now (record_at r 0 from (lines (drop from s.now))) result }
 {
-    let mut c = Cursor { at: from };
     let mut m: u64 = 0;
     let mut k = r;
-    while c.at < s.len() {
-        let at = c.at;
-        let l = c.line(s);
-        let e = l.span.to;
-        c = l.next;
-        if commands::is_record(&s[at..e]) {
+    for line in lines_from(s, from) {
+        if commands::is_record(line.bytes) {
             if k == 0 {
-                return place_fields(s, at, e, m);
+                return place_fields(s, line.at, line.end(), m);
             }
             k -= 1;
             m = 0;
         } else {
-            m = wait_on(&s[at..e], m);
+            m = wait_on(line.bytes, m);
         }
     }
     Place {

@@ -1,7 +1,8 @@
 -- The mark that waits after a line of content c. Assumes nothing.
 use mathlib.Core.Path.{◌≡◌}
 use Prim.Native.Nat.{ℕ}
-use borrow.Author.Tests.{eq-eqb, ne_eqb}
+use mathlib.Core.Bool.{true, false}
+use lib.Dec.{eqb}
 use Rattle.page.specs.Bytes.{Bytes}
 use Rattle.page.specs.Lines.{command, rest, Com}
 use Rattle.page.specs.Marks.{remark_of}
@@ -9,10 +10,10 @@ use Rattle.page.specs.Records.{waiting, waits}
 use Rattle.page.specs.declared.Remark.{Remark}
 
 module _ (c : Bytes) (m : ℕ) where
-  pub waits_other : (command c ≡ Com → ⊥) → m ≡ waits m c
+  pub waits_other : eqb (command c) Com ≡ false → m ≡ waits m c
   unfolding waits
-  waits_other n = rw (ne_eqb (command c) Com n)
+  waits_other n = rw n
 
-  pub waits_remark : (x : Remark) → command c ≡ Com → remark_of (rest c) ≡ x → waiting m x ≡ waits m c
+  pub waits_remark : (x : Remark) → eqb (command c) Com ≡ true → remark_of (rest c) ≡ x → waiting m x ≡ waits m c
   unfolding waits
-  waits_remark x e d = rw (eq-eqb (command c) Com e, d)
+  waits_remark x e d = rw (e, d)

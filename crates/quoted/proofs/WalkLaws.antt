@@ -1,4 +1,5 @@
 -- A text met in one walk: what has been walked of it, and the field that it makes. Assumes nothing.
+use Rattle.std.specs.Prelude.{Some}
 use mathlib.Core.Path.{◌≡◌, refl, ap, sym, ◌∙◌}
 use mathlib.Core.Bool.{Bool, true, false}
 use mathlib.Core.List.{[], ◌∷◌, ◌++◌, append_assoc}
@@ -21,7 +22,6 @@ use Rattle.lines.proofs.RunLaws.{all_append}
 use Rattle.digits.specs.Runs.{field_from}
 use Rattle.digits.proofs.RunLaws.{space_more}
 use Rattle.quoted.specs.Sizes.{size_of}
-use Rattle.quoted.specs.declared.texts.Size.TheVariants as S
 use Rattle.quoted.proofs.SizeLaws.{counted, counted_all, counted_byte, counted_end, size_some}
 
 -- n bytes of a text stand from one place to another, after its opening quote, whatever follows
@@ -91,7 +91,7 @@ module _ (w : Bytes) (wide : Bool) (from i n : ℕ) (x : Walked w wide from i n)
 
     -- the closing quote
     pub walked_closed : get_or w i 0 ≡ 34 → (from < i + 1) × (i + 1 ≤ length w)
-        × (size_of (body_of false (take (i + 1 - from) (drop from w))) ≡ S.Is n)
+        × (size_of (body_of false (take (i + 1 - from) (drop from w))) ≡ Some n)
         × (field_size true (drop from w) ≡ i + 1 - from + field_size false (drop (i + 1) w))
         × (all (allowed wide) (take (i + 1 - from) (drop from w)) ≡ true)
     unfolding all allowed body_of field_size
@@ -143,7 +143,7 @@ space_clean wide s = refl
 
 -- the field at a place where at most one space stands before a text that ends the field
 module _ (w : Bytes) (wide : Bool) (at from e n : ℕ) (h : at < length w) (p : from ≡ pick (space (get_or w at 0)) (at + 1) at) (k : from < length w)
-    (q : get_or w from 0 ≡ 34) (b : (from + 1 < e) × (e ≤ length w) × (size_of (body_of false (take (e - (from + 1)) (drop (from + 1) w))) ≡ S.Is n)
+    (q : get_or w from 0 ≡ 34) (b : (from + 1 < e) × (e ≤ length w) × (size_of (body_of false (take (e - (from + 1)) (drop (from + 1) w))) ≡ Some n)
     × (field_size true (drop (from + 1) w) ≡ e - (from + 1) + field_size false (drop e w))
     × (all (allowed wide) (take (e - (from + 1)) (drop (from + 1) w)) ≡ true)) (z : field_size false (drop e w) ≡ 0) where
   abbrev f : Bytes
@@ -155,7 +155,7 @@ module _ (w : Bytes) (wide : Bool) (at from e n : ℕ) (h : at < length w) (p : 
   after : f ≡ 34 ∷ take (e - (from + 1)) (drop (from + 1) w)
   after = let m : e - from ≡ suc (e - (from + 1)) = omega (arith, b.0) in rw (m, opened)
 
-  sized : size_of (text_of f) ≡ S.Is n
+  sized : size_of (text_of f) ≡ Some n
   unfolding text_of
   sized = rw after b.2
 
@@ -174,16 +174,16 @@ module _ (w : Bytes) (wide : Bool) (at from e n : ℕ) (h : at < length w) (p : 
   clean = rw after b.4
 
   pub text_met : (e ≡ at + field_size false (drop at w)) × (from ≤ e) × (e ≤ length w) × (from ≡ (span_from w at).from)
-      × (field_from w at ≡ f) × (size_of (text_of f) ≡ S.Is n) × (all (allowed wide) (take (e - at) (drop at w)) ≡ true)
+      × (field_from w at ≡ f) × (size_of (text_of f) ≡ Some n) × (all (allowed wide) (take (e - at) (drop at w)) ≡ true)
   unfolding span_from
   text_met = by (space (get_or w at 0)) refl
     where
       by : (c : Bool) → space (get_or w at 0) ≡ c → (e ≡ at + field_size false (drop at w)) × (from ≤ e) × (e ≤ length w) × (from ≡ (span_from w at).from)
-          × (field_from w at ≡ f) × (size_of (text_of f) ≡ S.Is n) × (all (allowed wide) (take (e - at) (drop at w)) ≡ true)
+          × (field_from w at ≡ f) × (size_of (text_of f) ≡ Some n) × (all (allowed wide) (take (e - at) (drop at w)) ≡ true)
       by true c = spaced (eqb-true (get_or w at 0) 32 c) (p ∙ rw c)
         where
           spaced : get_or w at 0 ≡ 32 → from ≡ at + 1 → (e ≡ at + field_size false (drop at w)) × (from ≤ e) × (e ≤ length w) × (from ≡ (span_from w at).from)
-              × (field_from w at ≡ f) × (size_of (text_of f) ≡ S.Is n) × (all (allowed wide) (take (e - at) (drop at w)) ≡ true)
+              × (field_from w at ≡ f) × (size_of (text_of f) ≡ Some n) × (all (allowed wide) (take (e - at) (drop at w)) ≡ true)
           spaced s m =
               let x = b.0 in
               let a : suc at ≡ from = omega arith in

@@ -1,10 +1,7 @@
 -- The size of a text, "a doubled quote counting once".
-use Rattle.std.proofs.Math.Option.{Option, none, some}
-use Rattle.std.specs.Prelude.{length}
+use Rattle.std.specs.Prelude.{length, None, Option, Some, ℕ}
 use Rattle.page.specs.Bytes.{Bytes}
-use Rattle.quoted.specs.declared.texts.Size.{Size}
-use Rattle.quoted.specs.declared.texts.Size.TheVariants as S
 
-unfoldable pub size_of : Option Bytes → Size
-size_of none = S.Nothing
-size_of (some t) = S.Is (length t)
+unfoldable pub size_of : Option Bytes → Option ℕ
+size_of None = None
+size_of (Some t) = Some (length t)

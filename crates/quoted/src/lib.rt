@@ -6,5 +6,5 @@ mod texts;
 mod walk;
 
 pub use marks::{read_remark, wait_on};
-pub use texts::{Size, is_empty_text, text_size};
+pub use texts::{is_empty_text, text_size};
 pub use walk::{Met, text_at};

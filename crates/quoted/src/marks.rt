@@ -5,8 +5,9 @@ ghost use Rattle.page.specs.Fields.{text_of};
 ghost use Rattle.page.specs.Marks.{mark_number, mark_text, mark_in, remark_of};
 ghost use Rattle.page.specs.Records.{waits};
 
-use crate::texts::{Size, text_size};
-use digits::{Magnitude, read_digits};
+use crate::texts::text_size;
+use commands::Command;
+use digits::read_digits;
 use page::Remark;
 
 // "the field number, without leading zeros, and nothing more"
@@ -14,26 +15,18 @@ fn read_mark_number(w: &[u8]) -> Remark
     ensures { result ≡ mark_number w.now }
 {
     match read_digits(w) {
-        Magnitude::Is(v) => {
-            if w[0] == 48 {
-                return Remark::Unreadable;
-            }
-            Remark::Mark(v)
-        }
-        Magnitude::Nothing => Remark::Unreadable,
+        Some(v) if w[0] != 48 => Remark::Mark(v),
+        _ => Remark::Unreadable,
     }
 }
 
 fn read_mark_text(t: &[u8]) -> Remark
     ensures { result ≡ mark_text t.now }
 {
-    if t.len() < 10 {
-        return Remark::Comment;
+    match t.strip_prefix(b"SUGGESTED ") {
+        Some(number) => read_mark_number(number),
+        None => Remark::Comment,
     }
-    if !lines::equal(&t[..10], b"SUGGESTED ") {
-        return Remark::Comment;
-    }
-    read_mark_number(&t[10..])
 }
 
 // f is the rest, trimmed.
@@ -41,11 +34,8 @@ fn read_mark_field(f: &[u8]) -> Remark
     ensures { result ≡ mark_in (text_of f.now) }
 {
     match text_size(f) {
-        Size::Is(_) => {
-            let e = f.len() - 1;
-            read_mark_text(&f[1..e])
-        }
-        Size::Nothing => Remark::Comment,
+        Some(_) => read_mark_text(&f[1..f.len() - 1]),
+        None => Remark::Comment,
     }
 }
 
@@ -60,12 +50,11 @@ pub fn read_remark(w: &[u8]) -> Remark
 pub fn wait_on(c: &[u8], m: u64) -> u64
     ensures { result ≡ waits m c.now }
 {
-    if commands::command_of(c) != commands::COM {
+    if Command::of(c) != Command::Com {
         return m;
     }
     match read_remark(lines::rest_of(c)) {
-        Remark::Comment => m,
-        Remark::Unreadable => m,
+        Remark::Comment | Remark::Unreadable => m,
         Remark::Mark(i) => i,
     }
 }

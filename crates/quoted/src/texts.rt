@@ -5,50 +5,35 @@ ghost use Rattle.page.specs.Fields.{body_of, text_of};
 ghost use Rattle.page.specs.Section.{record_text, no_bytes};
 ghost use Rattle.quoted.specs.Sizes.{size_of};
 
-// How many bytes a text stands for.
-#[derive(Clone, Copy)]
-pub enum Size {
-    Is(usize),
-    Nothing,
-}
-
 // What follows the opening quote.
-fn body_size(w: &[u8]) -> Size
+fn body_size(w: &[u8]) -> Option<usize>
     ensures { result ≡ size_of (body_of false w.now) }
 {
     let mut met = false;
     let mut n: usize = 0;
-    let mut i = 0;
-    while i < w.len() {
-        let b = w[i];
-        i += 1;
+    for b in w {
         if met {
-            if b != 34 {
-                return Size::Nothing;
+            if *b != 34 {
+                return None;
             }
             met = false;
             n += 1; // the pair
+        } else if *b == 34 {
+            met = true;
         } else {
-            if b == 34 {
-                met = true;
-            } else {
-                n += 1;
-            }
+            n += 1;
         }
     }
-    if met { Size::Is(n) } else { Size::Nothing }
+    if met { Some(n) } else { None }
 }
 
-pub fn text_size(f: &[u8]) -> Size
+pub fn text_size(f: &[u8]) -> Option<usize>
     ensures { result ≡ size_of (text_of f.now) }
 {
-    if f.len() == 0 {
-        return Size::Nothing;
+    match f {
+        [34, body @ ..] => body_size(body),
+        _ => None,
     }
-    if f[0] != 34 {
-        return Size::Nothing;
-    }
-    body_size(&f[1..])
 }
 
 // "A text of spaces only is empty": nothing but the opening quote is left before the closing one.
@@ -56,10 +41,7 @@ pub fn is_empty_text(f: &[u8]) -> bool
     ensures { result ≡ no_bytes (record_text f.now) }
 {
     match text_size(f) {
-        Size::Is(_) => {
-            let e = f.len() - 1;
-            lines::kept(&f[..e]) == 1
-        }
-        Size::Nothing => false,
+        Some(_) => lines::kept(&f[..f.len() - 1]) == 1,
+        None => false,
     }
 }

@@ -7,17 +7,17 @@ use Prim.Native.Nat.{ℕ, suc, ◌+◌, ◌-◌, ◌<◌, ◌≤◌}
 use native.Mathlib.Omega.{arith}
 use borrow.Author.Tests.{eq-eqb, ne_eqb, eqb-true}
 use lib.Dec.{eqb}
-use lib.ListN.{length, take, drop, get_or, length-append}
+use lib.ListN.{length, take, drop, length-append}
 use Rattle.page.specs.Bytes.{Bytes, bytes}
 use Rattle.page.specs.Lines.{lines, content, command, rest, Rec}
 use Rattle.page.specs.Fields.{fields}
-use Rattle.page.specs.Tables.{width, table_at, table_named, columns}
+use Rattle.page.specs.Tables.{width, table_at, columns}
 use Rattle.page.specs.Order.{Order, arranged, by_column, column_in}
 use Rattle.page.specs.Section.{rec_verdict}
 use Rattle.page.specs.Records.{Record, values_of, waits, record_in, table_index, atr_in, order_in}
 use Rattle.page.specs.Cut.{Section}
 use Rattle.page.specs.Model.{Content}
-use Rattle.page.specs.Form.{decimal, records_form, table_head, content_form, tables_form}
+use Rattle.page.specs.Form.{decimal, record_form, records_form, table_head, content_form, tables_form}
 use Rattle.page.specs.Rules.{one_more}
 use Rattle.page.specs.declared.LineEnd.{LineEnd}
 use Rattle.page.specs.declared.Stays.{Stays}
@@ -29,11 +29,12 @@ use Rattle.names.proofs.ToldLaws.{told_order}
 use Rattle.cut.specs.Walk.{section_size, section_from}
 use Rattle.frames.specs.Lines.{line_with}
 use Rattle.frames.proofs.LineLaws.{line_with_is}
-use Rattle.output.proofs.PutLaws.{Todo}
+use Rattle.names.proofs.TitleLaws.{table_from}
 use Rattle.recording.specs.Said.{rows_of, passes, passing, said, said_in, passes_in, PassingIn}
-use Rattle.copies.specs.Changed.{stays_in, kept_records, kept_content, kept_tables, changed_records, changed_content, changed_tables}
+use Rattle.copies.specs.Changed.{strips, section_of, record_of, field_of, text_of, changed_values, stays_in, kept_records, kept_content, kept_tables, changed_records, changed_content, changed_tables}
 use Rattle.copies.specs.Planned.{record_plan, section_plan, record_by, records_by, content_by, tables_by}
 use Rattle.copies.specs.declared.plan.Plan.{Plan}
+use Rattle.copies.proofs.PlanLaws.{values_alike, records_alike, record_says, section_says}
 use Rattle.copies.proofs.KeptLaws.{kept_here, kept_gone, kept_first, kept_few}
 
 -- the line at a place, that ends at e
@@ -74,11 +75,6 @@ pub rows_end : (s : Bytes) (at t : ℕ) (o : Order) (m : ℕ) → length s ≤ a
 unfolding rows_of
 rows_end s at t o m h = rw (lines_end s at h)
 
--- where the whole has room, what is put next has
-first_fits : {l : Bytes} {i : ℕ} {form m : Bytes} {j : ℕ} {r : Bytes} (a b : Bytes) (k n : ℕ) → r ≡ a ++ b → Todo l i form m j r → i + length form + k < n
-    → j + length a + k < n
-first_fits a b k n e t h = omega (arith, t.next, ap length e, length-append a b)
-
 -- the records that stay, one by one
 
 records_append : (ends : LineEnd) (a b : List Record) → records_form ends (a ++ b) ≡ records_form ends a ++ records_form ends b
@@ -94,33 +90,29 @@ changed_append strip r f x (v ∷ a) b =
     let z : r - 1 - length a ≡ r - suc (length a) = omega arith in
     rw (changed_append strip (r - 1) f x a b, z)
 
-module _ (p : Plan) (t : Bytes) (n : ℕ) where
+module _ (p : Plan) (n : ℕ) where
   pub records_more : (vs : List Record) (v : Record) (rest : List Record) (k : ℕ) → vs ≡ v ∷ rest → k ≡ n + length (kept_records p.stays (v ∷ []))
-      → records_by p n t vs ≡ records_by p n t (v ∷ []) ++ records_by p k t rest
+      → records_by p n vs ≡ records_by p n (v ∷ []) ++ records_by p k rest
   unfolding records_by
   records_more vs v rest k e d =
       let a = kept_records p.stays (v ∷ []) in
-      let z : p.rec - n - length a ≡ p.rec - k = omega arith in
-      rw (e, kept_first p.stays v rest, changed_append p.strip (p.rec - n) p.field t a (kept_records p.stays rest), z)
-      (records_append p.ends (changed_records p.strip (p.rec - n) p.field t a) (changed_records p.strip (p.rec - k) p.field t (kept_records p.stays rest)))
+      let z : record_of p.change - n - length a ≡ record_of p.change - k = omega arith in
+      rw (e, kept_first p.stays v rest, changed_append (strips p.change) (record_of p.change - n) (field_of p.change) (text_of p.change) a (kept_records p.stays rest), z)
+      (records_append p.ends (changed_records (strips p.change) (record_of p.change - n) (field_of p.change) (text_of p.change) a) (changed_records (strips p.change) (record_of p.change - k) (field_of p.change) (text_of p.change) (kept_records p.stays rest)))
 
-  pub records_fit : (vs : List Record) (v : Record) (rest : List Record) → vs ≡ v ∷ rest
-      → {l : Bytes} {i : ℕ} {form m : Bytes} {j : ℕ} (k top : ℕ) → Todo l i form m j (records_by p n t vs) → i + length form + k < top
-      → j + length (records_by p n t (v ∷ [])) + k < top
-  records_fit vs v rest e k top x h =
-      let d = n + length (kept_records p.stays (v ∷ [])) in
-      first_fits (records_by p n t (v ∷ [])) (records_by p d t rest) k top (records_more vs v rest d e refl) x h
-
-  pub records_end : (vs : List Record) → vs ≡ [] → records_by p n t vs ≡ []
+  pub records_end : (vs : List Record) → vs ≡ [] → records_by p n vs ≡ []
   unfolding records_by kept_records changed_records records_form
   records_end vs e = rw e
 
   module _ (v : Record) (b : Bool) (e : b ≡ stays_in p.stays v) where
-    pub record_stays : b ≡ true → (q : Plan) → q ≡ record_plan p n → record_by q t v ≡ records_by p n t (v ∷ [])
+    pub record_stays : b ≡ true → (q : Plan) → q ≡ record_plan p n → record_by q v ≡ records_by p n (v ∷ [])
     unfolding records_by record_by record_plan changed_records records_form
-    record_stays h q d = rw (kept_here p.stays v b e h, d, append-nil)
+    record_stays h q d =
+        let form : Bool → ℕ → Bytes → Bytes = λ strip f t. record_form p.ends (changed_values strip f t v) in
+        rw (kept_here p.stays v b e h, d, append-nil)
+        (record_says form (λ s t u. ap (record_form p.ends) (values_alike s t u v)) p.change n)
 
-    pub record_goes : b ≡ false → [] ≡ records_by p n t (v ∷ [])
+    pub record_goes : b ≡ false → [] ≡ records_by p n (v ∷ [])
     unfolding records_by changed_records records_form
     record_goes h = rw (kept_gone p.stays v b e h)
 
@@ -150,13 +142,13 @@ changed_count strip r f x (v ∷ vs) = ap suc (changed_count strip (r - 1) f x v
 
 -- a section
 
-pub table_first : (s : Bytes) (e : ℕ) → 0 < length s → e ≡ 0 + line_size (drop 0 s)
-    → table_named (get_or (fields (rest (content (take e s)))) 0 []) ≡ table_index (lines s)
+-- of a section that stands alone
+pub table_alone : (s : Bytes) → 0 < length s → table_index (section_from s 0).lines ≡ table_index (lines s)
 unfolding table_index
-table_first s e h q =
-    let z : e - 0 ≡ e = omega arith in
-    let x : lines s ≡ take e s ∷ lines (drop e s) = rw z at (cut_at s 0 e h q) in
-    rw x
+table_alone s h =
+    let e = line_size (drop 0 s) in
+    let x : lines s ≡ take (0 + e - 0) s ∷ lines (drop (0 + e) s) = cut_at s 0 (0 + e) h refl in
+    rw x (table_from s 0 h (0 + e) refl)
 
 -- the order that its records are read by
 
@@ -169,45 +161,39 @@ pub passes_so : (ls : List Bytes) (t : ℕ) (o : Order) → t ≡ table_index ls
 unfolding passing
 passes_so ls t o e q p = rw (e, q) (and_right (arranged (width (table_index ls)) (order_in ls)) (passes (table_index ls) (order_in ls) 0 ls) p)
 
-module _ (p : Plan) (x : Bytes) (ls : List Bytes) where
+module _ (p : Plan) (ls : List Bytes) where
   pub content_is : (t : ℕ) (o : Order) (n : ℕ) → t ≡ table_index ls → o ≡ order_in ls → n ≡ length (kept_records p.stays (rows_of t o 0 ls))
-      → table_head p.ends (table_at t) ++ (records_by p 0 x (rows_of t o 0 ls) ++ line_with p.ends (bytes "end") (decimal n ∷ []))
-      ≡ content_by p x (said ls)
+      → table_head p.ends (table_at t) ++ (records_by p 0 (rows_of t o 0 ls) ++ line_with p.ends (bytes "end") (decimal n ∷ []))
+      ≡ content_by p (said ls)
   unfolding content_by content_form changed_content kept_content records_by said
   content_is t o n e q d =
-      let z : p.rec - 0 ≡ p.rec = omega arith in
+      let z : record_of p.change - 0 ≡ record_of p.change = omega arith in
       let vs = kept_records p.stays (rows_of (table_index ls) (order_in ls) 0 ls) in
-      rw (d, e, q, z, changed_count p.strip p.rec p.field x vs, line_with_is p.ends "end" (decimal (length vs) ∷ []))
-
-  pub content_length : (t : ℕ) (o : Order) → t ≡ table_index ls → o ≡ order_in ls
-      → length (table_head p.ends (table_at t)) + length (records_by p 0 x (rows_of t o 0 ls)) ≤ length (content_by p x (said ls))
-  content_length t o e q =
-      rw (sym (content_is t o (length (kept_records p.stays (rows_of t o 0 ls))) e q refl)) (simp length-append (omega arith))
+      rw (d, e, q, z, changed_count (strips p.change) (record_of p.change) (field_of p.change) (text_of p.change) vs, line_with_is p.ends "end" (decimal (length vs) ∷ []))
 
 -- the sections of a file
 
-pub tables_begin : (p : Plan) (x : Bytes) (ys zs : List Section) → zs ≡ ys → tables_by p 0 x (map said_in ys) ≡ tables_by p 0 x (map said_in zs)
-tables_begin p x ys zs e = rw e
+pub tables_begin : (p : Plan) (ys zs : List Section) → zs ≡ ys → tables_by p 0 (map said_in ys) ≡ tables_by p 0 (map said_in zs)
+tables_begin p ys zs e = rw e
 
 pub lines_from : (s : Bytes) (a e : ℕ) → e ≡ a + section_size (drop a s) → (section_from s a).lines ≡ lines (take (e - a) (drop a s))
 unfolding section_from
 lines_from s a e q = let k : section_size (drop a s) ≡ e - a = omega arith in rw k
 
-module _ (p : Plan) (x : Bytes) (n : ℕ) where
+content_alike : (c : Content) (strip : Bool) (f g : ℕ) (t u : Bytes) → changed_content strip 0 f t c ≡ changed_content strip 0 g u c
+unfolding changed_content
+content_alike c strip f g t u = rw (records_alike strip f g t u c.records)
+
+module _ (p : Plan) (n : ℕ) where
   pub tables_more : (ys : List Section) (y : Section) (rest : List Section) (q : Plan) (ls : List Bytes) → ys ≡ y ∷ rest → q ≡ section_plan p n → y.lines ≡ ls
-      → tables_by p n x (map said_in ys) ≡ content_by q x (said ls) ++ tables_by p (n + 1) x (map said_in rest)
+      → tables_by p n (map said_in ys) ≡ content_by q (said ls) ++ tables_by p (n + 1) (map said_in rest)
   unfolding tables_by content_by section_plan kept_tables changed_tables tables_form said_in
   tables_more ys y rest q ls e d l =
-      let z : p.section - n - 1 ≡ p.section - (n + 1) = omega arith in
-      rw (e, d, z, l)
+      let z : section_of p.change - n - 1 ≡ section_of p.change - (n + 1) = omega arith in
+      let form : Bool → ℕ → ℕ → Bytes → Bytes = λ strip r f t. content_form p.ends (changed_content strip r f t (kept_content p.stays (said ls))) in
+      rw (e, d, z, l) (ap (λ (b : Bytes). b ++ tables_by p (n + 1) (map said_in rest)) (sym (section_says form (λ s f g t u. ap (content_form p.ends) (content_alike (kept_content p.stays (said ls)) s f g t u)) p.change n)))
 
-  pub tables_fit : (ys : List Section) (y : Section) (rest : List Section) (q : Plan) (ls : List Bytes) → ys ≡ y ∷ rest → q ≡ section_plan p n → y.lines ≡ ls
-      → {l : Bytes} {h : ℕ} {form m : Bytes} {j : ℕ} (more top : ℕ) → Todo l h form m j (tables_by p n x (map said_in ys)) → h + length form + more < top
-      → j + length (content_by q x (said ls)) + more < top
-  tables_fit ys y rest q ls e d l more top t h =
-      first_fits (content_by q x (said ls)) (tables_by p (n + 1) x (map said_in rest)) more top (tables_more ys y rest q ls e d l) t h
-
-  pub tables_end : (ys : List Section) → ys ≡ [] → tables_by p n x (map said_in ys) ≡ []
+  pub tables_end : (ys : List Section) → ys ≡ [] → tables_by p n (map said_in ys) ≡ []
   unfolding tables_by kept_tables changed_tables tables_form
   tables_end ys e = rw e
 

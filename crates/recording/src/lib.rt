@@ -3,4 +3,4 @@
 
 mod section;
 
-pub use section::{Progress, put_section};
+pub use section::put_section;

@@ -2,7 +2,7 @@
 use mathlib.Core.Path.{◌≡◌}
 use mathlib.Core.Bool.{Bool}
 use mathlib.Core.List.{◌++◌}
-use Prim.Native.Nat.{ℕ, ◌+◌, ◌≤◌}
+use Prim.Native.Nat.{ℕ}
 use lib.ListN.{length}
 use Rattle.page.specs.Bytes.{Bytes, bytes}
 use Rattle.page.specs.Fields.{fields}
@@ -15,7 +15,7 @@ use Rattle.page.specs.declared.LineEnd.{LineEnd}
 use Rattle.page.proofs.OrderLaws.{listed_standing, listed_column}
 use Rattle.copies.specs.Changed.{changed_values}
 use Rattle.copies.specs.Parts.{Whole}
-use Rattle.copies.proofs.StandLaws.{record_kept, kept_length}
+use Rattle.copies.proofs.StandLaws.{record_kept}
 
 module _ (ends : LineEnd) (strip : Bool) (x : Bytes) (f m t : ℕ) (o : Order) (w : Bytes) (n : length (fields w) ≡ width t)
     (z : first_wrong (standing t o) (fields w) ≡ 0) (e : o ≡ listed_order t) (k : (m ≡ 0) × (f ≡ 0) × Whole w) where
@@ -31,6 +31,3 @@ module _ (ends : LineEnd) (strip : Bool) (x : Bytes) (f m t : ℕ) (o : Order) (
 
   pub record_copied : bytes "rec;" ++ (w ++ line_end ends) ≡ record_form ends (changed_values strip f x (values_of m 1 (columns t) (by_column o (fields w))))
   record_copied = rw stands (record_kept strip x ends f m (columns t) w many sound k)
-
-  pub copied_length : 4 + length w ≤ length (record_form ends (changed_values strip f x (values_of m 1 (columns t) (by_column o (fields w)))))
-  copied_length = rw stands (kept_length strip x ends f m (columns t) w many sound k)

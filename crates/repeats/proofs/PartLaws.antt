@@ -1,14 +1,16 @@
 -- Sections passed in which no key repeats, and the lines passed of one whose keys rise. Assumes nothing.
 use mathlib.Core.Path.{◌≡◌, refl, sym, ◌∙◌}
-use mathlib.Core.Bool.{Bool, true, false, not}
+use mathlib.Core.Bool.{Bool, true, false}
 use mathlib.Core.List.{List, []}
 use Prim.Native.Nat.{ℕ, ◌+◌, ◌-◌, ◌<◌, ◌≤◌}
 use native.Mathlib.Omega.{arith}
 use borrow.Author.Count.{below_more}
+use borrow.Author.Tests.{ne_eqb}
 use lib.ListN.{length, take, drop}
 use Rattle.page.specs.Bytes.{Bytes}
 use Rattle.page.specs.Lines.{lines}
-use Rattle.page.specs.Answers.{refusal, sound}
+use Rattle.std.specs.Prelude.{Ok, Err}
+use Rattle.page.specs.Answers.{refusal, answered}
 use Rattle.page.specs.File.{repeats, first_record, filed_of}
 use Rattle.page.proofs.LineLaws.{line_size}
 use Rattle.choices.specs.declared.Choice.{Choice}
@@ -16,10 +18,13 @@ use Rattle.tables.specs.Keys.{by_key}
 use Rattle.scans.specs.Scan.{again, rises, raised, Topped, first_line}
 use Rattle.scans.proofs.ScanLaws.{passed_lines}
 use Rattle.scans.proofs.TopLaws.{topped_none, rise_new, rise_topped}
+use Rattle.seats.specs.declared.seating.Seat.{Seat}
 use Rattle.seats.specs.declared.seating.Seats.{Seats}
+use Rattle.arrangement.specs.Orders.{held}
+use Rattle.choices.specs.Choices.{key_choice}
 use Rattle.seats.specs.Seating.{seat_at, Ready}
 use Rattle.seats.specs.Faults.{repeat_number, seat_key, scan_end, repeat_line}
-use Rattle.seats.proofs.RepeatLaws.{repeat_is, repeats_none, repeats_at}
+use Rattle.seats.proofs.RepeatLaws.{number_some, key_is, repeat_is, repeats_none, repeats_at}
 use Rattle.rounds.specs.Rounds.{again_at}
 use Rattle.rounds.proofs.NumberLaws.{Stands, stands_first, stands_next, stands_end, again_here}
 use Rattle.repeats.specs.Parts.{scan_part}
@@ -33,22 +38,26 @@ pub clean_first : (s : Bytes) (r : Seats) (second : Bool) → Clean s r second 0
 clean_first s r second = record { none = λ m h. absurd (omega arith) }
 
 module _ (s : Bytes) (r : Seats) (z : Ready s r) (second : Bool) (i : ℕ) (d : Clean s r second i) where
-  pub clean_all : r.count ≤ i → sound ≡ first_record (repeat_number second) (repeats (by_key second)) [] (filed_of s)
-  clean_all h = sym (repeats_none s r z second (λ m l. d.none m (omega arith)))
+  pub clean_all : r.count ≤ i → answered (first_record (repeat_number second) (repeats (by_key second)) [] (filed_of s)) (tt {0}) ≡ Ok (tt {0})
+  unfolding answered
+  clean_all h = rw (repeats_none s r z second (λ m l. d.none m (omega arith)))
 
-  module _ (h : i < r.count) (q : Choice) (x : q ≡ seat_key s second (seat_at r i)) (w : Bytes) (y : w ≡ scan_part s (seat_at r i) q) where
+  module _ (h : i < r.count) (a : Seat) (e : a ≡ seat_at r i) (q : Choice) (x : q ≡ key_choice (by_key second) a.table (held a.table a.order)) (w : Bytes) (y : w ≡ scan_part s a q) where
     part_line : (n : ℕ) → first_line (again q) [] 0 (lines w) ≡ n → repeat_line s (seat_at r i) (seat_key s second (seat_at r i)) ≡ n
     unfolding scan_part
-    part_line n f = repeat_is s r z i h (seat_at r i) refl second q (scan_end (seat_at r i) q) n x refl (rw y at f)
+    part_line n f = repeat_is s r z i h a e second q (scan_end a q) n (key_is s r z i h a e second q x) refl (rw y at f)
 
     pub clean_more : first_line (again q) [] 0 (lines w) ≡ 0 → Clean s r second (i + 1)
     clean_more f = record { none = below_more _ _ d.none (part_line 0 f) }
 
-    pub repeats_here : (n : ℕ) → n ≡ first_line (again q) [] 0 (lines w) → (n ≡ 0 → ⊥)
-        → refusal (repeat_number second) (i + 1) n ≡ first_record (repeat_number second) (repeats (by_key second)) [] (filed_of s)
-    repeats_here n f g =
+    pub repeats_here : (n : ℕ) → 0 < n → first_line (again q) [] 0 (lines w) ≡ n
+        → answered (first_record (repeat_number second) (repeats (by_key second)) [] (filed_of s)) (tt {0}) ≡ Err (refusal (repeat_number second) (i + 1) n)
+    unfolding answered
+    repeats_here n g f =
         let k : n ≡ n - 1 + 1 = omega arith in
-        rw k (sym (repeats_at s r z second i (n - 1) h d.none (part_line (n - 1 + 1) (sym f ∙ k))))
+        let o : first_record (repeat_number second) (repeats (by_key second)) [] (filed_of s) ≡ refusal (repeat_number second) (i + 1) n =
+        rw k (repeats_at s r z second i (n - 1) h d.none (part_line (n - 1 + 1) (f ∙ k))) in
+        rw (o, ne_eqb (repeat_number second) 0 (number_some second))
 
 -- lines passed of which none is a record whose key stands before it
 pub record Fresh (q : Choice) (w : Bytes) (at : ℕ) : Type 0 where
@@ -79,18 +88,13 @@ pub rising_first : (q : Choice) (w : Bytes) (k : List ℕ) → Rising q w k 0
 unfolding lines
 rising_first q w k = record { fresh = fresh_first q w; topped = topped_none q k }
 
-is_true : (b : Bool) → not b ≡ false → b ≡ true
-is_true true e = refl
-is_true false e = sym e
-
 module _ (q : Choice) (w : Bytes) (k : List ℕ) (at : ℕ) (p : Rising q w k at) where
-  pub rising_next : (e : ℕ) → at < length w → e ≡ at + line_size (drop at w) → (b : Bool) (top : List ℕ)
-      → (b ≡ rises q k (take (e - at) (drop at w))) × (top ≡ raised q k (take (e - at) (drop at w))) → not b ≡ false → Rising q w top e
-  rising_next e h x b top g n =
-      let r = sym g.0 ∙ is_true b n in
+  pub rising_next : (e : ℕ) → at < length w → e ≡ at + line_size (drop at w) → (top : List ℕ)
+      → (rises q k (take (e - at) (drop at w)) ≡ true) × (top ≡ raised q k (take (e - at) (drop at w))) → Rising q w top e
+  rising_next e h x top g =
       record {
-        fresh = fresh_next q w at e p.fresh h x (rise_new q k _ _ p.topped r);
-        topped = rw (passed_lines w at e h x p.fresh.stands.starts, g.1) (rise_topped q k _ _ p.topped r);
+        fresh = fresh_next q w at e p.fresh h x (rise_new q k _ _ p.topped g.0);
+        topped = rw (passed_lines w at e h x p.fresh.stands.starts, g.1) (rise_topped q k _ _ p.topped g.0);
       }
 
   pub rising_end : length w ≤ at → first_line (again q) [] 0 (lines w) ≡ 0

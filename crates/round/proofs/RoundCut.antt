@@ -1,8 +1,8 @@
 -- The cut of the written form into header, sections and trailer is its parts. Assumes nothing.
+use Rattle.std.specs.Prelude.{None, Option, Some}
 use mathlib.Core.Path.{◌≡◌, refl, ap, sym, ◌∙◌}
 use mathlib.Core.Bool.{Bool, true, false}
 use mathlib.Core.List.{List, [], ◌∷◌, ◌++◌, map, append-nil, append_assoc}
-use mathlib.Core.Option.{Option, none, some}
 use Prim.Native.Nat.{ℕ, suc, ◌+◌, ◌<◌}
 use Prim.Native.String.{String}
 use native.Mathlib.Omega.{arith}
@@ -49,10 +49,10 @@ inner_of s a b = record { whole = record { ended = s.ended; no_end = rw s.named 
 
 -- the lines of a header, of a record, of a section after its first
 
-inner_if : (ends : LineEnd) (s : String) (d : Option Bytes) → ((t : Bytes) → PrintedIf (some t) → Inner (text_line ends s t)) → PrintedIf d → Every Inner (lines_if ends s d)
+inner_if : (ends : LineEnd) (s : String) (d : Option Bytes) → ((t : Bytes) → PrintedIf (Some t) → Inner (text_line ends s t)) → PrintedIf d → Every Inner (lines_if ends s d)
 unfolding lines_if
-inner_if ends s none f p = none_left
-inner_if ends s (some t) f p = one_more (f t p) none_left
+inner_if ends s None f p = none_left
+inner_if ends s (Some t) f p = one_more (f t p) none_left
 
 pub inner_head : (ends : LineEnd) (h : Head) → SoundHead h → Every Inner (head_lines ends h)
 unfolding head_lines

@@ -1,8 +1,8 @@
 -- A written header is read back: sound, with its values. Assumes nothing.
+use Rattle.std.specs.Prelude.{Some, None, Option}
 use mathlib.Core.Path.{◌≡◌, refl, ◌∙◌}
 use mathlib.Core.Bool.{Bool, true, false}
 use mathlib.Core.List.{List, [], ◌∷◌, ◌++◌, append-nil}
-use mathlib.Core.Option.{Option, none, some}
 use Prim.Native.Nat.{ℕ}
 use Prim.Native.String.{String}
 use native.Mathlib.Omega.{arith}
@@ -15,7 +15,6 @@ use Rattle.page.specs.Head.{Head}
 use Rattle.page.specs.Form.{separated, line, quoted, doubled, padded, date_text, time_text, charset_name, line_if, head_form}
 use Rattle.page.specs.declared.LineEnd.{LineEnd}
 use Rattle.page.specs.declared.Met.{Met}
-use Rattle.page.specs.declared.Heading.TheVariants as H
 use Rattle.page.specs.declared.Date.{Date}
 use Rattle.page.specs.declared.Time.{Time}
 use Rattle.page.proofs.LineLaws.{joined_append}
@@ -44,8 +43,8 @@ abbrev pub text_line : LineEnd → String → Bytes → Bytes
 text_line ends s t = line ends s (quoted t ∷ [])
 
 unfoldable pub lines_if : LineEnd → String → Option Bytes → List Bytes
-lines_if ends s none = []
-lines_if ends s (some t) = text_line ends s t ∷ []
+lines_if ends s None = []
+lines_if ends s (Some t) = text_line ends s t ∷ []
 
 unfoldable pub head_lines : LineEnd → Head → List Bytes
 head_lines ends h =
@@ -53,8 +52,8 @@ head_lines ends h =
 
 joined_if : (ends : LineEnd) (s : String) (t : Option Bytes) → joined (lines_if ends s t) ≡ line_if ends s t
 unfolding lines_if line_if joined
-joined_if ends s none = refl
-joined_if ends s (some t) = append-nil (line ends s (quoted t ∷ []))
+joined_if ends s None = refl
+joined_if ends s (Some t) = append-nil (line ends s (quoted t ∷ []))
 
 pub joined_head : (ends : LineEnd) (h : Head) → joined (head_lines ends h) ≡ head_form ends h
 unfolding head_lines mod_line src_line chs_line head_form joined
@@ -113,12 +112,12 @@ src_seen ends h s =
 
 -- the header's machine takes them
 
-first_step : (ends : LineEnd) → head_step (met_none 0) (content (mod_line ends)) ≡ H.Go (met_none 1)
+first_step : (ends : LineEnd) → head_step (met_none 0) (content (mod_line ends)) ≡ Some (met_none 1)
 unfolding head_step mod_step head_choose mod_form form_named same bytes
 first_step ends = rw ((mod_seen ends).clean, (mod_seen ends).shown, (mod_seen ends).named, (mod_seen ends).split)
 
 next_step : {l : Bytes} {k : ℕ} {f : Bytes} {fs : List Bytes} → Seen false l k f fs → (m : Met) → eqb m.form 0 ≡ false → eqb k Com ≡ false →
-    met_before k m ≡ false → holds k m.form (f ∷ fs) ≡ true → head_step m (content l) ≡ H.Go (meet k m)
+    met_before k m ≡ false → holds k m.form (f ∷ fs) ≡ true → head_step m (content l) ≡ Some (meet k m)
 unfolding head_step other_step head_choose
 next_step s m a b c d = rw (s.clean, s.shown, s.named, s.split, b, a, c, d)
 
@@ -160,10 +159,10 @@ module _ (ends : LineEnd) (h : Head) (s : SoundHead h) where
 
   others : (d f : Option Bytes) → PrintedIf d → PrintedIf f → head_run opened 5 (lines_if ends "dve" d ++ lines_if ends "fft" f) ≡ record { verdict = 0; line = 0 }
   unfolding head_run head_continue lines_if meet met_before head_end complete
-  others none none p q = refl
-  others (some d) none p q = rw (next_step (text_seen ends commands.5 d p) opened refl refl refl (text_held Dve 1 d refl refl))
-  others none (some f) p q = rw (next_step (text_seen ends commands.6 f q) opened refl refl refl (text_held Fft 1 f refl refl))
-  others (some d) (some f) p q =
+  others None None p q = refl
+  others (Some d) None p q = rw (next_step (text_seen ends commands.5 d p) opened refl refl refl (text_held Dve 1 d refl refl))
+  others None (Some f) p q = rw (next_step (text_seen ends commands.6 f q) opened refl refl refl (text_held Fft 1 f refl refl))
+  others (Some d) (Some f) p q =
       rw (
         next_step (text_seen ends commands.5 d p) opened refl refl refl (text_held Dve 1 d refl refl),
         next_step (text_seen ends commands.6 f q) (meet Dve opened) refl refl refl (text_held Fft 1 f refl refl),

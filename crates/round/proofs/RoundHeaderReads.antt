@@ -1,8 +1,8 @@
 -- What an accepted header says may be said: texts of allowed bytes, a real date of four digits, a real time. Assumes nothing.
+use Rattle.std.specs.Prelude.{None, Option, Some}
 use mathlib.Core.Path.{◌≡◌, refl, sym, ◌∙◌}
 use mathlib.Core.Bool.{Bool, true, false, ◌&&◌, ◌||◌, false≢true}
 use mathlib.Core.List.{List, [], ◌∷◌}
-use mathlib.Core.Option.{Option, none, some}
 use Prim.Native.Nat.{ℕ, zero, suc, ◌+◌, ◌≤◌}
 use native.Mathlib.Omega.{arith}
 use lib.Dec.{eqb, leb}
@@ -106,8 +106,8 @@ text_said : (f : Bytes) → is_text (text_of f) ≡ true → all (allowed false)
 text_said f h a = by (text_of f) refl h
   where
     by : (x : Option Bytes) → text_of f ≡ x → is_text x ≡ true → Printed (own_bytes x)
-    by none e h = absurd (false≢true h)
-    by (some t) e h = all_quoted (allowed false) t (rw ((text_exactly f t).0 e) at a)
+    by None e h = absurd (false≢true h)
+    by (Some t) e h = all_quoted (allowed false) t (rw ((text_exactly f t).0 e) at a)
 
 field_passing : (p : ℕ → Bool) {fs : List Bytes} → Every (Passing p) fs → (i : ℕ) → all p (get_or fs i []) ≡ true
 unfolding all
@@ -206,7 +206,7 @@ module _ (ls : List Bytes) (s : SoundHeader ls) where
     unfolding text_if
     text_if_held a b = by (stands_in k ls) refl
       where
-        by : (q : Bool) → stands_in k ls ≡ q → PrintedIf (pick q (some (text_in k ls)) none)
+        by : (q : Bool) → stands_in k ls ≡ q → PrintedIf (pick q (Some (text_in k ls)) None)
         by true e = text_held a b e
         by false e = tt
 

@@ -1,8 +1,8 @@
 -- The values of a written header are the ones that were written. Assumes nothing.
+use Rattle.std.specs.Prelude.{None, Option, Some}
 use mathlib.Core.Path.{◌≡◌, refl, ◌∙◌}
 use mathlib.Core.Bool.{Bool, true, false}
 use mathlib.Core.List.{List, [], ◌∷◌, ◌++◌}
-use mathlib.Core.Option.{Option, none, some}
 use Prim.Native.Nat.{ℕ, ◌+◌}
 use lib.Dec.{eqb}
 use lib.ListN.{length, get_or}
@@ -112,21 +112,21 @@ module _ (ends : LineEnd) (h : Head) (s : SoundHead h) where
 
   -- what need not stand, among the lines after the first five
   stated : ℕ → List Bytes → Option Bytes
-  stated k ls = pick (stands_in k ls) (some (own_bytes (text_of (get_or (fields (line_of k 0 ls).rest) 0 [])))) none
+  stated k ls = pick (stands_in k ls) (Some (own_bytes (text_of (get_or (fields (line_of k 0 ls).rest) 0 [])))) None
 
   dve_stated : (d f : Option Bytes) → PrintedIf d → PrintedIf f → stated Dve (lines_if ends "dve" d ++ lines_if ends "fft" f) ≡ d
   unfolding stated lines_if stands_in line_of stands
-  dve_stated none none p q = refl
-  dve_stated (some d) none p q = let x = text_seen ends commands.5 d p in rw (x.named, x.split, quoted_text d)
-  dve_stated none (some f) p q = let x = text_seen ends commands.6 f q in rw x.named
-  dve_stated (some d) (some f) p q = let x = text_seen ends commands.5 d p in rw (x.named, x.split, quoted_text d)
+  dve_stated None None p q = refl
+  dve_stated (Some d) None p q = let x = text_seen ends commands.5 d p in rw (x.named, x.split, quoted_text d)
+  dve_stated None (Some f) p q = let x = text_seen ends commands.6 f q in rw x.named
+  dve_stated (Some d) (Some f) p q = let x = text_seen ends commands.5 d p in rw (x.named, x.split, quoted_text d)
 
   fft_stated : (d f : Option Bytes) → PrintedIf d → PrintedIf f → stated Fft (lines_if ends "dve" d ++ lines_if ends "fft" f) ≡ f
   unfolding stated lines_if stands_in line_of stands
-  fft_stated none none p q = refl
-  fft_stated (some d) none p q = let x = text_seen ends commands.5 d p in rw x.named
-  fft_stated none (some f) p q = let x = text_seen ends commands.6 f q in rw (x.named, x.split, quoted_text f)
-  fft_stated (some d) (some f) p q =
+  fft_stated None None p q = refl
+  fft_stated (Some d) None p q = let x = text_seen ends commands.5 d p in rw x.named
+  fft_stated None (Some f) p q = let x = text_seen ends commands.6 f q in rw (x.named, x.split, quoted_text f)
+  fft_stated (Some d) (Some f) p q =
       let x = text_seen ends commands.5 d p in
       let y = text_seen ends commands.6 f q in
       rw (x.named, y.named, y.split, quoted_text f)

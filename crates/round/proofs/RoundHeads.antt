@@ -1,4 +1,5 @@
 -- The three lines of each table's head, by computing. Assumes nothing.
+use Rattle.std.specs.Prelude.{Ok}
 use mathlib.Core.Path.{◌≡◌, refl, sym}
 use mathlib.Core.Bool.{Bool, true, false}
 use mathlib.Core.List.{List, [], ◌∷◌, ◌++◌, map, append_assoc}
@@ -17,7 +18,6 @@ use Rattle.page.specs.Form.{line_end, separated, line, format_text}
 use Rattle.page.specs.Open.{open_all}
 use Rattle.page.specs.declared.LineEnd.{LineEnd}
 use Rattle.page.specs.declared.Phase.TheVariants as P
-use Rattle.page.specs.declared.Step.TheVariants as S
 use Rattle.page.proofs.TableLaws.{listed, each_table}
 use Rattle.page.proofs.LineLaws.{Ended}
 use Rattle.page.proofs.LineEndLaws.{content_without_end, ended_of}
@@ -66,10 +66,10 @@ abbrev frm_bytes : Table → Bytes
 frm_bytes t = bytes "frm" ++ separated (formats t)
 
 record Computed (latin : Bool) (i : ℕ) (t : Table) : Type 0 where
-  tbl : (o : Order) → content_step latin P.Tbl o (tbl_bytes t) ≡ S.Go (P.Atr i)
-  atr : (o : Order) → content_step latin (P.Atr i) o (atr_bytes t) ≡ S.Go (P.Frm i)
+  tbl : (o : Order) → content_step latin P.Tbl o (tbl_bytes t) ≡ Ok (P.Atr i)
+  atr : (o : Order) → content_step latin (P.Atr i) o (atr_bytes t) ≡ Ok (P.Frm i)
   order : order_of i (fields (rest (atr_bytes t))) ≡ listed_order i
-  frm : content_step latin (P.Frm i) (listed_order i) (frm_bytes t) ≡ S.Go (P.Rows i 0 0)
+  frm : content_step latin (P.Frm i) (listed_order i) (frm_bytes t) ≡ Ok (P.Rows i 0 0)
   tbl_named : command (tbl_bytes t) ≡ Tbl
   atr_named : command (atr_bytes t) ≡ Atr
   frm_named : command (frm_bytes t) ≡ Frm
@@ -83,10 +83,10 @@ computed : (latin : Bool) (i : ℕ) → i < TABLES → Computed latin i (table_a
 unfolding listed open_all
 computed latin i h =
     record {
-      tbl = λ o. each_latin (λ l t. content_step l P.Tbl o (tbl_bytes (table_at t))) (λ l t. S.Go (P.Atr t)) refl refl latin i h;
-      atr = λ o. each_latin (λ l t. content_step l (P.Atr t) o (atr_bytes (table_at t))) (λ l t. S.Go (P.Frm t)) refl refl latin i h;
+      tbl = λ o. each_latin (λ l t. content_step l P.Tbl o (tbl_bytes (table_at t))) (λ l t. Ok (P.Atr t)) refl refl latin i h;
+      atr = λ o. each_latin (λ l t. content_step l (P.Atr t) o (atr_bytes (table_at t))) (λ l t. Ok (P.Frm t)) refl refl latin i h;
       order = each_table (λ t. order_of t (fields (rest (atr_bytes (table_at t))))) listed_order refl i h;
-      frm = each_latin (λ l t. content_step l (P.Frm t) (listed_order t) (frm_bytes (table_at t))) (λ l t. S.Go (P.Rows t 0 0)) refl refl latin i h;
+      frm = each_latin (λ l t. content_step l (P.Frm t) (listed_order t) (frm_bytes (table_at t))) (λ l t. Ok (P.Rows t 0 0)) refl refl latin i h;
       tbl_named = each_table (λ t. command (tbl_bytes (table_at t))) (λ t. Tbl) refl i h;
       atr_named = each_table (λ t. command (atr_bytes (table_at t))) (λ t. Atr) refl i h;
       frm_named = each_table (λ t. command (frm_bytes (table_at t))) (λ t. Frm) refl i h;
@@ -99,10 +99,10 @@ computed latin i h =
 
 -- the lines, however they end
 pub record Heads (ends : LineEnd) (latin : Bool) (i : ℕ) (t : Table) : Type 0 where
-  pub tbl : (o : Order) → step latin P.Tbl o (tbl_line ends t) ≡ S.Go (P.Atr i)
-  pub atr : (o : Order) → step latin (P.Atr i) o (atr_line ends t) ≡ S.Go (P.Frm i)
+  pub tbl : (o : Order) → step latin P.Tbl o (tbl_line ends t) ≡ Ok (P.Atr i)
+  pub atr : (o : Order) → step latin (P.Atr i) o (atr_line ends t) ≡ Ok (P.Frm i)
   pub order : order_of i (fields (rest (content (atr_line ends t)))) ≡ listed_order i
-  pub frm : step latin (P.Frm i) (listed_order i) (frm_line ends t) ≡ S.Go (P.Rows i 0 0)
+  pub frm : step latin (P.Frm i) (listed_order i) (frm_line ends t) ≡ Ok (P.Rows i 0 0)
   pub tbl_named : command (content (tbl_line ends t)) ≡ Tbl
   pub atr_named : command (content (atr_line ends t)) ≡ Atr
   pub frm_named : command (content (frm_line ends t)) ≡ Frm

@@ -1,8 +1,8 @@
 -- What an accepted record says may be said: values in range and of their size, of allowed bytes. Assumes nothing.
+use Rattle.std.specs.Prelude.{Some}
 use mathlib.Core.Path.{◌≡◌, refl, sym}
 use mathlib.Core.Bool.{Bool, true, false, ◌&&◌, ◌||◌, false≢true}
 use mathlib.Core.List.{List, [], ◌∷◌, map, Memᴰ}
-use mathlib.Core.Option.{some}
 use Prim.Native.Nat.{ℕ, zero, suc, ◌+◌, ◌-◌, ◌<◌, ◌≤◌}
 use native.Mathlib.Omega.{arith}
 use lib.Dec.{eqb, leb}
@@ -77,7 +77,7 @@ by_column_all p o {fs} e = each (upto 0 (length o))
     each (c ∷ cs) = one_more (field_every {P = Passing p} refl e (place c o)) (each cs)
 
 -- and so does a record's text
-own_all : (p : ℕ → Bool) (w t : Bytes) → all p w ≡ true → record_text w ≡ some t → all p t ≡ true
+own_all : (p : ℕ → Bool) (w t : Bytes) → all p w ≡ true → record_text w ≡ Some t → all p t ≡ true
 unfolding unpadded
 own_all p w t h e =
     let x = padded_of w t e in

@@ -1,4 +1,5 @@
 -- The section's machine takes a written record with its marks, and a written `end`. Assumes nothing.
+use Rattle.std.specs.Prelude.{Ok}
 use mathlib.Core.Path.{◌≡◌, refl, sym, ◌∙◌}
 use mathlib.Core.Bool.{Bool, true, false, not, ◌&&◌, false≢true}
 use mathlib.Core.List.{List, [], ◌∷◌, ◌++◌, map, append-nil}
@@ -19,7 +20,6 @@ use Rattle.page.specs.declared.LineEnd.{LineEnd}
 use Rattle.page.specs.declared.Owner.TheVariants as O
 use Rattle.page.specs.declared.Phase.TheVariants as P
 use Rattle.page.specs.declared.Remark.TheVariants as R
-use Rattle.page.specs.declared.Step.TheVariants as S
 use Rattle.round.specs.Round.{a_number, no_number, a_text, a_suggestion, FitAll, no_value, a_value, SoundRecord}
 use Rattle.laws.proofs.WrittenScans.{all_mono}
 use Rattle.round.proofs.WrittenNumbers.{number_decimal, decimal_all}
@@ -140,7 +140,7 @@ module _ (ends : LineEnd) (latin : Bool) (t : ℕ) where
   unfolding separated
   mark_reads i l h = rw ((mark_seen i).behind, append-nil (quoted (bytes "SUGGESTED " ++ decimal i))) (mark_again i l h)
 
-  pub mark_step_back : (i n : ℕ) → 1 ≤ i → i < 10 ^ 18 → may_mark t (listed_order t) i ≡ true → step latin (P.Rows t 0 n) (listed_order t) (mark_line ends i) ≡ S.Go (P.Rows t i n)
+  pub mark_step_back : (i n : ℕ) → 1 ≤ i → i < 10 ^ 18 → may_mark t (listed_order t) i ≡ true → step latin (P.Rows t 0 n) (listed_order t) (mark_line ends i) ≡ Ok (P.Rows t i n)
   unfolding step content_step com_step mark_step choose
   mark_step_back i n l h m =
       let s = mark_seen i in
@@ -153,7 +153,7 @@ module _ (ends : LineEnd) (latin : Bool) (t : ℕ) where
   pub end_seen : (n : ℕ) → Seen latin (line ends "end" (decimal n ∷ [])) End (decimal n) []
   end_seen n = seen ends commands.11 (decimal n) [] latin (a_field (decimal_field n) no_field) (rw and_false (decimal_allowed n))
 
-  pub end_step_back : (o : Order) (n : ℕ) → n < 10 ^ 18 → step latin (P.Rows t 0 n) o (line ends "end" (decimal n ∷ [])) ≡ S.Go (P.Ended t n)
+  pub end_step_back : (o : Order) (n : ℕ) → n < 10 ^ 18 → step latin (P.Rows t 0 n) o (line ends "end" (decimal n ∷ [])) ≡ Ok (P.Ended t n)
   unfolding step content_step line_step end_step count_step choose
   end_step_back o n h =
       let s = end_seen n in
@@ -192,7 +192,7 @@ module _ (ends : LineEnd) (latin : Bool) (t : ℕ) (v : Datum) (vs : Record) (r 
         e,
       )
 
-  pub rec_step_back : (m n : ℕ) → empty_marked m (map datum_text (v ∷ vs)) ≡ false → step latin (P.Rows t m n) (listed_order t) rec_line ≡ S.Go (P.Rows t 0 (n + 1))
+  pub rec_step_back : (m n : ℕ) → empty_marked m (map datum_text (v ∷ vs)) ≡ false → step latin (P.Rows t m n) (listed_order t) rec_line ≡ Ok (P.Rows t 0 (n + 1))
   unfolding step content_step line_step rec_step choose
   rec_step_back m n e =
       let s = rec_seen in

@@ -1,8 +1,8 @@
 -- Texts come back as they were written, and a text field is exactly a quoted text. Assumes nothing.
+use Rattle.std.specs.Prelude.{Some}
 use mathlib.Core.Path.{◌≡◌, refl}
 use mathlib.Core.Bool.{Bool, true, false, ◌&&◌}
 use mathlib.Core.List.{List, [], ◌∷◌, ◌++◌}
-use mathlib.Core.Option.{some}
 use mathlib.Core.Logic.{◌↔◌}
 use Prim.Native.Nat.{ℕ}
 use lib.Dec.{eqb}
@@ -15,7 +15,7 @@ use Rattle.page.proofs.TestLaws.{and_left, and_right}
 use Rattle.page.proofs.TextLaws.{text_quoted, quoted_text}
 
 -- "A text field is one closed quoted string with nothing beside it"
-pub text_exactly : (f t : Bytes) → text_of f ≡ some t ↔ f ≡ quoted t
+pub text_exactly : (f t : Bytes) → text_of f ≡ Some t ↔ f ≡ quoted t
 text_exactly f t = (text_quoted f t, λ e. rw e (quoted_text t))
 
 -- a test that each byte of a text passes, and back

@@ -1,7 +1,6 @@
 -- What a file may say: values that its columns may hold, of bytes that are allowed.
-use Rattle.std.specs.Prelude.{◌≡◌, Bool, true, false, ℕ, ◌≤◌, ◌<◌, length}
+use Rattle.std.specs.Prelude.{◌≡◌, Bool, true, false, ℕ, ◌≤◌, ◌<◌, length, None, Option, Some}
 use mathlib.Core.List.{List, [], ◌∷◌, Memᴰ}
-use Rattle.std.proofs.Math.Option.{Option, none, some}
 use Rattle.page.specs.Bytes.{Bytes, all, unpadded}
 use Rattle.page.specs.Lines.{allowed}
 use Rattle.page.specs.Tables.{Named, Rule, TABLES, columns, rules}
@@ -41,8 +40,8 @@ abbrev pub Printed : Bytes → Type 0
 Printed t = all (allowed false) t ≡ true
 
 abbrev pub PrintedIf : Option Bytes → Type 0
-PrintedIf none = Unit
-PrintedIf (some t) = Printed t
+PrintedIf None = Unit
+PrintedIf (Some t) = Printed t
 
 pub record SoundHead (h : Head) : Type 0 where
   pub source : Printed h.source

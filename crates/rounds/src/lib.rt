@@ -1,17 +1,16 @@
 // One round over the lines of a section: the first, of those whose hash falls into the round, whose key stands before it.
 #![tactic(auto)]
 
-ghost use Rattle.std.specs.Prelude.{◌≡◌, true, ◌+◌, ◌<◌, ◌≤◌, ◌^◌, length, drop};
+ghost use Rattle.std.specs.Prelude.{◌≡◌, true, ◌<◌, ◌^◌, length};
 ghost use Rattle.page.specs.Lines.{lines};
-ghost use Rattle.page.proofs.LineLaws.{line_size};
 ghost use Rattle.bits.specs.Bits.{two_of, lane_of};
 ghost use Rattle.scans.specs.Scan.{is_record};
 ghost use Rattle.rounds.specs.Rounds.{hash_of, Round, Sieved, MarkedLine, Doubted, SettledLine, Settled};
 
-use bits::{find_lane, has_four, put_four, put_two};
+use bits::{choose_four, choose_two, find_lane, has_hash, put_hash};
 use choices::Choice;
 use commands::is_record;
-use lines::Cursor;
+use lines::lines_of;
 use scans::is_again;
 
 // Words of the table that all records of a round are put into, and of that of the doubtful ones.
@@ -26,76 +25,57 @@ const LITTLE_CROWD: usize = 512;
 
 const LITTLE_DOUBTS: usize = 128;
 
-// Where the line at a place ends.
-pub fn pass_line(w: &[u8], at: usize) -> usize
-    requires { at < length w.now }
-    ensures { (result ≡ at + line_size (drop at w.now)) × (at < result) × (result ≤ length w.now) }
-{
-    let l = Cursor { at: at }.line(w);
-    l.span.to
+// What is looked for in a round: lines before line `last` whose hash falls into one of the lanes, by the fields of a choice.
+#[derive(Clone, Copy)]
+pub struct Pass {
+    pub choice: Choice,
+    pub lane: u32,
+    pub lanes: u32,
+    pub last: usize,
 }
 
-fn hash_line(l: &[u8], choice: Choice) -> u64
-    ensures { result ≡ hash_of choice l.now }
+fn hash_line(line: &[u8], choice: Choice) -> u64
+    ensures { result ≡ hash_of choice line.now }
 {
-    let c = lines::content_of(l);
+    let c = lines::content_of(line);
     keys::hash_key(keys::read_chosen(lines::rest_of(c), choice))
 }
 
-// A record of round r of n is put into the table of all records. Were its bits all set?
-fn put_in_round(l: &[u8], h: u64, r: u64, n: u64, t: &mut [u64]) -> bool
-    requires { (n < 2 ^ 32) × (0 < length t.old) }
-    ensures { Sieved ((lane_of h n ≡ r) × (is_record l.now ≡ true)) (length t.old) h (two_of h) t.old result t.new }
+// A record of the round is put into the table of all records. Were its bits all set?
+fn put_in_round(line: &[u8], h: u64, pass: Pass, t: &mut [u64]) -> bool
+    requires { 0 < length t.old }
+    ensures { Sieved ((lane_of h pass.lanes ≡ pass.lane) × (is_record line.now ≡ true)) (length t.old) h (two_of h) t.old result t.new }
 {
-    if find_lane(h, n) != r {
-        return false;
-    }
-    if !is_record(l) {
-        return false;
-    }
-    let crowd = t.len();
-    put_two(t, crowd, h)
+    find_lane(h, pass.lanes) == u64::from(pass.lane)
+        && is_record(line)
+        && put_hash(t, h, choose_two(h))
 }
 
 // A record of the round whose bits were all set is put among the doubtful ones. Was it?
-fn mark_line(l: &[u8], choice: Choice, r: u64, n: u64, t: &mut [u64], doubts: &mut [u64]) -> bool
-    requires { (n < 2 ^ 32) × (0 < length t.old) × (0 < length doubts.old) }
-    ensures { MarkedLine l.now (hash_of choice l.now) r n (length t.old) t.old t.new (length doubts.old) doubts.old result doubts.new }
+fn mark_line(line: &[u8], pass: Pass, t: &mut [u64], doubts: &mut [u64]) -> bool
+    requires { (0 < length t.old) × (0 < length doubts.old) }
+    ensures { MarkedLine line.now (hash_of pass.choice line.now) pass.lane pass.lanes (length t.old) t.old t.new (length doubts.old) doubts.old result doubts.new }
 {
-    let h = hash_line(l, choice);
-    if put_in_round(l, h, r, n, t) {
-        let size = doubts.len();
-        put_four(doubts, size, h);
+    let h = hash_line(line, pass.choice);
+    if put_in_round(line, h, pass, t) {
+        put_hash(doubts, h, choose_four(h));
         return true;
     }
     false
 }
 
-// One pass over the records of round r of n before line `last`: each whose bits were not all set is new, the others are put among the
-// doubtful ones. Are there any?
-fn mark_doubts(
-    w: &[u8],
-    choice: Choice,
-    r: u64,
-    n: u64,
-    last: usize,
-    t: &mut [u64],
-    doubts: &mut [u64],
-) -> bool
-    requires { (n < 2 ^ 32) × (0 < length t.old) × (0 < length doubts.old) }
-    ensures { Doubted choice (lines w.now) r n last (length doubts.old) doubts.new result }
+// One pass over the records of the round: each whose bits were not all set is new, the others are put among the doubtful ones. Are there
+// any?
+fn mark_doubts(w: &[u8], pass: Pass, t: &mut [u64], doubts: &mut [u64]) -> bool
+    requires { (0 < length t.old) × (0 < length doubts.old) }
+    ensures { Doubted pass.choice (lines w.now) pass.lane pass.lanes pass.last (length doubts.old) doubts.new result }
 {
-    let mut at: usize = 0;
-    let mut i: usize = 0;
     let mut some = false;
-    while at < w.len() {
-        if i == last {
+    for (i, line) in lines_of(w).enumerate() {
+        if i == pass.last {
             return some;
         }
-        let here = at;
-        at = pass_line(w, here);
-        i += 1;
-        if mark_line(&w[here..at], choice, r, n, t, doubts) {
+        if mark_line(line.bytes, pass, t, doubts) {
             some = true;
         }
     }
@@ -103,17 +83,13 @@ fn mark_doubts(
 }
 
 // A doubtful line is put into a table of its own. Were its bits all set?
-fn put_doubtful(l: &[u8], choice: Choice, doubts: &[u64], t: &mut [u64]) -> bool
+fn put_doubtful(line: &[u8], choice: Choice, doubts: &[u64], t: &mut [u64]) -> bool
     requires { (0 < length doubts.now) × (0 < length t.old) }
-    ensures { SettledLine (hash_of choice l.now) (length doubts.now) doubts.now (length t.old) t.old result t.new }
+    ensures { SettledLine (hash_of choice line.now) (length doubts.now) doubts.now (length t.old) t.old result t.new }
 {
-    let h = hash_line(l, choice);
-    let size = doubts.len();
-    if !has_four(doubts, size, h) {
-        return false;
-    }
-    let crowd = t.len();
-    put_four(t, crowd, h)
+    let h = hash_line(line, choice);
+    let m = choose_four(h);
+    has_hash(doubts, h, m) && put_hash(t, h, m)
 }
 
 // One more pass, over the doubtful records alone: they leave most bits clear, and only those whose bits were all set are searched for.
@@ -121,102 +97,62 @@ fn settle_doubts(w: &[u8], choice: Choice, last: usize, doubts: &[u64], t: &mut 
     requires { (0 < length doubts.now) × (0 < length t.old) }
     ensures { Settled choice (lines w.now) (length doubts.now) doubts.now last result }
 {
-    let mut at: usize = 0;
-    let mut i: usize = 0;
-    while at < w.len() {
+    for (i, line) in lines_of(w).enumerate() {
         if i == last {
             return last;
         }
-        let here = at;
-        let k = i;
-        at = pass_line(w, here);
-        i += 1;
-        if put_doubtful(&w[here..at], choice, doubts, t) {
-            if is_again(w, here, at, choice) {
-                return k;
-            }
+        if put_doubtful(line.bytes, choice, doubts, t)
+            && is_again(&w[..line.at], line.bytes, choice)
+        {
+            return i;
         }
     }
     last
 }
 
-fn wipe(t: &mut [u64]) {
-    let mut i: usize = 0;
-    while i < t.len() {
-        t[i] = 0;
-        i += 1;
-    }
-}
-
-// The first line before `last`, of those in round r of n, whose key stands before it; or `last`. Both tables are empty.
-fn sift_in(
-    w: &[u8],
-    choice: Choice,
-    r: u64,
-    n: u64,
-    last: usize,
-    t: &mut [u64],
-    doubts: &mut [u64],
-) -> usize
-    requires { (n < 2 ^ 32) × (0 < length t.old) × (0 < length doubts.old) }
-    ensures { Round choice (lines w.now) r n last result }
+// The first line of a round whose key stands before it; or `last`. Both tables are empty.
+fn sift_in(w: &[u8], pass: Pass, t: &mut [u64], doubts: &mut [u64]) -> usize
+    requires { (0 < length t.old) × (0 < length doubts.old) }
+    ensures { Round pass.choice (lines w.now) pass.lane pass.lanes pass.last result }
 {
-    if !mark_doubts(w, choice, r, n, last, t, doubts) {
-        return last;
+    if !mark_doubts(w, pass, t, doubts) {
+        return pass.last;
     }
-    wipe(t);
-    settle_doubts(w, choice, last, &doubts[..], t)
+    t.fill(0);
+    settle_doubts(w, pass.choice, pass.last, &doubts[..], t)
 }
 
-fn sift_few(w: &[u8], choice: Choice, r: u64, n: u64, last: usize) -> usize
-    requires { n < 2 ^ 32 }
-    ensures { Round choice (lines w.now) r n last result }
-{
-    let mut t = [0; LITTLE_CROWD];
-    let mut doubts = [0; LITTLE_DOUBTS];
-    sift_in(w, choice, r, n, last, &mut t, &mut doubts)
-}
-
-fn sift_many(w: &[u8], choice: Choice, r: u64, n: u64, last: usize) -> usize
-    requires { n < 2 ^ 32 }
-    ensures { Round choice (lines w.now) r n last result }
+// In tables of so many words.
+fn sift_by<const CROWD: usize, const DOUBTS: usize>(w: &[u8], pass: Pass) -> usize
+    requires { (0 < CROWD) × (CROWD < 2 ^ 20) × (0 < DOUBTS) × (DOUBTS < 2 ^ 20) }
+    ensures { Round pass.choice (lines w.now) pass.lane pass.lanes pass.last result }
 {
     let mut t = [0; CROWD];
     let mut doubts = [0; DOUBTS];
-    sift_in(w, choice, r, n, last, &mut t, &mut doubts)
+    sift_in(w, pass, &mut t, &mut doubts)
 }
 
-// The same, in tables of the size that the section needs.
-pub fn sift_round(w: &[u8], choice: Choice, r: u64, n: u64, last: usize) -> usize
-    requires { n < 2 ^ 32 }
-    ensures { Round choice (lines w.now) r n last result }
+// In tables of the size that the section needs.
+pub fn sift_round(w: &[u8], pass: Pass) -> usize
+    ensures { Round pass.choice (lines w.now) pass.lane pass.lanes pass.last result }
 {
     if w.len() < FEW {
-        return sift_few(w, choice, r, n, last);
+        sift_by::<LITTLE_CROWD, LITTLE_DOUBTS>(w, pass)
+    } else {
+        sift_by::<CROWD, DOUBTS>(w, pass)
     }
-    sift_many(w, choice, r, n, last)
-}
-
-fn count_lines(w: &[u8]) -> usize {
-    let mut at: usize = 0;
-    let mut n: usize = 0;
-    while at < w.len() {
-        at = pass_line(w, at);
-        n += 1;
-    }
-    n
 }
 
 // Of 400,000 records about 30,000 are doubtful, and hardly one of these is searched for.
-pub fn count_rounds(w: &[u8]) -> u64
-    ensures { (0 < result) × (result < 2 ^ 32) }
+pub fn count_rounds(w: &[u8]) -> u32
+    ensures { 0 < result }
 {
     if w.len() < FEW {
         return 1;
     }
-    let n = count_lines(w);
+    let n = lines_of(w).count();
     if n < 100000000 {
-        return (n / 400000) as u64 + 1;
+        return (n / 400000) as u32 + 1;
     }
     256
 }

@@ -7,7 +7,7 @@ use native.Mathlib.Omega.{arith}
 use borrow.Author.Tests.{eqb-true}
 use lib.Dec.{eqb}
 use Rattle.page.specs.Bytes.{Bytes, pick}
-use Rattle.page.specs.Answers.{refusal, sound, earlier, checked, paper_checked}
+use Rattle.page.specs.Answers.{refusal, sound, earlier, answered, paper_of}
 use Rattle.page.specs.File.{Filed, first_record, lost, record_refusal, section_refusal, file_refusal, filed_of}
 use Rattle.page.specs.Reading.{list_refusal, list_of}
 use Rattle.page.specs.declared.Refusal.{Refusal}
@@ -38,14 +38,14 @@ unfolding file_refusal section_refusal record_refusal
 file_placed s =
     earlier_placed _ _ (earlier_placed _ _ (earlier_placed _ _ (earlier_placed _ _ (earlier_placed _ _ (earlier_placed _ _ (first_placed 19 (λ before. lost (filed_of s)) [] (filed_of s)))))))
 
-paper_back : (r : Refusal) → Placed r → paper_checked (checked r) ≡ r
-unfolding paper_checked checked
+paper_back : (r : Refusal) → Placed r → paper_of (answered r (tt {0})) ≡ r
+unfolding paper_of answered
 paper_back r p = by (eqb r.number 0) refl
   where
-    by : (t : Bool) → eqb r.number 0 ≡ t → paper_checked (checked r) ≡ r
+    by : (t : Bool) → eqb r.number 0 ≡ t → paper_of (answered r (tt {0})) ≡ r
     by true e = rw e (sym (p (eqb-true r.number 0 e)))
     by false e = rw e
 
-pub list_paper : (s : Bytes) (room : ℕ) → paper_checked (list_of s room) ≡ earlier (list_refusal s room) (file_refusal s)
+pub list_paper : (s : Bytes) (room : ℕ) → paper_of (list_of s room) ≡ earlier (list_refusal s room) (file_refusal s)
 unfolding list_of
 list_paper s room = paper_back (earlier (list_refusal s room) (file_refusal s)) (earlier_placed (list_refusal s room) (file_refusal s) (file_placed s))

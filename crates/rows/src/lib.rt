@@ -41,13 +41,11 @@ pub fn list(file: &[u8], rows: &mut [Row]) -> Refusal
     let n = b.count;
     let mut at = b.at;
     let mut sound = true;
-    let mut i = 0;
-    while i < n {
+    for i in 0..n {
         let t = read_step(file, at, b.latin, sound);
         rows[i] = t.row;
         at = t.next;
         sound = t.sound;
-        i += 1;
     }
     answer_list(file, b.refusal, sound)
 }

@@ -5,11 +5,14 @@ use mathlib.Core.List.{List, [], ◌∷◌, ◌++◌, append-nil}
 use Prim.Native.Nat.{ℕ, zero, suc, ◌+◌, ◌-◌, ◌<◌, ◌≤◌}
 use native.Mathlib.Numerals.{add-one}
 use native.Mathlib.Omega.{arith}
-use borrow.Author.Tests.{eq-eqb, ne_eqb}
+use borrow.Author.Tests.{eq-eqb}
 use lib.Dec.{eqb}
 use lib.ListN.{length, get_or, take, drop, take-append-drop}
 use lib.Seq.{length-take-le, append_snoc, take-suc}
-use Rattle.page.specs.Bytes.{Bytes, same}
+use lib.Pointwise.{pointwise}
+use Rattle.std.specs.Prelude.{Option, None, Some, MatchOption}
+use Rattle.std.specs.Option.{option_eq}
+use Rattle.page.specs.Bytes.{Bytes}
 use Rattle.page.specs.Lines.{lines, joined, content, command, rest, Rec}
 use Rattle.page.specs.Fields.{fields}
 use Rattle.page.specs.File.{any}
@@ -19,6 +22,8 @@ use Rattle.page.proofs.PartLaws.{part_rest}
 use Rattle.page.proofs.KeyLaws.{any_append}
 use Rattle.choices.specs.declared.Choice.{Choice}
 use Rattle.keys.specs.Numbers.{gathered}
+use Rattle.keys.specs.declared.key.Key.{Key}
+use Rattle.keys.proofs.DeriveLaws.{same_pointwise}
 use Rattle.scans.specs.Scan.{is_record, line_key, bears, again, Starts, first_line, some}
 use Rattle.page.proofs.TestLaws.{or_false}
 
@@ -132,28 +137,23 @@ any_some f d p (x ∷ xs) i h =
     let b : f x ≡ p i = rw a at (h 0 (omega arith)) in
     rw (b, any_some f d p xs (suc i) (λ j l. h (suc j) (omega arith) ∙ ap p (let n : i + suc j ≡ suc i + j = omega arith in n)))
 
--- a line's content c, its command k, what follows its `;`, and what that has in the fields of a choice
-module _ (q : Choice) (l c : Bytes) (k : ℕ) (a : c ≡ content l) (b : k ≡ command c) where
-  pub recorded : (x : Bool) → eqb k Rec ≡ x → is_record l ≡ x
-  recorded x e = rw (sym a, sym b) e
+-- a line's content c, what follows its `;`, and what that has in the fields of a choice
+pub keyed : (q : Choice) (l c : Bytes) → c ≡ content l → (w : Bytes) → w ≡ rest c → (x : List ℕ) → x ≡ gathered q (fields w) → x ≡ line_key q l
+unfolding line_key
+keyed q l c a w r x y = y ∙ ap (λ (v : Bytes). gathered q (fields v)) (r ∙ ap rest a)
 
-  pub bears_other : (key : List ℕ) → (k ≡ 11 → ⊥) → bears q key l ≡ false
+-- a line that is no record, and one that is, by what it has in the fields of a choice
+module _ (q : Choice) (l : Bytes) where
+  pub bears_keyed : (o : Option Key) (key : Key) → MatchOption o (is_record l ≡ false) (λ k. (is_record l ≡ true) × (k.k ≡ line_key q l))
+      → option_eq (λ (x y : Key). pointwise eqb x.k y.k) o (Some key) ≡ bears q key.k l
   unfolding bears
-  bears_other key n = rw (recorded false (ne_eqb k Rec n))
+  bears_keyed None key h = rw h
+  bears_keyed (Some k) key h = rw (h.0, sym h.1) (same_pointwise k.k key.k)
 
-  pub again_other : (before : List Bytes) → (k ≡ 11 → ⊥) → again q before l ≡ false
+  pub again_other : (before : List Bytes) → is_record l ≡ false → again q before l ≡ false
   unfolding again
-  again_other before n = rw (recorded false (ne_eqb k Rec n))
+  again_other before n = rw n
 
-  module _ (e : k ≡ 11) (w : Bytes) (r : w ≡ rest c) (x : List ℕ) (y : x ≡ gathered q (fields w)) where
-    pub keyed : line_key q l ≡ x
-    unfolding line_key
-    keyed = sym (y ∙ ap (λ (v : Bytes). gathered q (fields v)) (r ∙ ap rest a))
-
-    pub bears_record : (key : List ℕ) → bears q key l ≡ same x key
-    unfolding bears
-    bears_record key = rw (recorded true (eq-eqb k Rec e), keyed)
-
-    pub again_record : (before : List Bytes) → again q before l ≡ any (bears q x) before
-    unfolding again
-    again_record before = rw (recorded true (eq-eqb k Rec e), keyed)
+  pub again_keyed : (before : List Bytes) → is_record l ≡ true → (x : List ℕ) → x ≡ line_key q l → again q before l ≡ any (bears q x) before
+  unfolding again
+  again_keyed before r x y = rw (r, y)

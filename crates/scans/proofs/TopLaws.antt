@@ -3,19 +3,14 @@ use mathlib.Core.Path.{◌≡◌, refl, ◌∙◌}
 use mathlib.Core.Bool.{Bool, true, false}
 use mathlib.Core.List.{List, [], ◌∷◌, ◌++◌}
 use Prim.Native.Nat.{ℕ}
-use borrow.Author.Tests.{eq-eqb, ne_eqb}
 use Rattle.page.specs.Bytes.{Bytes, pick, same}
-use Rattle.page.specs.Lines.{content, command, rest, Rec}
-use Rattle.page.specs.Fields.{fields}
 use Rattle.page.specs.File.{any}
 use Rattle.page.proofs.KeyLaws.{any_append}
 use Rattle.page.proofs.TestLaws.{same_true, neither}
 use Rattle.choices.specs.declared.Choice.{Choice}
-use Rattle.keys.specs.Numbers.{gathered}
 use Rattle.keys.specs.Orders.{less}
 use Rattle.keys.proofs.OrderLaws.{less_self, less_new, less_top}
 use Rattle.scans.specs.Scan.{is_record, line_key, bears, again, above, rises, raised, Topped}
-use Rattle.scans.proofs.ScanLaws.{recorded, keyed}
 
 pub topped_none : (q : Choice) (k : List ℕ) → Topped q k []
 unfolding any
@@ -65,15 +60,12 @@ module _ (q : Choice) (top : List ℕ) (ls : List Bytes) (l : Bytes) (z : Topped
       by true r m = topped_line q (line_key q l) ls l (all_new q top (line_key q l) m ls z.none).1 (rw r (less_self (line_key q l)))
       by false r m = topped_line q top ls l z.none (rw r)
 
--- a line's content c, its command k, what follows its `;`, and what that has in the fields of a choice
-module _ (q : Choice) (l c : Bytes) (k : ℕ) (a : c ≡ content l) (b : k ≡ command c) (top : List ℕ) where
-  pub rises_other : (k ≡ 11 → ⊥) → (true ≡ rises q top l) × (top ≡ raised q top l)
+-- a line that is no record, and one that is, by what it has in the fields of a choice
+module _ (q : Choice) (l : Bytes) (top : List ℕ) where
+  pub rises_other : is_record l ≡ false → (rises q top l ≡ true) × (top ≡ raised q top l)
   unfolding rises raised
-  rises_other n = let r = recorded q l c k a b false (ne_eqb k Rec n) in (rw r, rw r)
+  rises_other n = (rw n, rw n)
 
-  pub rises_record : k ≡ 11 → (w : Bytes) → w ≡ rest c → (x : List ℕ) → x ≡ gathered q (fields w) → (less top x ≡ rises q top l) × (x ≡ raised q top l)
+  pub rises_keyed : is_record l ≡ true → (x : List ℕ) → x ≡ line_key q l → (rises q top l ≡ less top x) × (x ≡ raised q top l)
   unfolding rises raised
-  rises_record e w r x y =
-      let i = recorded q l c k a b true (eq-eqb k Rec e) in
-      let j = keyed q l c k a b e w r x y in
-      (rw (i, j), rw (i, j))
+  rises_keyed r x y = (rw (r, y), rw (r, y))

@@ -3,4 +3,4 @@
 
 mod scan;
 
-pub use scan::{Find, bears_key, find_rise, find_start, finds_from, is_again};
+pub use scan::{bears_key, find_from, find_rise, find_start, is_again, key_in};

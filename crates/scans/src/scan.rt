@@ -1,122 +1,84 @@
 // The records of a section by their keys: `w` is a section's bytes, or whole lines of it.
-ghost use Rattle.std.specs.Prelude.{◌≡◌, ◌-◌, ◌≤◌, length, take, drop};
+ghost use Rattle.std.specs.Prelude.{◌≡◌, true, false, ◌≤◌, length, MatchOption, MatchResult, IfSome, is_some};
 ghost use Rattle.page.specs.Lines.{lines};
 ghost use Rattle.page.specs.File.{any};
-ghost use Rattle.scans.specs.Scan.{bears, again, rises, raised, Starts};
+ghost use Rattle.scans.specs.Scan.{is_record, line_key, bears, again, rises, raised, Starts};
 
 use choices::Choice;
 use keys::Key;
-use lines::Cursor;
+use lines::lines_of;
+
+// What a record has in the fields of a choice; nothing of a line that is no record.
+pub fn key_in(line: &[u8], choice: Choice) -> Option<Key>
+    ensures { MatchOption result (is_record line.now ≡ false) (λ k. (is_record line.now ≡ true) × (k.k ≡ line_key choice line.now)) }
+{
+    if !commands::is_record(line) {
+        return None;
+    }
+    let fields = lines::rest_of(lines::content_of(line));
+    Some(keys::read_chosen(fields, choice))
+}
 
 // Is a line a record that has a key in the fields of a choice?
-pub fn bears_key(l: &[u8], choice: Choice, key: Key) -> bool
-    ensures { result ≡ bears choice key.k l.now }
+pub fn bears_key(line: &[u8], choice: Choice, key: Key) -> bool
+    ensures { result ≡ bears choice key.k line.now }
 {
-    let c = lines::content_of(l);
-    if commands::command_of(c) != commands::REC {
-        return false;
-    }
-    keys::same_key(keys::read_chosen(lines::rest_of(c), choice), key)
+    key_in(line, choice) == Some(key)
 }
 
-// Whether a search met its record, and where: the next search begins there.
-#[derive(Clone, Copy)]
-pub struct Find {
-    pub met: bool,
-    pub at: usize,
-}
-
-pub fn finds(w: &[u8], choice: Choice, key: Key) -> Find
-    ensures { (result.met ≡ any (bears choice key.k) (lines w.now)) × (result.at ≤ length w.now) }
+// Where the first record that has a key begins.
+fn find_key(w: &[u8], choice: Choice, key: Key) -> Option<usize>
+    ensures met { is_some result ≡ any (bears choice key.k) (lines w.now) }
+    ensures within { IfSome result (λ at. at ≤ length w.now) }
 {
-    let mut c = Cursor { at: 0 };
-    while c.at < w.len() {
-        let at = c.at;
-        let l = c.line(w);
-        let e = l.span.to;
-        c = l.next;
-        if bears_key(&w[at..e], choice, key) {
-            return Find { met: true, at: at };
+    for line in lines_of(w) {
+        if bears_key(line.bytes, choice, key) {
+            return Some(line.at);
         }
     }
-    Find { met: false, at: 0 }
-}
-
-// "met before": among the lines before the one at a place.
-pub fn was_met(w: &[u8], at: usize, choice: Choice, key: Key) -> bool
-    requires { at ≤ length w.now }
-    ensures { result ≡ any (bears choice key.k) (lines (take at w.now)) }
-{
-    finds(&w[..at], choice, key).met
+    None
 }
 
 // A place, if a line begins there; else the first line's.
 pub fn find_start(w: &[u8], at: usize) -> usize
     ensures { Starts w.now result }
 {
-    if at == 0 {
-        return 0;
-    }
-    if w.len() < at {
-        return 0;
-    }
-    if w[at - 1] != 10 {
+    if at == 0 || w.len() < at || w[at - 1] != b'\n' {
         return 0;
     }
     at
 }
 
 // From the line at a place on to the last, then from the first: the next record wanted often stands where the last one did, or soon after.
-pub fn finds_from(w: &[u8], at: usize, choice: Choice, key: Key) -> Find
-    ensures { result.met ≡ any (bears choice key.k) (lines w.now) }
+pub fn find_from(w: &[u8], at: usize, choice: Choice, key: Key) -> Option<usize>
+    ensures { is_some result ≡ any (bears choice key.k) (lines w.now) }
 {
     let from = find_start(w, at);
-    let ahead = finds(&w[from..], choice, key);
-    if ahead.met {
-        return Find {
-            met: true,
-            at: from + ahead.at,
-        };
+    if let Some(ahead) = find_key(&w[from..], choice, key) {
+        return Some(from + ahead);
     }
-    finds(&w[..from], choice, key)
+    find_key(&w[..from], choice, key)
 }
 
-// Is the line from a place to e a record whose key was met before?
-pub fn is_again(w: &[u8], at: usize, e: usize, choice: Choice) -> bool
-    requires { (at ≤ e) × (e ≤ length w.now) }
-    ensures { result ≡ again choice (lines (take at w.now)) (take (e - at) (drop at w.now)) }
+// "met before": is a line a record whose key stands in the lines before it?
+pub fn is_again(before: &[u8], line: &[u8], choice: Choice) -> bool
+    ensures { result ≡ again choice (lines before.now) line.now }
 {
-    let c = lines::content_of(&w[at..e]);
-    if commands::command_of(c) != commands::REC {
-        return false;
+    match key_in(line, choice) {
+        Some(key) => find_key(before, choice, key).is_some(),
+        None => false,
     }
-    let key = keys::read_chosen(lines::rest_of(c), choice);
-    was_met(w, at, choice, key)
 }
 
-// Whether a line's key lies above the largest one before it, and the largest one then. A line that is no record does not fall.
-#[derive(Clone, Copy)]
-pub struct Rise {
-    pub rises: bool,
-    pub top: Key,
-}
-
-// A key above the largest one before it is new without a search.
-pub fn find_rise(w: &[u8], at: usize, e: usize, choice: Choice, top: Key) -> Rise
-    requires { (at ≤ e) × (e ≤ length w.now) }
-    ensures { (result.rises ≡ rises choice top.k (take (e - at) (drop at w.now))) × (result.top.k ≡ raised choice top.k (take (e - at) (drop at w.now))) }
+// The largest key up to a line, if the line's own lies above the largest one before it: such a key is new without a search. A line that is no
+// record does not fall. Of one that does, its key.
+pub fn find_rise(line: &[u8], choice: Choice, top: Key) -> Result<Key, Key>
+    ensures { MatchResult result (λ k. (rises choice top.k line.now ≡ true) × (k.k ≡ raised choice top.k line.now))
+        (λ k. (rises choice top.k line.now ≡ false) × (k.k ≡ raised choice top.k line.now)) }
 {
-    let c = lines::content_of(&w[at..e]);
-    if commands::command_of(c) != commands::REC {
-        return Rise {
-            rises: true,
-            top: top,
-        };
-    }
-    let key = keys::read_chosen(lines::rest_of(c), choice);
-    let rises = keys::less_key(top, key);
-    Rise {
-        rises: rises,
-        top: key,
+    match key_in(line, choice) {
+        None => Ok(top),
+        Some(key) if top < key => Ok(key),
+        Some(key) => Err(key),
     }
 }

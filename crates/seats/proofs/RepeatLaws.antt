@@ -14,7 +14,7 @@ use Rattle.page.specs.Tables.{columns, width}
 use Rattle.page.specs.Order.{Order, arranged, column_in}
 use Rattle.page.specs.Cut.{Section, sections}
 use Rattle.page.specs.Head.{latin_of}
-use Rattle.page.specs.Records.{Record, record_in, entries, table_index, atr_in, order_in}
+use Rattle.page.specs.Records.{Record, record_in, entries, table_index, order_in}
 use Rattle.page.specs.Answers.{refusal, sound}
 use Rattle.page.specs.Rules.{Apart}
 use Rattle.page.specs.File.{any, Filed, filed_in, filed_of, same_record, key_in, key_of, has_key, repeats, first_record}
@@ -26,7 +26,6 @@ use Rattle.choices.specs.declared.Choice.{Choice}
 use Rattle.arrangement.specs.Orders.{held}
 use Rattle.tables.specs.Keys.{by_key}
 use Rattle.choices.specs.Choices.{key_choice}
-use Rattle.names.specs.Told.{Told}
 use Rattle.names.proofs.ToldLaws.{told_order}
 use Rattle.keys.specs.Numbers.{key_numbers}
 use Rattle.choices.proofs.ChoiceLaws.{has_choice}
@@ -206,35 +205,35 @@ module _ (s : Bytes) (r : Seats) (z : Ready s r) where
       ∙ faults_at (λ j x. first_record (repeat_number second) (repeats (by_key second)) [] (filed_in (latin_of s) j x)) (sections s) (repeat_number second) (λ m. repeat_line s (seat_at r m) (seat_key s second (seat_at r m)))
       (of_section second) i n (number_some second) (omega (arith, z.count)) p e
 
+-- the part of a seat in which a key may repeat
+pub scan_bounds : (s : Bytes) (a : Seat) → (a.from ≤ a.to) × (a.to ≤ length s) → (q : Choice) (to : ℕ) → to ≡ scan_end a q → (a.from ≤ to) × (to ≤ length s)
+unfolding scan_end
+scan_bounds s a h q to x = by (eqb q.kinds 0) x
+  where
+    by : (b : Bool) → to ≡ pick b a.from a.to → (a.from ≤ to) × (to ≤ length s)
+    by true y = omega (arith, h.0, h.1)
+    by false y = omega (arith, h.0, h.1)
+
 -- what a loop over one seat finds
 module _ (s : Bytes) (r : Seats) (z : Ready s r) (i : ℕ) (h : i < r.count) (a : Seat) (e : a ≡ seat_at r i) where
   pub seat_bounds : (a.from ≤ a.to) × (a.to ≤ length s)
   seat_bounds = let x = seat_sits s r z i h in rw e (x.low, x.high)
 
-  pub scan_bounds : (q : Choice) (to : ℕ) → to ≡ scan_end a q → (a.from ≤ to) × (to ≤ length s)
-  unfolding scan_end
-  scan_bounds q to x = by (eqb q.kinds 0) x
-    where
-      by : (b : Bool) → to ≡ pick b a.from a.to → (a.from ≤ to) × (to ≤ length s)
-      by true y = omega (arith, seat_bounds)
-      by false y = omega (arith, seat_bounds)
-
   -- the columns stand as its `atr` line states
-  pub seat_told : (o : List ℕ) → Told a.table (fields (atr_in (seat_lines s a))) o → Ordered s (seat_at r i) o
-  unfolding seat_order
-  seat_told o k =
+  pub seat_ordered : Ordered s a a.order
+  unfolding seat_at seat_order
+  seat_ordered =
       let x = seat_sits s r z i h in
       let b = seat_at r i in
       let y : b.table ≡ table_index (seat_lines s b) = x.table ∙ ap table_index x.lines in
       let n : i < length (sections s) = omega (arith, z.count) in
       let v = rw x.lines at (sound_here s z.sound i n).ordered in
-      let g = rw e at k in
-      record { stands = g.stands; is = told_order (seat_lines s b) b.table o y g v }
+      let g = z.stating.each i h in
+      rw e (record { stands = g.stands; is = told_order (seat_lines s b) b.table b.order y g v })
 
-  pub key_is : (second : Bool) (o : List ℕ) → Ordered s (seat_at r i) o → (q : Choice) → q ≡ key_choice (by_key second) a.table (held a.table o)
-      → q ≡ seat_key s second a
+  pub key_is : (second : Bool) (q : Choice) → q ≡ key_choice (by_key second) a.table (held a.table a.order) → q ≡ seat_key s second a
   unfolding seat_key
-  key_is second o y q x = x ∙ ap (key_choice (by_key second) a.table) (rw e y.is)
+  key_is second q x = x ∙ ap (key_choice (by_key second) a.table) seat_ordered.is
 
   pub repeat_is : (second : Bool) (q : Choice) (to n : ℕ) → q ≡ seat_key s second a → to ≡ scan_end a q
       → first_line (again q) [] 0 (lines (take (to - a.from) (drop a.from s))) ≡ n → repeat_line s (seat_at r i) (seat_key s second (seat_at r i)) ≡ n

@@ -11,7 +11,6 @@ use lib.Dec.{eqb}
 use lib.ListN.{length, get_or, take, drop, set, length-set, length-map, replicate, get_or-map}
 use lib.Seq.{drop-cons, drop-length, get_or-set_same, get_or-set_other, get_or-take, length-take-le}
 use Rattle.page.specs.Bytes.{Bytes, pick}
-use Rattle.page.specs.Lines.{lines}
 use Rattle.page.specs.Fields.{fields}
 use Rattle.page.specs.Tables.{TABLES, number_at}
 use Rattle.page.specs.Cut.{Section, sections}
@@ -26,9 +25,8 @@ use Rattle.page.proofs.CutLaws.{no_section, sections_from, sections_all, section
 use Rattle.names.specs.Told.{Told}
 use Rattle.cut.specs.Walk.{section_size, section_from, Settled, Next}
 use Rattle.cut.proofs.WalkLaws.{section_within}
-use Rattle.seats.specs.declared.seating.Columns.{Columns}
 use Rattle.seats.specs.declared.seating.Seat.{Seat}
-use Rattle.seats.specs.Seating.{no_seat, no_columns, seat_lines, Sits, Seated, Stating, again_refusal, Seating}
+use Rattle.seats.specs.Seating.{no_seat, seat_lines, Sits, Seated, Stating, Ready}
 use Rattle.seats.proofs.WalkLaws.{sound_here, Among, among}
 
 -- 17, by the places of the rows
@@ -173,23 +171,22 @@ going_first s at x seats l place w z =
 
 -- the order of the columns of each section
 
-pub stating_none : (s : Bytes) (seats : List Seat) (columns : List Columns) → Stating s 0 seats columns
-stating_none s seats columns = record { each = λ i h. absurd (omega arith) }
+pub stating_none : (s : Bytes) (seats : List Seat) → Stating s 0 seats
+stating_none s seats = record { each = λ i h. absurd (omega arith) }
 
-module _ (s : Bytes) (n : ℕ) (seats : List Seat) (columns : List Columns) (l : n < length seats) (k : n < length columns) (g : Stating s n seats columns)
-    (a : Seat) (b : Columns) (f : Told a.table (fields (atr_in (seat_lines s a))) b.order) where
-  pub stating_more : Stating s (n + 1) (set seats n a) (set columns n b)
+module _ (s : Bytes) (n : ℕ) (seats : List Seat) (l : n < length seats) (g : Stating s n seats) (a : Seat) (f : Told a.table (fields (atr_in (seat_lines s a))) a.order) where
+  pub stating_more : Stating s (n + 1) (set seats n a)
   stating_more = record { each = λ i h. by i h (eqb i n) refl }
     where
       by : (i : ℕ) → i < n + 1 → (c : Bool) → eqb i n ≡ c
-          → Told (get_or (set seats n a) i no_seat).table (fields (atr_in (seat_lines s (get_or (set seats n a) i no_seat)))) (get_or (set columns n b) i no_columns).order
+          → Told (get_or (set seats n a) i no_seat).table (fields (atr_in (seat_lines s (get_or (set seats n a) i no_seat)))) (get_or (set seats n a) i no_seat).order
       by i h true y =
           let w : i ≡ n = eqb-true i n y in
-          rw (w, get_or-set_same seats n a no_seat l, get_or-set_same columns n b no_columns k) f
+          rw (w, get_or-set_same seats n a no_seat l) f
       by i h false y =
           let w = eqb-false i n y in
           let m : i < n = omega arith in
-          rw (get_or-set_other seats n i a no_seat (λ z. omega arith), get_or-set_other columns n i b no_columns (λ z. omega arith)) (g.each i m)
+          rw (get_or-set_other seats n i a no_seat (λ z. omega arith)) (g.each i m)
 
 module _ (s : Bytes) (v : first_unsound 1 (rows_of s) ≡ sound) where
   row_table : (k : ℕ) → k < length (sections s) → (get_or (rows_of s) k (row_of (latin_of s) no_section)).table ≡ number_at (table_index (get_or (sections s) k no_section).lines)
@@ -243,50 +240,50 @@ module _ (s : Bytes) (v : first_unsound 1 (rows_of s) ≡ sound) where
             again_at (row_of (latin_of s) no_section) (rows_of s) n (omega (arith, rows_long)) (fresh n seats place g.passed g.seated) k w.0
             (row_table n i ∙ ap number_at a ∙ sym (row_table k (omega arith)))
 
-    sits_here : Sits s (get_or (sections s) n no_section) (record { table = t; from = at; to = e })
+    sits_here : (o : List ℕ) → Sits s (get_or (sections s) n no_section) (record { table = t; from = at; to = e; order = o })
     unfolding section_from
-    sits_here =
+    sits_here o =
         let i = section_within s at h in
         let k : section_size (drop at s) ≡ e - at = omega arith in
         rw here.is (record { low = omega arith; high = omega arith; lines = rw k; table = q; known = table_known })
 
-    module _ (z : get_or place t 0 ≡ 0) where
-      pub seat_room : n < TABLES
-      seat_room = omega (arith, filled_room place t (omega (arith, g.wide, table_known)) z, g.many, g.wide)
+    pub seat_room : get_or place t 0 ≡ 0 → n < TABLES
+    seat_room z = omega (arith, filled_room place t (omega (arith, g.wide, table_known)) z, g.many, g.wide)
 
+    module _ (z : get_or place t 0 ≡ 0) (o : List ℕ) where
       other_table : (i : ℕ) → i < n → (get_or seats i no_seat).table ≡ t → ⊥
       other_table i l y = let w : ◌≡◌ {A = ℕ} (suc i) 0 = sym (g.seated.placed i l) ∙ ap (λ (u : ℕ). get_or place u 0) y ∙ z in omega arith
 
-      seats_old : (i : ℕ) → i < n → get_or (set seats n (record { table = t; from = at; to = e })) i no_seat ≡ get_or seats i no_seat
-      seats_old i l = get_or-set_other seats n i (record { table = t; from = at; to = e }) no_seat (λ y. omega arith)
+      seats_old : (i : ℕ) → i < n → get_or (set seats n (record { table = t; from = at; to = e; order = o })) i no_seat ≡ get_or seats i no_seat
+      seats_old i l = get_or-set_other seats n i (record { table = t; from = at; to = e; order = o }) no_seat (λ y. omega arith)
 
-      seats_new : get_or (set seats n (record { table = t; from = at; to = e })) n no_seat ≡ record { table = t; from = at; to = e }
-      seats_new = get_or-set_same seats n (record { table = t; from = at; to = e }) no_seat (omega (arith, seat_room, g.long))
+      seats_new : get_or (set seats n (record { table = t; from = at; to = e; order = o })) n no_seat ≡ record { table = t; from = at; to = e; order = o }
+      seats_new = get_or-set_same seats n (record { table = t; from = at; to = e; order = o }) no_seat (omega (arith, seat_room z, g.long))
 
       place_new : get_or (set place t (n + 1)) t 0 ≡ suc n
       place_new = get_or-set_same place t (n + 1) 0 (omega (arith, table_known, g.wide)) ∙ add-one n
 
-      more_sits : (i : ℕ) → i < n + 1 → Sits s (get_or (sections s) i no_section) (get_or (set seats n (record { table = t; from = at; to = e })) i no_seat)
+      more_sits : (i : ℕ) → i < n + 1 → Sits s (get_or (sections s) i no_section) (get_or (set seats n (record { table = t; from = at; to = e; order = o })) i no_seat)
       more_sits i l = by (eqb i n) refl
         where
-          by : (b : Bool) → eqb i n ≡ b → Sits s (get_or (sections s) i no_section) (get_or (set seats n (record { table = t; from = at; to = e })) i no_seat)
-          by true y = let w : i ≡ n = eqb-true i n y in rw (w, seats_new) sits_here
+          by : (b : Bool) → eqb i n ≡ b → Sits s (get_or (sections s) i no_section) (get_or (set seats n (record { table = t; from = at; to = e; order = o })) i no_seat)
+          by true y = let w : i ≡ n = eqb-true i n y in rw (w, seats_new) (sits_here o)
           by false y = let w = eqb-false i n y in let k : i < n = omega arith in rw (seats_old i k) (g.seated.sits i k)
 
-      more_placed : (i : ℕ) → i < n + 1 → get_or (set place t (n + 1)) (get_or (set seats n (record { table = t; from = at; to = e })) i no_seat).table 0 ≡ suc i
+      more_placed : (i : ℕ) → i < n + 1 → get_or (set place t (n + 1)) (get_or (set seats n (record { table = t; from = at; to = e; order = o })) i no_seat).table 0 ≡ suc i
       more_placed i l = by (eqb i n) refl
         where
-          by : (b : Bool) → eqb i n ≡ b → get_or (set place t (n + 1)) (get_or (set seats n (record { table = t; from = at; to = e })) i no_seat).table 0 ≡ suc i
+          by : (b : Bool) → eqb i n ≡ b → get_or (set place t (n + 1)) (get_or (set seats n (record { table = t; from = at; to = e; order = o })) i no_seat).table 0 ≡ suc i
           by true y = let w : i ≡ n = eqb-true i n y in rw (w, seats_new) place_new
           by false y =
               let w = eqb-false i n y in
               let k : i < n = omega arith in
               rw (seats_old i k) (get_or-set_other place t (get_or seats i no_seat).table (n + 1) 0 (other_table i k) ∙ g.seated.placed i k)
 
-      more_taken : (u k : ℕ) → get_or (set place t (n + 1)) u 0 ≡ suc k → (k < n + 1) × ((get_or (set seats n (record { table = t; from = at; to = e })) k no_seat).table ≡ u)
+      more_taken : (u k : ℕ) → get_or (set place t (n + 1)) u 0 ≡ suc k → (k < n + 1) × ((get_or (set seats n (record { table = t; from = at; to = e; order = o })) k no_seat).table ≡ u)
       more_taken u k y = by (eqb u t) refl
         where
-          by : (b : Bool) → eqb u t ≡ b → (k < n + 1) × ((get_or (set seats n (record { table = t; from = at; to = e })) k no_seat).table ≡ u)
+          by : (b : Bool) → eqb u t ≡ b → (k < n + 1) × ((get_or (set seats n (record { table = t; from = at; to = e; order = o })) k no_seat).table ≡ u)
           by true a =
               let w : u ≡ t = eqb-true u t a in
               let m : suc n ≡ suc k = sym place_new ∙ rw w at y in
@@ -298,7 +295,7 @@ module _ (s : Bytes) (v : first_unsound 1 (rows_of s) ≡ sound) where
               let o = g.seated.taken u k m in
               (omega (arith, o.0), rw (seats_old k o.0) o.1)
 
-      pub going_more : (next : ℕ) → Next s e next → Going s (n + 1) next (set seats n (record { table = t; from = at; to = e })) (set place t (n + 1))
+      pub going_more : (next : ℕ) → Next s e next → Going s (n + 1) next (set seats n (record { table = t; from = at; to = e; order = o })) (set place t (n + 1))
       going_more next y =
           let m : n + 1 ≡ suc n = omega arith in
           record {
@@ -306,31 +303,24 @@ module _ (s : Bytes) (v : first_unsound 1 (rows_of s) ≡ sound) where
             settled = y.settled;
             rest = y.same ∙ ap (sections_from s) x ∙ here.rest;
             passed = omega (arith, here.within);
-            long = length-set seats n (record { table = t; from = at; to = e }) ∙ g.long;
+            long = length-set seats n (record { table = t; from = at; to = e; order = o }) ∙ g.long;
             wide = length-set place t (n + 1) ∙ g.wide;
             many = rw m (filled_set place t n (omega (arith, table_known, g.wide)) z ∙ ap suc g.many);
             seated = record { sits = more_sits; placed = more_placed; taken = more_taken };
           }
 
   -- all have their seats
-  pub going_end : (n at : ℕ) (seats : List Seat) (place : List ℕ) (columns : List Columns) → Going s n at seats place → Stating s n seats columns → length s ≤ at
-      → Seating s (record { again = 0; count = n; seats = seats; place = place; columns = columns })
-  unfolding again_refusal
-  going_end n at seats place columns g o h =
+  pub going_end : (n at : ℕ) (seats : List Seat) (place : List ℕ) → Going s n at seats place → Stating s n seats → length s ≤ at
+      → (first_again [] 1 (rows_of s) ≡ sound) × Ready s (record { count = n; seats = seats; place = place })
+  going_end n at seats place g o h =
       let e : drop n (sections s) ≡ [] = sym g.rest ∙ sections_end s at h in
-      let m : n ≡ length (sections s) = whole n (sections s) g.passed e in
-      record {
-        again = sym (again_none (row_of (latin_of s) no_section) (rows_of s) (rw (rows_long ∙ sym m) (fresh n seats place g.passed g.seated)));
-        ready = λ z. record { sound = v; count = m; few = omega (arith, filled_le place, g.many, g.wide); seated = g.seated; stating = o };
-      }
+      let m : n ≡ length (sections s) = whole n (sections s) g.passed e in (
+        again_none (row_of (latin_of s) no_section) (rows_of s) (rw (rows_long ∙ sym m) (fresh n seats place g.passed g.seated)),
+        record { sound = v; count = m; few = omega (arith, filled_le place, g.many, g.wide); seated = g.seated; stating = o },
+      )
     where
       whole : (n : ℕ) (xs : List Section) → n ≤ length xs → drop n xs ≡ [] → n ≡ length xs
       whole zero [] l e = refl
       whole zero (x ∷ xs) l e = absurd (let z : ◌≡◌ {A = ℕ} 0 1 = cc in omega arith)
       whole (suc n) [] l e = absurd (omega arith)
       whole (suc n) (x ∷ xs) l e = ap suc (whole n xs (omega arith) e)
-
-  pub going_stop : (n : ℕ) (seats : List Seat) (place : List ℕ) (columns : List Columns) → first_again [] 1 (rows_of s) ≡ refusal 17 (n + 1) 1
-      → Seating s (record { again = n + 1; count = n; seats = seats; place = place; columns = columns })
-  unfolding again_refusal
-  going_stop n seats place columns e = record { again = rw (ne_eqb (n + 1) 0 (λ z. omega arith)) (sym e); ready = λ z. absurd (omega arith) }

@@ -1,12 +1,11 @@
 -- 18, 19 and 20 of one section, by its first line at fault.
-use Rattle.std.specs.Prelude.{◌≡◌, Bool, true, false, not, List, [], ℕ, ◌-◌, ◌<◌, eqb, length, get_or, take, drop}
+use Rattle.std.specs.Prelude.{◌≡◌, Bool, true, false, not, List, [], ℕ, ◌-◌, ◌<◌, Result, Ok, Err, eqb, length, get_or, take, drop}
 use Rattle.page.specs.Bytes.{Bytes, pick}
 use Rattle.page.specs.Lines.{lines, content, rest}
 use Rattle.page.specs.Fields.{fields}
 use Rattle.page.specs.Tables.{table_at, columns}
 use Rattle.page.specs.Order.{Order, by_column}
 use Rattle.page.specs.Records.{values_of}
-use Rattle.page.specs.Answers.{sound}
 use Rattle.page.specs.File.{any, by_primary, lost, first_record, filed_of}
 use Rattle.page.specs.declared.Refusal.{Refusal}
 use Rattle.choices.specs.declared.Choice.{Choice}
@@ -59,6 +58,6 @@ unfoldable pub lost_line : Bytes → Seats → Seat → ℕ
 lost_line s r a = first_line (loses_any s r a.table (seat_order s a)) [] 0 (seat_lines s a)
 
 -- what is found among the first n sections: nothing, or the file's answer
-pub record Looked (s : Bytes) (seats : Seats) (n : ℕ) (r : Refusal) : Type 0 where
-  pub none : r.number ≡ 0 → (r ≡ sound) × ((m : ℕ) → m < n → lost_line s seats (seat_at seats m) ≡ 0)
-  pub some : (r.number ≡ 0 → ⊥) → r ≡ first_record 20 (λ before. lost (filed_of s)) [] (filed_of s)
+abbrev pub Looked : Bytes → Seats → ℕ → Result (Unit {0}) Refusal → Type 0
+Looked s seats n (Ok x) = (m : ℕ) → m < n → lost_line s seats (seat_at seats m) ≡ 0
+Looked s seats n (Err e) = (e ≡ first_record 20 (λ before. lost (filed_of s)) [] (filed_of s)) × (e.number ≡ 20)

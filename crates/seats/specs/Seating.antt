@@ -1,6 +1,6 @@
 -- Where each table of a file stands.
-use Rattle.std.specs.Prelude.{◌≡◌, List, [], ℕ, suc, ◌-◌, ◌<◌, ◌≤◌, eqb, length, get_or, take, drop}
-use Rattle.page.specs.Bytes.{Bytes, pick}
+use Rattle.std.specs.Prelude.{◌≡◌, List, [], ℕ, suc, ◌-◌, ◌<◌, ◌≤◌, Result, Ok, Err, length, get_or, take, drop}
+use Rattle.page.specs.Bytes.{Bytes}
 use Rattle.page.specs.Lines.{lines}
 use Rattle.page.specs.Fields.{fields}
 use Rattle.page.specs.Tables.{TABLES}
@@ -13,15 +13,11 @@ use Rattle.page.specs.declared.Refusal.{Refusal}
 use Rattle.arrangement.specs.Orders.{held, Stands}
 use Rattle.names.specs.Told.{Told}
 use Rattle.page.proofs.CutLaws.{no_section}
-use Rattle.seats.specs.declared.seating.Columns.{Columns}
 use Rattle.seats.specs.declared.seating.Seat.{Seat}
 use Rattle.seats.specs.declared.seating.Seats.{Seats}
 
 abbrev pub no_seat : Seat
-no_seat = record { table = 0; from = 0; to = 0 }
-
-abbrev pub no_columns : Columns
-no_columns = record { order = [] }
+no_seat = record { table = 0; from = 0; to = 0; order = [] }
 
 unfoldable pub seat_at : Seats → ℕ → Seat
 seat_at r i = get_or r.seats i no_seat
@@ -48,8 +44,8 @@ pub record Seated (s : Bytes) (n : ℕ) (seats : List Seat) (place : List ℕ) :
   pub taken : (t k : ℕ) → get_or place t 0 ≡ suc k → (k < n) × ((get_or seats k no_seat).table ≡ t)
 
 -- the columns of each of the first n sections stand as its `atr` line states
-pub record Stating (s : Bytes) (n : ℕ) (seats : List Seat) (columns : List Columns) : Type 0 where
-  pub each : (i : ℕ) → i < n → Told (get_or seats i no_seat).table (fields (atr_in (seat_lines s (get_or seats i no_seat)))) (get_or columns i no_columns).order
+pub record Stating (s : Bytes) (n : ℕ) (seats : List Seat) : Type 0 where
+  pub each : (i : ℕ) → i < n → Told (get_or seats i no_seat).table (fields (atr_in (seat_lines s (get_or seats i no_seat)))) (get_or seats i no_seat).order
 
 -- a file of sound sections with each table at most once
 pub record Ready (s : Bytes) (r : Seats) : Type 0 where
@@ -57,17 +53,14 @@ pub record Ready (s : Bytes) (r : Seats) : Type 0 where
   pub count : r.count ≡ length (sections s)
   pub few : r.count ≤ TABLES
   pub seated : Seated s r.count r.seats r.place
-  pub stating : Stating s r.count r.seats r.columns
+  pub stating : Stating s r.count r.seats
 
 -- an array holds the order of the columns at a seat
 pub record Ordered (s : Bytes) (a : Seat) (o : List ℕ) : Type 0 where
   pub stands : Stands a.table o
   pub is : held a.table o ≡ seat_order s a
 
--- 17: "the second table's line 1"
-unfoldable pub again_refusal : ℕ → Refusal
-again_refusal i = pick (eqb i 0) sound (record { number = 17; section = i; line = 1 })
-
-pub record Seating (s : Bytes) (r : Seats) : Type 0 where
-  pub again : again_refusal r.again ≡ first_again [] 1 (rows_of s)
-  pub ready : r.again ≡ 0 → Ready s r
+-- 17: "the second table's line 1"; or where each table stands
+abbrev pub Seating : Bytes → Result Seats Refusal → Type 0
+Seating s (Ok r) = (first_again [] 1 (rows_of s) ≡ sound) × Ready s r
+Seating s (Err e) = (first_again [] 1 (rows_of s) ≡ e) × (e.number ≡ 0 → ⊥)

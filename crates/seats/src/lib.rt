@@ -3,4 +3,4 @@
 
 mod seating;
 
-pub use seating::{Seat, Seats, find_order, find_seat, seat_tables};
+pub use seating::{Seat, Seats, seat_tables};

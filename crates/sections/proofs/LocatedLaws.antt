@@ -1,4 +1,5 @@
 -- "the first of 1, 2, 24 for the section". Assumes nothing.
+use Rattle.std.specs.Prelude.{Err, Ok}
 use mathlib.Core.Path.{◌≡◌, ap, sym, ◌∙◌}
 use mathlib.Core.Bool.{true, false}
 use Prim.Native.Nat.{ℕ, ◌-◌, ◌<◌}
@@ -13,26 +14,25 @@ use Rattle.page.specs.File.{header_refusal}
 use Rattle.page.specs.Reading.{outside, section_at, find_refusal}
 use Rattle.page.specs.declared.Refusal.{Refusal}
 use Rattle.page.proofs.LimitLaws.{header_short}
-use Rattle.sections.specs.declared.walk.Located.TheVariants as L
 use Rattle.cut.specs.Walk.{section_from, Reached}
 use Rattle.cut.proofs.ReachLaws.{reach_here}
 use Rattle.sections.specs.Located.{located, Locates}
 
 module _ (s : Bytes) (i : ℕ) where
-  pub refused_header : (x : Refusal) → x ≡ header_refusal s → (x.number ≡ 0 → ⊥) → (L.Refused x ≡ located s i) × Locates s i (L.Refused x)
+  pub refused_header : (x : Refusal) → x ≡ header_refusal s → (x.number ≡ 0 → ⊥) → (Err x ≡ located s i) × Locates s i (Err x)
   unfolding located find_refusal earlier
   refused_header x e n =
       let b : eqb (header_refusal s).number 0 ≡ false = rw e at (ne_eqb x.number 0 n) in
       (rw (b, b, e), (n, rw (b, e)))
 
   module _ (x : Refusal) (e : x ≡ header_refusal s) (z : x.number ≡ 0) where
-    pub refused_none : outside i (length (sections s)) ≡ true → (y : Refusal) → y ≡ refusal 24 0 0 → (L.Refused y ≡ located s i) × Locates s i (L.Refused y)
+    pub refused_none : outside i (length (sections s)) ≡ true → (y : Refusal) → y ≡ refusal 24 0 0 → (Err y ≡ located s i) × Locates s i (Err y)
     unfolding located find_refusal earlier refuse_if
     refused_none o y q =
         let b : eqb (header_refusal s).number 0 ≡ true = rw e at (eq-eqb x.number 0 z) in
         (rw (b, o, q), (rw q (λ (w : ◌≡◌ {A = ℕ} 24 0). omega arith), rw (b, o, q)))
 
-    pub located_at : (at : ℕ) → (i ≡ 0 → ⊥) → at < length s → Reached s (i - 1) at → (L.At at ≡ located s i) × Locates s i (L.At at)
+    pub located_at : (at : ℕ) → (i ≡ 0 → ⊥) → at < length s → Reached s (i - 1) at → (Ok at ≡ located s i) × Locates s i (Ok at)
     unfolding located find_refusal earlier refuse_if outside section_at section_from
     located_at at n h r =
         let b : eqb (header_refusal s).number 0 ≡ true = rw e at (eq-eqb x.number 0 z) in

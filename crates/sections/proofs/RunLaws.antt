@@ -1,5 +1,6 @@
 -- The machine at a place of a section's bytes, and how fast it counts. Assumes nothing.
-use mathlib.Core.Path.{◌≡◌, ap, sym, ◌∙◌}
+use Rattle.std.specs.Prelude.{Err, Ok, Result}
+use mathlib.Core.Path.{◌≡◌, refl, ap, sym, ◌∙◌}
 use mathlib.Core.Bool.{Bool, true, false}
 use mathlib.Core.List.{List}
 use Prim.Native.Nat.{ℕ, ◌+◌, ◌-◌, ◌<◌, ◌≤◌}
@@ -16,8 +17,6 @@ use Rattle.page.specs.declared.Remark.{Remark}
 use Rattle.page.specs.declared.Remark.TheVariants as R
 use Rattle.page.specs.declared.Phase.{Phase}
 use Rattle.page.specs.declared.Phase.TheVariants as P
-use Rattle.page.specs.declared.Step.{Step}
-use Rattle.page.specs.declared.Step.TheVariants as S
 use Rattle.page.specs.declared.Outcome.{Outcome}
 use Rattle.page.proofs.ScanLaws.{part_length}
 use Rattle.page.proofs.LineLaws.{line_size, lines_end, joined_lines}
@@ -28,13 +27,13 @@ use Rattle.cut.specs.Walk.{section_size, section_from}
 
 -- the line at a place, that ends at e
 module _ (s : Bytes) (at e : ℕ) (h : at < length s) (q : e ≡ at + line_size (drop at s)) (latin : Bool) (p : Phase) (o : Order) (n : ℕ)
-    (r : Step) (x : r ≡ step latin p o (take (e - at) (drop at s))) where
-  pub turn_go : (p' : Phase) → r ≡ S.Go p' → (a : List ℕ) → Carried p p' o (content (take (e - at) (drop at s))) a
+    (r : Result Phase ℕ) (x : r ≡ step latin p o (take (e - at) (drop at s))) where
+  pub turn_go : (p' : Phase) → r ≡ Ok p' → (a : List ℕ) → Carried p p' o (content (take (e - at) (drop at s))) a
       → run latin p o n (lines (drop at s)) ≡ run latin p' (order_at p' a) (n + 1) (lines (drop e s))
   unfolding continue
   turn_go p' g a k = run_more s at e h q latin p o n ∙ rw (sym x ∙ g, k.is)
 
-  pub turn_stop : (v : ℕ) → r ≡ S.Stop v → run latin p o n (lines (drop at s)) ≡ refused (table_in p) v (n + 1)
+  pub turn_stop : (v : ℕ) → r ≡ Err v → run latin p o n (lines (drop at s)) ≡ refused (table_in p) v (n + 1)
   unfolding continue
   turn_stop v g = run_more s at e h q latin p o n ∙ rw (sym x ∙ g)
 
@@ -58,12 +57,21 @@ pub run_end : (s : Bytes) (at : ℕ) (latin : Bool) (p : Phase) (o : Order) (n :
 unfolding run
 run_end s at latin p o n h = rw (lines_end s at h)
 
--- a step counts at most one record
-data Small (m : ℕ) : Step → Type 0 where
-  goes : {p : Phase} → records_in p ≤ m → Small m (S.Go p)
-  stops : {v : ℕ} → Small m (S.Stop v)
+-- a section that ends without `end`
+pub finish_early : (p : Phase) (n : ℕ) → ((t k : ℕ) → p ≡ P.Ended t k → ⊥) → refused (table_in p) 6 n ≡ finish p n
+unfolding finish table_in
+finish_early P.Tbl n h = refl
+finish_early (P.Atr t) n h = refl
+finish_early (P.Frm t) n h = refl
+finish_early (P.Rows t m k) n h = refl
+finish_early (P.Ended t k) n h = absurd (h t k refl)
 
-if : {m : ℕ} (b : Bool) {x y : Step} → Small m x → Small m y → Small m (choose b x y)
+-- a step counts at most one record
+data Small (m : ℕ) : Result Phase ℕ → Type 0 where
+  goes : {p : Phase} → records_in p ≤ m → Small m (Ok p)
+  stops : {v : ℕ} → Small m (Err v)
+
+if : {m : ℕ} (b : Bool) {x y : Result Phase ℕ} → Small m x → Small m y → Small m (choose b x y)
 unfolding choose
 if true f g = f
 if false f g = g
@@ -112,11 +120,11 @@ small_step : (latin : Bool) (p : Phase) (o : Order) (l : Bytes) → Small (recor
 unfolding step content_step
 small_step latin p o l = if _ (if _ (goes {p = p} (omega arith)) (if _ stops (if _ (small_com p o _) (small_line p o _ _)))) stops
 
-taken : {m : ℕ} {x : Step} → Small m x → (q : Phase) → x ≡ S.Go q → records_in q ≤ m
+taken : {m : ℕ} {x : Result Phase ℕ} → Small m x → (q : Phase) → x ≡ Ok q → records_in q ≤ m
 taken (goes {p} h) q e = let z : p ≡ q = cc in rw z at h
 taken stops q e = absurd (let z : ◌≡◌ {A = ℕ} 0 1 = cc in omega arith)
 
-pub step_small : (latin : Bool) (p q : Phase) (o : Order) (l : Bytes) → step latin p o l ≡ S.Go q → records_in q ≤ records_in p + 1
+pub step_small : (latin : Bool) (p q : Phase) (o : Order) (l : Bytes) → step latin p o l ≡ Ok q → records_in q ≤ records_in p + 1
 step_small latin p q o l e = taken (small_step latin p o l) q e
 
 -- the row of the section at a place, from its lines' answer

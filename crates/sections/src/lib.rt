@@ -8,4 +8,4 @@ mod walk;
 
 pub use answers::section;
 pub use reading::read_section;
-pub use walk::{Located, locate, refuse_with};
+pub use walk::{locate, refuse_with};

@@ -8,10 +8,10 @@ ghost use Rattle.cut.specs.Walk.{section_from};
 use crate::records::skip_records;
 use arrangement::list_columns;
 use cut::section_end;
-use lines::Cursor;
+use lines::lines_from;
 use machine::step;
-use page::{Outcome, Phase, Row, Step};
-use tables::{HIGHS, KINDS, LOWS, MARKS, find_number};
+use page::{Outcome, Phase, Row};
+use tables::find_number;
 
 // "Table number is 0 if the `tbl` line fails."
 fn table_in(p: Phase) -> u32
@@ -19,10 +19,7 @@ fn table_in(p: Phase) -> u32
 {
     match p {
         Phase::Tbl => 0,
-        Phase::Atr(t) => find_number(t),
-        Phase::Frm(t) => find_number(t),
-        Phase::Rows(t, _, _) => find_number(t),
-        Phase::Ended(t, _) => find_number(t),
+        Phase::Atr(t) | Phase::Frm(t) | Phase::Rows(t, _, _) | Phase::Ended(t, _) => find_number(t),
     }
 }
 
@@ -30,10 +27,10 @@ fn refuse(table: u32, verdict: u32, line: usize) -> Outcome
     ensures { result ≡ refused table verdict line }
 {
     Outcome {
-        table: table,
+        table,
         records: 0,
-        verdict: verdict,
-        line: line,
+        verdict,
+        line,
     }
 }
 
@@ -42,56 +39,42 @@ fn finish(p: Phase, n: usize) -> Outcome
     ensures { result ≡ finish p n }
 {
     match p {
-        Phase::Tbl => refuse(0, 6, n),
-        Phase::Atr(t) => refuse(find_number(t), 6, n),
-        Phase::Frm(t) => refuse(find_number(t), 6, n),
-        Phase::Rows(t, _, _) => refuse(find_number(t), 6, n),
-        Phase::Ended(t, k) => Outcome {
+        Phase::Ended(t, records) => Outcome {
             table: find_number(t),
-            records: k,
+            records,
             verdict: 0,
             line: 0,
         },
+        _ => refuse(table_in(p), 6, n),
     }
 }
 
-// "A section gives its first failing line": s is the section's bytes. The rows of all columns are asked for once.
+// "A section gives its first failing line": s is the section's bytes.
 pub fn read_lines(s: &[u8], latin: bool) -> Outcome
     ensures { result ≡ outcome latin (lines s.now) }
 {
-    let kinds = KINDS;
-    let marks = MARKS;
-    let lows = LOWS;
-    let highs = HIGHS;
-    let mut c = Cursor { at: 0 };
+    let mut at = 0;
     let mut n: usize = 0;
     let mut p = Phase::Tbl;
     let mut o = list_columns();
-    while c.at < s.len() {
-        let r = skip_records(s, c.at, p, &o, latin, &kinds, &marks, &lows, &highs);
-        let at = r.at;
+    // No `for` over the lines: whole runs of records are passed between two of them.
+    loop {
+        let r = skip_records(s, at, p, &o, latin);
         n += r.count;
         p = r.phase;
-        if s.len() <= at {
+        let Some(line) = lines_from(s, r.at).next() else {
             return finish(p, n);
-        }
-        let l = Cursor { at: at }.line(s);
-        let e = l.span.to;
-        let m = step(&s[at..e], p, o, latin);
-        let st = m.step;
-        o = m.order;
+        };
         n += 1;
-        c = l.next;
-        match st {
-            Step::Go(q) => {
-                p = q;
+        match step(line.bytes, p, o, latin) {
+            Ok(m) => {
+                p = m.phase;
+                o = m.order;
             }
-            Step::Stop(v) => {
-                return refuse(table_in(p), v, n);
-            }
+            Err(v) => return refuse(table_in(p), v, n),
         }
+        at = line.end();
     }
-    finish(p, n)
 }
 
 // "table number, place, length, record count and verdict"

@@ -6,13 +6,6 @@ ghost use Rattle.sections.specs.Located.{located, Locates};
 use cut::find_nth;
 use page::Refusal;
 
-// A section's place, or why there is none.
-#[derive(Clone, Copy)]
-pub enum Located {
-    At(usize),
-    Refused(Refusal),
-}
-
 pub fn refuse_with(number: u32) -> Refusal
     ensures { result ≡ refusal number 0 0 }
 {
@@ -24,19 +17,19 @@ pub fn refuse_with(number: u32) -> Refusal
 }
 
 // "the first of 1, 2, 24 for the section": section i, from 1.
-pub fn locate(file: &[u8], i: usize) -> Located
+pub fn locate(file: &[u8], i: usize) -> Result<usize, Refusal>
     ensures { (result ≡ located file.now i) × Locates file.now i result }
 {
     let x = headers::refuse_header(file);
     if x.number != 0 {
-        return Located::Refused(x);
+        return Err(x);
     }
     if i == 0 {
-        return Located::Refused(refuse_with(24));
+        return Err(refuse_with(24));
     }
     let at = find_nth(file, i - 1);
     if file.len() <= at {
-        return Located::Refused(refuse_with(24));
+        return Err(refuse_with(24));
     }
-    Located::At(at)
+    Ok(at)
 }

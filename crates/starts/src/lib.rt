@@ -10,14 +10,11 @@ use tables::{WIDEST, find_width};
 pub fn find_starts(w: &[u8], t: usize) -> [usize; WIDEST]
     ensures { (p : ℕ) → p < width t → get_or result p 0 ≡ field_place p 0 w.now }
 {
-    let n = find_width(t);
     let mut starts = [0; WIDEST];
     let mut at = 0;
-    let mut k = 0;
-    while k < n {
+    for k in 0..find_width(t) {
         starts[k] = at;
         at = commands::field_end(w, at) + 1;
-        k += 1;
     }
     starts
 }

@@ -7,7 +7,7 @@ ghost use Rattle.steps.specs.Steps.{Begins, stays, step_by, refused, start_of};
 
 use page::{Refusal, Row};
 
-// What a pass over a file's sections begins with: the refusal, or how many rows it writes, where the first section stands, and
+// What a pass over a file's sections begins with, as `Steps.start_of` has it: the refusal, or how many rows it writes, where the first section stands, and
 // whether the header names ISO8859-1.
 #[derive(Clone, Copy)]
 pub struct Start {
@@ -62,8 +62,8 @@ pub fn begin_list(file: &[u8], room: usize) -> Start
             line: 0,
         },
         count: n,
-        at: at,
-        latin: latin,
+        at,
+        latin,
     }
 }
 
@@ -71,10 +71,7 @@ pub fn begin_list(file: &[u8], room: usize) -> Start
 fn stay_sound(before: bool, verdict: u32) -> bool
     ensures { result ≡ stays before verdict }
 {
-    if verdict != 0 {
-        return false;
-    }
-    before
+    verdict == 0 && before
 }
 
 // The section that begins at `at` has this row; `before`: all before it are sound.
@@ -84,9 +81,5 @@ pub fn step_over(file: &[u8], at: usize, row: Row, before: bool) -> Step
 {
     let next = cut::find_section(file, at + row.length);
     let sound = stay_sound(before, row.verdict);
-    Step {
-        row: row,
-        next: next,
-        sound: sound,
-    }
+    Step { row, next, sound }
 }

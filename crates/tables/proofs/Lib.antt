@@ -1,2 +1,4 @@
 pub mod ArrayLaws
+pub mod FlatLaws
 pub mod ReferenceLaws
+pub mod RowLaws

@@ -1,24 +1,23 @@
 -- What holds of each reference is computed over the one list of tables. Assumes nothing.
-use mathlib.Core.Path.{◌≡◌, refl, ap, ◌∙◌}
+use mathlib.Core.Path.{◌≡◌, refl, ap, sym, ◌∙◌}
 use mathlib.Core.Bool.{Bool, true, false, not, ◌&&◌, ◌||◌}
 use mathlib.Core.List.{List, [], ◌∷◌, map}
 use Prim.Native.Nat.{ℕ, zero, suc, ◌+◌, ◌<◌, ◌≤◌}
+use native.Mathlib.Nat.{add-zero}
 use native.Mathlib.Omega.{arith}
-use lib.Dec.{eqb, ltb, leb}
-use lib.ListN.{length, get_or, get_or-eq_default}
-use borrow.Author.Tests.{eqb-true, leb-true, ltb-true, ne_eqb}
+use lib.Dec.{eqb, leb}
+use lib.ListN.{length, get_or, get_or-map}
+use lib.Seq.{ext_get_or}
+use borrow.Author.Tests.{eqb-true, leb-true}
 use Rattle.page.specs.Bytes.{bytes, pick, same}
 use Rattle.page.specs.Lines.{find}
-use Rattle.page.specs.Tables.{Named, Reference, Table, all_tables, TABLES, WIDEST, MOST, no_column, table_at, columns, width, table_named}
-use Rattle.page.specs.Order.{upto}
+use Rattle.page.specs.Tables.{Named, Reference, Table, all_tables, WIDEST, no_column, table_at, columns, column_at, table_named}
 use Rattle.page.specs.File.{any, by_primary, by_second}
 use Rattle.page.specs.declared.Column.{Column}
-use Rattle.page.proofs.TestLaws.{and_left, and_right, same_true}
-use Rattle.page.proofs.KeyLaws.{any_no}
-use Rattle.page.proofs.TableLaws.{each, each_at, table_test, width_le, references_le, past_tables}
-use Rattle.tables.specs.Arrays.{fill, flat, row_given, marks, Flagged, either}
-use Rattle.tables.specs.Keys.{no_reference, reference_at, target_at, flags, refer_columns}
-use Rattle.tables.proofs.ArrayLaws.{map_upto, flagged_is}
+use Rattle.page.proofs.TestLaws.{same_true}
+use Rattle.page.proofs.TableLaws.{each, each_at, table_test}
+use Rattle.tables.specs.Keys.{by_key, key_columns, no_reference, reference_at, flags, refer_columns}
+use Rattle.tables.proofs.ArrayLaws.{fill_is}
 
 pub reference_test : (p : Table → Reference → Bool) → ((x : Table) → p x no_reference ≡ true)
     → each (λ (x : Table). each (p x) x.references) all_tables ≡ true → (t r : ℕ) → p (table_at t) (reference_at t r) ≡ true
@@ -105,104 +104,38 @@ pub primary_counts : (t : ℕ) → each primary_count (columns t) ≡ true
 unfolding all_tables each columns
 primary_counts t = table_test (λ (x : Table). each primary_count x.columns) refl refl t
 
--- past the references of a table, and past the tables
-past_references : (t r : ℕ) → MOST ≤ r → reference_at t r ≡ no_reference
-unfolding reference_at
-past_references t r h = get_or-eq_default (table_at t).references no_reference (let l = references_le t in omega arith)
+-- a key's columns, and those of a reference, place by place
 
-past_table_references : (t r : ℕ) → TABLES ≤ t → reference_at t r ≡ no_reference
-unfolding reference_at
-past_table_references t r h = rw (past_tables t h)
+key_none : (b : Bool) → false ≡ by_key b no_column.column
+key_none true = refl
+key_none false = refl
 
--- the columns of a key, by their letters
-
-pub primary_told : map (either 80 66) marks ≡ row_given (λ (c : Named). c.column.primary)
-unfolding marks row_given flat all_tables
-primary_told = refl
-
-pub second_told : map (either 67 66) marks ≡ row_given (λ (c : Named). c.column.second)
-unfolding marks row_given flat all_tables
-second_told = refl
-
--- the columns of the reference r of each table: `x`, else a dot
-
-unfoldable pub refer_row : ℕ → List Bool
-refer_row r = flat (λ (x : Table). flags (length x.columns) 0 (get_or x.references r no_reference).columns) all_tables
-
-unfoldable pub refer_rows : List (List ℕ)
-refer_rows = map (λ (r : ℕ). map (λ (b : Bool). pick b 120 46) (refer_row r)) (upto 0 MOST)
-
-letters_told : (bs : List Bool) → map (either 120 120) (map (λ (b : Bool). pick b 120 46) bs) ≡ bs
-letters_told [] = refl
-letters_told (true ∷ bs) = ap (λ (l : List Bool). true ∷ l) (letters_told bs)
-letters_told (false ∷ bs) = ap (λ (l : List Bool). false ∷ l) (letters_told bs)
-
-row_told : (r : ℕ) → r < MOST → map (either 120 120) (get_or refer_rows r []) ≡ refer_row r
-unfolding refer_rows
-row_told r h = ap (map (either 120 120)) (map_upto (λ (r : ℕ). map (λ (b : Bool). pick b 120 46) (refer_row r)) MOST r [] h) ∙ letters_told (refer_row r)
+pub key_is : (b : Bool) (t : ℕ) (r : List Bool) → length r ≡ WIDEST → ((k : ℕ) → k < WIDEST → get_or r k false ≡ by_key b (column_at t k))
+    → r ≡ key_columns (by_key b) t
+unfolding key_columns column_at
+key_is b t r l h =
+    let f : Named → Bool = λ c. by_key b c.column in
+    fill_is WIDEST false (map f (columns t)) r l
+    (λ k i. h k i ∙ sym (get_or-map f (columns t) k no_column) ∙ ap (get_or (map f (columns t)) k) (sym (key_none b)))
 
 flags_length : (n i : ℕ) (ks : List ℕ) → length (flags n i ks) ≡ n
 unfolding flags
 flags_length zero i ks = refl
 flags_length (suc n) i ks = ap suc (flags_length n (suc i) ks)
 
--- past the columns no place is flagged
+flags_at : (n i k : ℕ) (ks : List ℕ) → k < n → get_or (flags n i ks) k false ≡ any (eqb (i + k)) ks
+unfolding flags
+flags_at zero i k ks h = absurd (omega arith)
+flags_at (suc n) i zero ks h = rw add-zero
+flags_at (suc n) i (suc k) ks h = let z : i + suc k ≡ suc i + k = omega arith in rw z (flags_at n (suc i) k ks (omega arith))
 
-pub flags_none : (m i : ℕ) (ks : List ℕ) → ((j : ℕ) → j < length ks → get_or ks j 0 < i) → fill m false [] ≡ flags m i ks
-unfolding fill flags
-flags_none zero i ks h = refl
-flags_none (suc m) i ks h =
-    rw (any_no (eqb i) 0 ks (λ j l. ne_eqb i (get_or ks j 0) (λ e. omega (arith, h j l))))
-    (ap (λ (l : List Bool). false ∷ l) (flags_none m (suc i) ks (λ j l. omega (arith, h j l))))
-
-flags_fill : (n m i : ℕ) (ks : List ℕ) → n ≤ m → ((j : ℕ) → j < length ks → get_or ks j 0 < i + n) → fill m false (flags n i ks) ≡ flags m i ks
-unfolding fill flags
-flags_fill zero m i ks l h = flags_none m i ks (λ j k. omega (arith, h j k))
-flags_fill (suc n) zero i ks l h = absurd (omega arith)
-flags_fill (suc n) (suc m) i ks l h =
-    ap (λ (r : List Bool). any (eqb i) ks ∷ r) (flags_fill n m (suc i) ks (omega arith) (λ j k. omega (arith, h j k)))
-
-each_there : {A : Type 0} (p : A → Bool) (d : A) (l : List A) → each p l ≡ true → (j : ℕ) → j < length l → p (get_or l j d) ≡ true
-unfolding each
-each_there p d [] e j h = absurd (omega arith)
-each_there p d (x ∷ l) e zero h = and_left (p x) (each p l) e
-each_there p d (x ∷ l) e (suc j) h = each_there p d l (and_right (p x) (each p l) e) j (omega arith)
-
-columns_within : (t r j : ℕ) → j < length (reference_at t r).columns → get_or (reference_at t r).columns j 0 < width t
-unfolding all_tables each width columns
-columns_within t r j h =
-    ltb-true _ _
-    (each_there (λ (k : ℕ). ltb k (length (table_at t).columns)) 0 (reference_at t r).columns
-    (reference_test (λ x (y : Reference). each (λ (k : ℕ). ltb k (length x.columns)) y.columns) (λ x. refl) refl t r) j h)
-
-pub refer_told : (t r : ℕ) (x : List Bool) → r < MOST → Flagged (either 120 120) t (get_or refer_rows r []) x → x ≡ refer_columns t r
-unfolding refer_row refer_columns reference_at width columns
-refer_told t r x h y =
-    flagged_is (either 120 120) (get_or refer_rows r [])
-    (λ (x : Table). flags (length x.columns) 0 (get_or x.references r no_reference).columns) (row_told r h)
-    (λ x. flags_length (length x.columns) 0 (get_or x.references r no_reference).columns) t x y
-    ∙ flags_fill (width t) WIDEST 0 (reference_at t r).columns (width_le t) (λ j l. omega (arith, columns_within t r j l))
-
-pub refer_past : (t r : ℕ) → MOST ≤ r → fill WIDEST false [] ≡ refer_columns t r
+pub refer_is : (t j : ℕ) (r : List Bool) → length r ≡ WIDEST → ((k : ℕ) → k < WIDEST → get_or r k false ≡ any (eqb k) (reference_at t j).columns)
+    → r ≡ refer_columns t j
 unfolding refer_columns
-refer_past t r h = rw (past_references t r h) (flags_none WIDEST 0 [] (λ j l. absurd (omega arith)))
-
--- the tables that the references go to
-
-unfoldable pub targets : List (List ℕ)
-targets = map (λ (t : ℕ). map (target_at t) (upto 0 MOST)) (upto 0 TABLES)
-
-pub target_told : (t r : ℕ) → t < TABLES → r < MOST → get_or (get_or targets t []) r 0 ≡ target_at t r
-unfolding targets
-target_told t r h l =
-    ap (λ (x : List ℕ). get_or x r 0) (map_upto (λ (t : ℕ). map (target_at t) (upto 0 MOST)) TABLES t [] h) ∙ map_upto (target_at t) MOST r 0 l
-
-no_target : (t r : ℕ) → reference_at t r ≡ no_reference → TABLES ≡ target_at t r
-unfolding target_at table_named find same bytes all_tables
-no_target t r e = rw e
-
-pub target_past : (t r : ℕ) → MOST ≤ r → TABLES ≡ target_at t r
-target_past t r h = no_target t r (past_references t r h)
-
-pub target_past_table : (t r : ℕ) → TABLES ≤ t → TABLES ≡ target_at t r
-target_past_table t r h = no_target t r (past_table_references t r h)
+refer_is t j r l h =
+    let ks = (reference_at t j).columns in
+    ext_get_or false r (flags WIDEST 0 ks) (l ∙ sym (flags_length WIDEST 0 ks))
+    (λ k m.
+    let i : k < WIDEST = omega arith in
+    let z : 0 + k ≡ k = omega arith in
+    h k i ∙ sym (rw z at (flags_at WIDEST 0 k ks i)))

@@ -1,11 +1,10 @@
--- What the code asks of a table's keys, references and rules.
-use Rattle.std.specs.Prelude.{Bool, true, false, List, [], ◌∷◌, ◌++◌, map, ℕ, zero, suc, eqb, get_or}
+-- What the code asks of a table's keys and references.
+use Rattle.std.specs.Prelude.{Bool, true, false, List, [], ◌∷◌, map, ℕ, zero, suc, eqb, get_or}
 use Rattle.page.specs.Bytes.{bytes}
-use Rattle.page.specs.Tables.{Named, Reference, Rule, points_differ, feeder_combined, WIDEST, columns, table_at, table_named, to}
+use Rattle.page.specs.Tables.{Named, Reference, WIDEST, columns, table_at, table_named, to}
 use Rattle.page.specs.File.{any, by_primary, by_second}
 use Rattle.page.specs.declared.Column.{Column}
 use Rattle.tables.specs.Arrays.{fill}
-use Rattle.tables.specs.declared.columns.Rules.{Rules}
 
 -- the primary key, or the second one
 abbrev pub by_key : Bool → Column → Bool
@@ -33,15 +32,3 @@ flags (suc n) i ks = any (eqb i) ks ∷ flags n (suc i) ks
 
 unfoldable pub refer_columns : ℕ → ℕ → List Bool
 refer_columns t r = flags WIDEST 0 (reference_at t r).columns
-
--- the rules of a table by their columns; 0: it does not have the rule
-abbrev pub points_rule : ℕ → List Rule
-points_rule zero = []
-points_rule (suc p) = points_differ (suc p) ∷ []
-
-abbrev pub feeder_rule : ℕ → ℕ → List Rule
-feeder_rule zero x = []
-feeder_rule (suc c) x = feeder_combined (suc c) x ∷ []
-
-unfoldable pub rules_of : Rules → List Rule
-rules_of r = points_rule r.points ++ feeder_rule r.feeder r.texts

@@ -1,2 +1,4 @@
 pub mod Arrays
+pub mod Flat
 pub mod Keys
+pub mod Rows

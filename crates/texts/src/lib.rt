@@ -1,32 +1,31 @@
 // A value that stands in the file, handed out: a text's own bytes, and whose it is.
 #![tactic(auto)]
 
-ghost use Rattle.std.specs.Prelude.{◌≡◌};
+ghost use Rattle.std.specs.Prelude.{◌≡◌, Err};
 ghost use Rattle.page.specs.Answers.{refusal};
 ghost use Rattle.page.specs.declared.Value.TheVariants as Va;
-ghost use Rattle.page.specs.declared.Handed.TheVariants as Ha;
 ghost use Rattle.texts.specs.Own.{Lies, Spans, owned, Gave};
 
-use page::{Copied, Handed, Owner, Refusal, Text, Value, Written};
+use page::{Copied, Owner, Refusal, Text, Value};
 
 // "Each text handed out says whose it is."
-fn tell_owner(w: Written, owner: Owner) -> Handed
+fn tell_owner(w: Result<usize, Refusal>, owner: Owner) -> Result<Copied, Refusal>
     ensures { result ≡ owned owner w }
 {
     match w {
-        Written::Length(n) => Handed::Is(Copied {
+        Ok(n) => Ok(Copied {
             length: n,
             owner: owner,
         }),
-        Written::Refused(x) => Handed::Refused(x),
+        Err(x) => Err(x),
     }
 }
 
 // "not a text": a number, missing or not.
-fn refuse_number() -> Handed
-    ensures { result ≡ Ha.Refused (refusal 11 0 0) }
+fn refuse_number() -> Result<Copied, Refusal>
+    ensures { result ≡ Err (refusal 11 0 0) }
 {
-    Handed::Refused(Refusal {
+    Err(Refusal {
         number: 11,
         section: 0,
         line: 0,
@@ -34,7 +33,7 @@ fn refuse_number() -> Handed
 }
 
 // A text by its place in the file, between the quotes.
-fn hand_words(file: &[u8], x: Text, out: &mut [u8]) -> Handed
+fn hand_words(file: &[u8], x: Text, out: &mut [u8]) -> Result<Copied, Refusal>
     requires { Lies file.now x.from x.to }
     ensures { Gave file.now (Va.Words x) out.old out.new result }
 {
@@ -50,7 +49,7 @@ fn hand_words(file: &[u8], x: Text, out: &mut [u8]) -> Handed
 }
 
 // A value that stands in the file: "11 if it is a number".
-pub fn hand_value(file: &[u8], v: Value, out: &mut [u8]) -> Handed
+pub fn hand_value(file: &[u8], v: Value, out: &mut [u8]) -> Result<Copied, Refusal>
     requires { Spans file.now v }
     ensures { Gave file.now v out.old out.new result }
 {

@@ -1,24 +1,14 @@
 -- "Where an answer is an enum, a definition gives this paper's number and values for each of its cases": number 0 and the values of
 -- an accepted call, or a refusal's number and place and no values.
-use Rattle.std.specs.Prelude.{Bool, true, false, ℕ}
+use Rattle.std.specs.Prelude.{Bool, true, false, ℕ, Err, None, Ok, Option, Result, Some}
+use Rattle.page.specs.declared.Span.{Span}
+use Rattle.page.specs.declared.Copied.{Copied}
 use Rattle.page.specs.Handing.{owner_cell}
-use Rattle.page.specs.declared.Stated.{Stated}
-use Rattle.page.specs.declared.Stated.TheVariants as S
 use Rattle.page.specs.declared.Refusal.{Refusal}
 use Rattle.page.specs.declared.Header.{Header}
-use Rattle.page.specs.declared.Headed.{Headed}
-use Rattle.page.specs.declared.Headed.TheVariants as H
 use Rattle.page.specs.declared.Row.{Row}
-use Rattle.page.specs.declared.Listed.{Listed}
-use Rattle.page.specs.declared.Listed.TheVariants as L
 use Rattle.page.specs.declared.Value.{Value}
 use Rattle.page.specs.declared.Value.TheVariants as Va
-use Rattle.page.specs.declared.Got.{Got}
-use Rattle.page.specs.declared.Got.TheVariants as G
-use Rattle.page.specs.declared.Written.{Written}
-use Rattle.page.specs.declared.Written.TheVariants as W
-use Rattle.page.specs.declared.Handed.{Handed}
-use Rattle.page.specs.declared.Handed.TheVariants as Ha
 use Rattle.told.specs.declared.answers.HeaderAnswer.{HeaderAnswer}
 use Rattle.told.specs.declared.answers.RowAnswer.{RowAnswer}
 use Rattle.told.specs.declared.answers.ValueAnswer.{ValueAnswer}
@@ -29,22 +19,22 @@ abbrev pub no_row : Row
 no_row = record { table = 0; place = 0; length = 0; records = 0; verdict = 0; line = 0 }
 
 -- a section's row
-abbrev pub told_listed : Listed → RowAnswer
-told_listed (L.Is x) = record { number = 0; section = 0; line = 0; row = x }
-told_listed (L.Refused r) = record { number = r.number; section = r.section; line = r.line; row = no_row }
+abbrev pub told_listed : Result Row Refusal → RowAnswer
+told_listed (Ok x) = record { number = 0; section = 0; line = 0; row = x }
+told_listed (Err r) = record { number = r.number; section = r.section; line = r.line; row = no_row }
 
 -- a header's values: a text that does not stand is told by 0 and 0, and by no flag
-abbrev pub stated_flag : Stated → Bool
-stated_flag S.Absent = false
-stated_flag (S.At x) = true
+abbrev pub stated_flag : Option Span → Bool
+stated_flag None = false
+stated_flag (Some x) = true
 
-abbrev pub stated_from : Stated → ℕ
-stated_from S.Absent = 0
-stated_from (S.At x) = x.from
+abbrev pub stated_from : Option Span → ℕ
+stated_from None = 0
+stated_from (Some x) = x.from
 
-abbrev pub stated_to : Stated → ℕ
-stated_to S.Absent = 0
-stated_to (S.At x) = x.to
+abbrev pub stated_to : Option Span → ℕ
+stated_to None = 0
+stated_to (Some x) = x.to
 
 abbrev pub told_header : Header → HeaderAnswer
 told_header h =
@@ -100,9 +90,9 @@ no_header r =
       fft_to = 0;
     }
 
-abbrev pub told_headed : Headed → HeaderAnswer
-told_headed (H.Is h) = told_header h
-told_headed (H.Refused r) = no_header r
+abbrev pub told_headed : Result Header Refusal → HeaderAnswer
+told_headed (Ok h) = told_header h
+told_headed (Err r) = no_header r
 
 -- a value: kind 0 is a number, 1 the operator's text, 2 a suggestion, 3 a missing number
 abbrev pub told_value : Value → ValueAnswer
@@ -111,17 +101,17 @@ told_value Va.Missing = record { number = 0; section = 0; line = 0; kind = 3; am
 told_value (Va.Words x) =
     record { number = 0; section = 0; line = 0; kind = owner_cell x.owner; amount = 0; from = x.from; to = x.to }
 
-abbrev pub told_got : Got → ValueAnswer
-told_got (G.Is v) = told_value v
-told_got (G.Refused r) =
+abbrev pub told_got : Result Value Refusal → ValueAnswer
+told_got (Ok v) = told_value v
+told_got (Err r) =
     record { number = r.number; section = r.section; line = r.line; kind = 0; amount = 0; from = 0; to = 0 }
 
 -- how much was written
-abbrev pub told_written : Written → LengthAnswer
-told_written (W.Length n) = record { number = 0; section = 0; line = 0; length = n }
-told_written (W.Refused r) = record { number = r.number; section = r.section; line = r.line; length = 0 }
+abbrev pub told_written : Result ℕ Refusal → LengthAnswer
+told_written (Ok n) = record { number = 0; section = 0; line = 0; length = n }
+told_written (Err r) = record { number = r.number; section = r.section; line = r.line; length = 0 }
 
 -- a text: how much was written, and whose it is: 1 the operator's, 2 a suggestion
-abbrev pub told_handed : Handed → TextAnswer
-told_handed (Ha.Is x) = record { number = 0; section = 0; line = 0; length = x.length; owner = owner_cell x.owner }
-told_handed (Ha.Refused r) = record { number = r.number; section = r.section; line = r.line; length = 0; owner = 0 }
+abbrev pub told_handed : Result Copied Refusal → TextAnswer
+told_handed (Ok x) = record { number = 0; section = 0; line = 0; length = x.length; owner = owner_cell x.owner }
+told_handed (Err r) = record { number = r.number; section = r.section; line = r.line; length = 0; owner = 0 }

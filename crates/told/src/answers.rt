@@ -1,9 +1,9 @@
-// What C is handed, where a call's answer is an enum: the paper's number first, 0 for a call that was not refused.
+// What C is handed, where a call answers a value or a refusal: the paper's number first, 0 for a call that was not refused.
 ghost use Rattle.std.specs.Prelude.{◌≡◌};
-ghost use Rattle.told.specs.Told.{told_headed, told_listed, told_got, told_written, told_handed, told_header, no_header, told_value, no_row, stated_flag, stated_from, stated_to};
+ghost use Rattle.told.specs.Told.{told_headed, told_listed, told_got, told_written, told_handed, told_header, told_value};
 ghost use Rattle.page.specs.Handing.{owner_cell};
 
-use page::{Got, Handed, Headed, Header, Listed, Owner, Refusal, Row, Stated, Value, Written};
+use page::{Copied, Header, Owner, Refusal, Row, Span, Value};
 
 // A header's values, or a refusal: texts by their bytes between the quotes; `dve` and `fft` say whether such a line stands.
 #[repr(C)]
@@ -77,54 +77,92 @@ pub struct TextAnswer {
     pub owner: u32,
 }
 
-fn no_row() -> Row
-    ensures { result ≡ no_row }
-{
-    Row {
-        table: 0,
-        place: 0,
-        length: 0,
-        records: 0,
-        verdict: 0,
-        line: 0,
+// What stands beside a refusal, and what an answer does not say.
+const NO_ROW: Row = Row {
+    table: 0,
+    place: 0,
+    length: 0,
+    records: 0,
+    verdict: 0,
+    line: 0,
+};
+
+const NOWHERE: Span = Span { from: 0, to: 0 };
+
+const NO_VALUE: ValueAnswer = ValueAnswer {
+    number: 0,
+    section: 0,
+    line: 0,
+    kind: 0,
+    amount: 0,
+    from: 0,
+    to: 0,
+};
+
+const NO_HEADER: HeaderAnswer = HeaderAnswer {
+    number: 0,
+    section: 0,
+    line: 0,
+    source_from: 0,
+    source_to: 0,
+    year: 0,
+    month: 0,
+    day: 0,
+    hour: 0,
+    minute: 0,
+    second: 0,
+    latin: false,
+    ver_from: 0,
+    ver_to: 0,
+    ifv_from: 0,
+    ifv_to: 0,
+    dve: false,
+    dve_from: 0,
+    dve_to: 0,
+    fft: false,
+    fft_from: 0,
+    fft_to: 0,
+};
+
+impl From<Result<Row, Refusal>> for RowAnswer {
+    ghost from_gives = { λ x r. r ≡ told_listed x };
+
+    fn from(x: Result<Row, Refusal>) -> RowAnswer {
+        match x {
+            Ok(row) => RowAnswer {
+                number: 0,
+                section: 0,
+                line: 0,
+                row,
+            },
+            Err(r) => RowAnswer {
+                number: r.number,
+                section: r.section,
+                line: r.line,
+                row: NO_ROW,
+            },
+        }
     }
 }
 
-pub fn tell_row(x: Listed) -> RowAnswer
-    ensures { result ≡ told_listed x }
-{
-    match x {
-        Listed::Is(row) => RowAnswer {
-            number: 0,
-            section: 0,
-            line: 0,
-            row: row,
-        },
-        Listed::Refused(r) => RowAnswer {
-            number: r.number,
-            section: r.section,
-            line: r.line,
-            row: no_row(),
-        },
-    }
-}
+impl From<Result<usize, Refusal>> for LengthAnswer {
+    ghost from_gives = { λ x r. r ≡ told_written x };
 
-pub fn tell_length(x: Written) -> LengthAnswer
-    ensures { result ≡ told_written x }
-{
-    match x {
-        Written::Length(n) => LengthAnswer {
-            number: 0,
-            section: 0,
-            line: 0,
-            length: n,
-        },
-        Written::Refused(r) => LengthAnswer {
-            number: r.number,
-            section: r.section,
-            line: r.line,
-            length: 0,
-        },
+    fn from(x: Result<usize, Refusal>) -> LengthAnswer {
+        match x {
+            Ok(n) => LengthAnswer {
+                number: 0,
+                section: 0,
+                line: 0,
+                length: n,
+            },
+            Err(r) => LengthAnswer {
+                number: r.number,
+                section: r.section,
+                line: r.line,
+                length: 0,
+            },
+        }
     }
 }
 
@@ -137,176 +175,113 @@ fn owner_kind(x: Owner) -> u32
     }
 }
 
-pub fn tell_text(x: Handed) -> TextAnswer
-    ensures { result ≡ told_handed x }
-{
-    match x {
-        Handed::Is(t) => {
-            let owner = t.owner;
-            TextAnswer {
+impl From<Result<Copied, Refusal>> for TextAnswer {
+    ghost from_gives = { λ x r. r ≡ told_handed x };
+
+    fn from(x: Result<Copied, Refusal>) -> TextAnswer {
+        match x {
+            Ok(t) => TextAnswer {
                 number: 0,
                 section: 0,
                 line: 0,
                 length: t.length,
-                owner: owner_kind(owner),
-            }
+                owner: owner_kind(t.owner),
+            },
+            Err(r) => TextAnswer {
+                number: r.number,
+                section: r.section,
+                line: r.line,
+                length: 0,
+                owner: 0,
+            },
         }
-        Handed::Refused(r) => TextAnswer {
-            number: r.number,
-            section: r.section,
-            line: r.line,
-            length: 0,
-            owner: 0,
-        },
     }
 }
 
-fn tell_accepted(x: Value) -> ValueAnswer
-    ensures { result ≡ told_value x }
-{
-    match x {
-        Value::Number(n) => ValueAnswer {
-            number: 0,
-            section: 0,
-            line: 0,
-            kind: 0,
-            amount: n,
-            from: 0,
-            to: 0,
-        },
-        Value::Missing => ValueAnswer {
-            number: 0,
-            section: 0,
-            line: 0,
-            kind: 3,
-            amount: 0,
-            from: 0,
-            to: 0,
-        },
-        Value::Words(t) => {
-            let owner = t.owner;
-            ValueAnswer {
-                number: 0,
-                section: 0,
-                line: 0,
-                kind: owner_kind(owner),
-                amount: 0,
+impl From<Value> for ValueAnswer {
+    ghost from_gives = { λ x r. r ≡ told_value x };
+
+    fn from(x: Value) -> ValueAnswer {
+        match x {
+            Value::Number(n) => ValueAnswer {
+                amount: n,
+                ..NO_VALUE
+            },
+            Value::Missing => ValueAnswer {
+                kind: 3,
+                ..NO_VALUE
+            },
+            Value::Words(t) => ValueAnswer {
+                kind: owner_kind(t.owner),
                 from: t.from,
                 to: t.to,
-            }
+                ..NO_VALUE
+            },
         }
     }
 }
 
-pub fn tell_value(x: Got) -> ValueAnswer
-    ensures { result ≡ told_got x }
-{
-    match x {
-        Got::Is(v) => tell_accepted(v),
-        Got::Refused(r) => ValueAnswer {
-            number: r.number,
-            section: r.section,
-            line: r.line,
-            kind: 0,
-            amount: 0,
-            from: 0,
-            to: 0,
-        },
+impl From<Result<Value, Refusal>> for ValueAnswer {
+    ghost from_gives = { λ x r. r ≡ told_got x };
+
+    fn from(x: Result<Value, Refusal>) -> ValueAnswer {
+        match x {
+            Ok(v) => ValueAnswer::from(v),
+            Err(r) => ValueAnswer {
+                number: r.number,
+                section: r.section,
+                line: r.line,
+                ..NO_VALUE
+            },
+        }
     }
 }
 
-fn stands(x: Stated) -> bool
-    ensures { result ≡ stated_flag x }
-{
-    match x {
-        Stated::Absent => false,
-        Stated::At(_) => true,
+impl From<Header> for HeaderAnswer {
+    ghost from_gives = { λ x r. r ≡ told_header x };
+
+    fn from(h: Header) -> HeaderAnswer {
+        let dve = h.dve.unwrap_or(NOWHERE);
+        let fft = h.fft.unwrap_or(NOWHERE);
+        HeaderAnswer {
+            number: 0,
+            section: 0,
+            line: 0,
+            source_from: h.source.from,
+            source_to: h.source.to,
+            year: h.date.year,
+            month: h.date.month,
+            day: h.date.day,
+            hour: h.time.hour,
+            minute: h.time.minute,
+            second: h.time.second,
+            latin: h.latin,
+            ver_from: h.ver.from,
+            ver_to: h.ver.to,
+            ifv_from: h.ifv.from,
+            ifv_to: h.ifv.to,
+            dve: h.dve.is_some(),
+            dve_from: dve.from,
+            dve_to: dve.to,
+            fft: h.fft.is_some(),
+            fft_from: fft.from,
+            fft_to: fft.to,
+        }
     }
 }
 
-fn stands_from(x: Stated) -> usize
-    ensures { result ≡ stated_from x }
-{
-    match x {
-        Stated::Absent => 0,
-        Stated::At(s) => s.from,
-    }
-}
+impl From<Result<Header, Refusal>> for HeaderAnswer {
+    ghost from_gives = { λ x r. r ≡ told_headed x };
 
-fn stands_to(x: Stated) -> usize
-    ensures { result ≡ stated_to x }
-{
-    match x {
-        Stated::Absent => 0,
-        Stated::At(s) => s.to,
-    }
-}
-
-fn tell_values(h: Header) -> HeaderAnswer
-    ensures { result ≡ told_header h }
-{
-    let dve = h.dve;
-    let fft = h.fft;
-    HeaderAnswer {
-        number: 0,
-        section: 0,
-        line: 0,
-        source_from: h.source.from,
-        source_to: h.source.to,
-        year: h.date.year,
-        month: h.date.month,
-        day: h.date.day,
-        hour: h.time.hour,
-        minute: h.time.minute,
-        second: h.time.second,
-        latin: h.latin,
-        ver_from: h.ver.from,
-        ver_to: h.ver.to,
-        ifv_from: h.ifv.from,
-        ifv_to: h.ifv.to,
-        dve: stands(dve),
-        dve_from: stands_from(dve),
-        dve_to: stands_to(dve),
-        fft: stands(fft),
-        fft_from: stands_from(fft),
-        fft_to: stands_to(fft),
-    }
-}
-
-fn refuse_values(r: Refusal) -> HeaderAnswer
-    ensures { result ≡ no_header r }
-{
-    HeaderAnswer {
-        number: r.number,
-        section: r.section,
-        line: r.line,
-        source_from: 0,
-        source_to: 0,
-        year: 0,
-        month: 0,
-        day: 0,
-        hour: 0,
-        minute: 0,
-        second: 0,
-        latin: false,
-        ver_from: 0,
-        ver_to: 0,
-        ifv_from: 0,
-        ifv_to: 0,
-        dve: false,
-        dve_from: 0,
-        dve_to: 0,
-        fft: false,
-        fft_from: 0,
-        fft_to: 0,
-    }
-}
-
-pub fn tell_header(x: Headed) -> HeaderAnswer
-    ensures { result ≡ told_headed x }
-{
-    match x {
-        Headed::Is(h) => tell_values(h),
-        Headed::Refused(r) => refuse_values(r),
+    fn from(x: Result<Header, Refusal>) -> HeaderAnswer {
+        match x {
+            Ok(h) => HeaderAnswer::from(h),
+            Err(r) => HeaderAnswer {
+                number: r.number,
+                section: r.section,
+                line: r.line,
+                ..NO_HEADER
+            },
+        }
     }
 }

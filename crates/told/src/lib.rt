@@ -3,7 +3,4 @@
 
 mod answers;
 
-pub use answers::{
-    HeaderAnswer, LengthAnswer, RowAnswer, TextAnswer, ValueAnswer, tell_header, tell_length,
-    tell_row, tell_text, tell_value,
-};
+pub use answers::{HeaderAnswer, LengthAnswer, RowAnswer, TextAnswer, ValueAnswer};

@@ -1,7 +1,7 @@
 -- What a field is read as, and where the text of a field stands in it. Assumes nothing.
+use Rattle.std.specs.Prelude.{None, Option, Some}
 use mathlib.Core.Path.{◌≡◌, refl}
 use mathlib.Core.Bool.{Bool, true, false}
-use mathlib.Core.Option.{Option, none, some}
 use Prim.Native.Nat.{ℕ, ◌≤◌}
 use native.Mathlib.Omega.{arith}
 use lib.Dec.{leb}
@@ -17,7 +17,7 @@ use Rattle.page.proofs.NumberFieldLaws.{NumberRead, as_number, as_refusal, numbe
 
 -- of a text column a text, with the place that its wording says; of another a number, or that it is missing; or a refusal
 pub data Read (c : Column) (f : Bytes) : Field → Type 0 where
-  a_text : (x : Wording) → c.text ≡ true → words_of f ≡ some x → Read c f (F.Text x.span)
+  a_text : (x : Wording) → c.text ≡ true → words_of f ≡ Some x → Read c f (F.Text x.span)
   a_number : (n : ℕ) → c.text ≡ false → Read c f (F.Number n)
   no_number : c.text ≡ false → Read c f F.Missing
   no_value : (v : ℕ) → (v ≡ 0 → ⊥) → Read c f (F.Refused v)
@@ -27,8 +27,8 @@ unfolding field_of text_field
 read_of c f = by c.text (left_out c.optional f) refl
   where
     words : (o : Option Wording) → words_of f ≡ o → c.text ≡ true → Read c f (text_field c.hi o)
-    words none q t = no_value 11 (λ (e : ◌≡◌ {A = ℕ} 11 0). omega arith)
-    words (some x) q t = sized (leb (length x.own) c.hi)
+    words None q t = no_value 11 (λ (e : ◌≡◌ {A = ℕ} 11 0). omega arith)
+    words (Some x) q t = sized (leb (length x.own) c.hi)
       where
         sized : (b : Bool) → Read c f (pick b (F.Text x.span) (F.Refused 13))
         sized true = a_text x t q
@@ -44,5 +44,5 @@ read_of c f = by c.text (left_out c.optional f) refl
     by false false t = number (number_read_so c.day c.lo c.hi (number_of f)) t
 
 -- the text of a field lies within it
-pub wording_in : (f : Bytes) (x : Wording) → words_of f ≡ some x → (x.span.from ≤ x.span.to) × (x.span.to ≤ length f)
+pub wording_in : (f : Bytes) (x : Wording) → words_of f ≡ Some x → (x.span.from ≤ x.span.to) × (x.span.to ≤ length f)
 wording_in f x e = let a = words_there f x e in (omega (arith, a.begins, a.ends), omega (arith, a.within))

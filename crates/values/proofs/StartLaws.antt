@@ -12,7 +12,7 @@ use Rattle.page.specs.Fields.{field_size, fields, text_of, digits, number_of}
 use Rattle.page.specs.Tables.{WIDEST, column_at}
 use Rattle.page.specs.Order.{Order, place}
 use Rattle.page.specs.Marks.{owner_of}
-use Rattle.page.specs.Section.{words_of, text_field, number_field, left_out, field_of, ReadAlike}
+use Rattle.page.specs.Section.{words_of, text_field, number_field, left_out, field_of}
 use Rattle.page.specs.Places.{field_place, span_from, field_span}
 use Rattle.page.specs.File.{limit}
 use Rattle.page.specs.Reading.{later_field, field_at, valued, value_in}
@@ -25,7 +25,6 @@ use Rattle.page.specs.declared.Span.{Span}
 use Rattle.page.proofs.ScanLaws.{part_length}
 use Rattle.page.proofs.FieldLaws.{from, from_more, from_end, from_all, end_in, field_end, head_left, none_left, place_left, span_in, span_part}
 use Rattle.page.proofs.TableLaws.{width_le}
-use Rattle.fields.proofs.ColumnLaws.{column_asked}
 use Rattle.arrangement.specs.Orders.{held, Orderly}
 use Rattle.arrangement.proofs.OrderLaws.{held_length}
 use Rattle.values.specs.Values.{Fits}
@@ -122,7 +121,7 @@ place_few c t a p x e = omega (arith, place_le c (held t a), held_length t a x, 
 
 -- the value of a column, by the place where it stands
 pub column_value : (t f c p at m : ℕ) (o : Order) (w : Bytes) (d : Column) → c ≡ f - 1 → p ≡ place c o
-    → ReadAlike d (column_at t c)
+    → d ≡ column_at t c
     → valued (owner_of m (suc p)) (later_field at (field_at d w p)) ≡ value_in t o (record { at = at; rest = w; mark = m }) f
 unfolding value_in field_at
-column_value t f c p at m o w d k e x = rw (sym k, e, column_asked (column_at t c) d x (get_or (fields w) (place c o) []))
+column_value t f c p at m o w d k e x = rw (sym k, e, x)

@@ -21,9 +21,10 @@ fn owner_of(m: u64, f: usize) -> Owner
     ensures { result ≡ owner_of m f }
 {
     if m == f as u64 {
-        return Owner::Suggestion;
+        Owner::Suggestion
+    } else {
+        Owner::Operator
     }
-    Owner::Operator
 }
 
 // Where the field at place p, from 0, begins in w; what ends before it goes on past its end, a byte for each field that is not there.
@@ -32,11 +33,8 @@ fn find_start(w: &[u8], p: usize) -> usize
     ensures { result ≡ field_place p 0 w.now }
 {
     let mut at = 0;
-    let mut i = 0;
-    while i < p {
-        let e = commands::field_end(w, at);
-        at = e + 1;
-        i += 1;
+    for _ in 0..p {
+        at = commands::field_end(w, at) + 1;
     }
     at
 }
@@ -62,13 +60,11 @@ fn hand_field(f: Field, at: usize, owner: Owner) -> Value
 fn hand_nothing(column: Column) -> Value
     ensures { result ≡ valued O.Operator (field_of column []) }
 {
-    if column.text {
-        return Value::Number(0);
+    if !column.text && column.optional {
+        Value::Missing
+    } else {
+        Value::Number(0)
     }
-    if column.optional {
-        return Value::Missing;
-    }
-    Value::Number(0)
 }
 
 // The field at place p, from 0, which begins at `start`, of the record whose fields are w and stand at a place of the file.
@@ -80,8 +76,7 @@ pub fn read_value(w: &[u8], at: usize, m: u64, p: usize, start: usize, column: C
         return hand_nothing(column);
     }
     let r = fields::read_field(w, start, column, true);
-    let f = r.field;
-    hand_field(f, at, owner_of(m, p + 1))
+    hand_field(r.field, at, owner_of(m, p + 1))
 }
 
 // Column f, from 1, of the record whose fields are w, in the order o, and stand at a place of the file.

@@ -8,7 +8,7 @@ ghost use Rattle.page.specs.Writing.{write_of, write_after, strip_of, strip_afte
 ghost use Rattle.told.specs.Told.{told_written, told_handed};
 
 use page::{Refusal, Row};
-use told::{LengthAnswer, TextAnswer, tell_length, tell_text};
+use told::{LengthAnswer, TextAnswer};
 
 // "Listing is refused by 1, 2 and 21 only and then writes no row; other verdicts go into the rows and the file's answer."
 #[unsafe(no_mangle)]
@@ -31,7 +31,7 @@ pub extern "C" fn vdv_text(
     ensures { (result ≡ told_handed (text_out file.now section «record» field (length out.old)))
         × (out.new ≡ text_after file.now section «record» field out.old) }
 {
-    tell_text(handing::text(file, section, record, field, out))
+    TextAnswer::from(handing::text(file, section, record, field, out))
 }
 
 // All values of a sound table, three numbers each: 0, the number, 0; or 1 for the operator's text and 2 for a suggestion, and its span.
@@ -40,7 +40,7 @@ pub extern "C" fn vdv_table(file: &[u8], section: usize, cells: &mut [u64]) -> L
     ensures { (result ≡ told_written (table_of file.now section (length cells.old)))
         × (cells.new ≡ cells_after file.now section cells.old) }
 {
-    tell_length(grids::table(file, section, cells))
+    LengthAnswer::from(grids::table(file, section, cells))
 }
 
 // "Only a file with verdict 0 is written; else its verdict is given."
@@ -49,7 +49,7 @@ pub extern "C" fn vdv_write(file: &[u8], out: &mut [u8]) -> LengthAnswer
     ensures { (result ≡ told_written (write_of file.now (length out.old)))
         × (out.new ≡ write_after file.now out.old) }
 {
-    tell_length(forms::write(file, out))
+    LengthAnswer::from(forms::write(file, out))
 }
 
 // "Stripping gives the written form with marked texts empty and no marks."
@@ -58,7 +58,7 @@ pub extern "C" fn vdv_strip(file: &[u8], out: &mut [u8]) -> LengthAnswer
     ensures { (result ≡ told_written (strip_of file.now (length out.old)))
         × (out.new ≡ strip_after file.now out.old) }
 {
-    tell_length(forms::strip(file, out))
+    LengthAnswer::from(forms::strip(file, out))
 }
 
 // "Filling names section, record and field (from 1) and a text; the result is the written form with that text and its mark."
@@ -74,5 +74,5 @@ pub extern "C" fn vdv_fill(
     ensures { (result ≡ told_written (fill_of file.now section «record» field text.now (length out.old)))
         × (out.new ≡ fill_after file.now section «record» field text.now out.old) }
 {
-    tell_length(forms::fill(file, section, record, field, text, out))
+    LengthAnswer::from(forms::fill(file, section, record, field, text, out))
 }

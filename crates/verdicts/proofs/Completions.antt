@@ -1,4 +1,5 @@
 -- Lines keep the header's rules exactly if some lines after them make a sound header: the header is refused neither too early nor too late.
+use Rattle.std.specs.Prelude.{Some}
 use mathlib.Core.Path.{◌≡◌, refl, ◌∙◌}
 use mathlib.Core.Bool.{Bool, true, false}
 use mathlib.Core.List.{List, [], ◌∷◌, ◌++◌, Memᴰ}
@@ -14,7 +15,6 @@ use Rattle.page.specs.Header.{met_before, meet, met_none, head_step, holds, comp
 use Rattle.page.specs.Open.{open_all}
 use Rattle.page.specs.Rules.{Every, none_left, one_more}
 use Rattle.page.specs.declared.Met.{Met}
-use Rattle.page.specs.declared.Heading.TheVariants as H
 use Rattle.verdicts.specs.Headers.{followers, Keeps, Completable}
 use Rattle.laws.proofs.Decides.{tested}
 use Rattle.laws.proofs.Lists.{every_at, every_from, every_map}
@@ -142,7 +142,7 @@ unfoldable mod_line : Bytes
 mod_line = bytes "mod; DD.MM.YYYY; HH:MM:SS; free"
 
 -- and `mod` itself
-modded : head_step (met_none 0) (content mod_line) ≡ H.Go (met_none 1)
+modded : head_step (met_none 0) (content mod_line) ≡ Some (met_none 1)
 unfolding open_all mod_line
 modded = refl
 

@@ -1,5 +1,6 @@
 -- The file: accepted exactly if it keeps the rules, with the tables that are handed out; and else refused exactly by the first number whose
 -- condition holds, at its place.
+use Rattle.std.specs.Prelude.{Err, Ok}
 use mathlib.Core.Path.{◌≡◌, refl, ap, sym, ◌∙◌}
 use mathlib.Core.Bool.{Bool, true, false, false≢true}
 use mathlib.Core.List.Memᴰ
@@ -17,7 +18,7 @@ use Rattle.page.specs.Header.{head_of}
 use Rattle.page.specs.Head.{latin_of}
 use Rattle.page.specs.Section.{refused}
 use Rattle.page.specs.Trailer.{trailer_finding, trailer_of}
-use Rattle.page.specs.Answers.{refusal, sound, checked, paper_checked}
+use Rattle.page.specs.Answers.{refusal, sound, answered, paper_of}
 use Rattle.page.specs.File.{limit, rows_of, first_unsound, first_again, any, by_primary, by_second, Filed, repeats, lost, first_record, filed_of, file_refusal, check_of}
 use Rattle.page.specs.Model.{Content, model_of}
 use Rattle.page.specs.Refusals.{Refused}
@@ -25,7 +26,6 @@ use Rattle.page.specs.Rules.{Every, Tables, SoundHeader, SoundTrailer, SoundFile
 use Rattle.page.specs.declared.Column.{Column}
 use Rattle.page.specs.declared.Outcome.{Outcome}
 use Rattle.page.specs.declared.Refusal.{Refusal}
-use Rattle.page.specs.declared.Checked.TheVariants as C
 use Rattle.verdicts.specs.First.{First, NoneOf}
 use Rattle.verdicts.specs.Trailers.{TrailerFault}
 use Rattle.verdicts.specs.Files.{Unsound, TableAgain, KeyAgain, Lost, FileRefused, too_long, header, trailer, section, table_again, primary_again, second_again, reference_lost}
@@ -280,31 +280,31 @@ refuses_file_exactly s v i n = (λ e. into e.0 e.1 (file_settled s), refused_giv
         rw (ap (λ (r : Refusal). r.number) y, ap (λ (r : Refusal). r.section) y, ap (λ (r : Refusal). r.line) y) x.3
 
 -- the answer of the call: sound exactly for an accepted file, and else the refusal with its place
-pub check_sound : (s : Bytes) → check_of s ≡ C.Sound ↔ ((cs : List Content) × SoundFile s cs)
-unfolding check_of checked
+pub check_sound : (s : Bytes) → check_of s ≡ (Ok tt) ↔ ((cs : List Content) × SoundFile s cs)
+unfolding check_of answered
 check_sound s = (λ e. (accepts_exactly s).0 (into (eqb (file_refusal s).number 0) (equal (file_refusal s).number 0) e), λ x. rw ((accepts_exactly s).1 x))
   where
-    into : (b : Bool) → Decides ((file_refusal s).number ≡ 0) b → pick b C.Sound (C.Refused (file_refusal s)) ≡ C.Sound → (file_refusal s).number ≡ 0
+    into : (b : Bool) → Decides ((file_refusal s).number ≡ 0) b → pick b (Ok (tt {0})) (Err (file_refusal s)) ≡ (Ok tt) → (file_refusal s).number ≡ 0
     into true (holds h) e = h
     into false d e = absurd (false≢true (cc))
 
 -- the refusal that it carries is the one that the file has
-pub check_refused : (s : Bytes) (v i n : ℕ) → check_of s ≡ C.Refused (refusal v i n) ↔ FileRefused s v i n
-unfolding check_of checked
+pub check_refused : (s : Bytes) (v i n : ℕ) → check_of s ≡ Err (refusal v i n) ↔ FileRefused s v i n
+unfolding check_of answered
 check_refused s v i n = (λ e. (refuses_file_exactly s v i n).0 (into (eqb (file_refusal s).number 0) (equal (file_refusal s).number 0) e), back)
   where
-    into : (b : Bool) → Decides ((file_refusal s).number ≡ 0) b → pick b C.Sound (C.Refused (file_refusal s)) ≡ C.Refused (refusal v i n) → (file_refusal s ≡ refusal v i n) × ¬ (v ≡ 0)
+    into : (b : Bool) → Decides ((file_refusal s).number ≡ 0) b → pick b (Ok (tt {0})) (Err (file_refusal s)) ≡ Err (refusal v i n) → (file_refusal s ≡ refusal v i n) × ¬ (v ≡ 0)
     into true d e = absurd (false≢true (cc))
     into false (fails k) e = let q : file_refusal s ≡ refusal v i n = cc in (q, λ z. k (ap (λ (r : Refusal). r.number) q ∙ z))
 
-    back : FileRefused s v i n → pick (eqb (file_refusal s).number 0) C.Sound (C.Refused (file_refusal s)) ≡ C.Refused (refusal v i n)
+    back : FileRefused s v i n → pick (eqb (file_refusal s).number 0) (Ok (tt {0})) (Err (file_refusal s)) ≡ Err (refusal v i n)
     back f = let x = refused_gives s v i n f in rw (x.0, ne_eqb v 0 x.1)
 
 -- the enum and the paper's numbers say the same
-pub check_paper : (s : Bytes) → paper_checked (check_of s) ≡ file_refusal s
-unfolding check_of checked paper_checked
+pub check_paper : (s : Bytes) → paper_of (check_of s) ≡ file_refusal s
+unfolding check_of answered paper_of
 check_paper s = by (file_settled s)
   where
-    by : Settled s → paper_checked (checked (file_refusal s)) ≡ file_refusal s
+    by : Settled s → paper_of (answered (file_refusal s) (tt {0})) ≡ file_refusal s
     by (inl x) = rw (sound_gives s x.0 x.1)
     by (inr x) = let y = refused_gives s x.0 x.1 x.2 x.3 in rw (y.0, ne_eqb x.0 0 y.1)

@@ -1,4 +1,5 @@
 -- One line of a header: the machine goes on exactly if the line keeps the rules, and what may follow then is what may follow.
+use Rattle.std.specs.Prelude.{None, Some}
 use mathlib.Core.Path.{◌≡◌, refl, ap, sym, ◌∙◌}
 use mathlib.Core.Bool.{Bool, true, false, not, ◌&&◌, ◌||◌, false≢true}
 use mathlib.Core.List.{List, [], ◌∷◌, Memᴰ}
@@ -14,7 +15,6 @@ use Rattle.page.specs.Header.{mod_form, holds, met_before, meet, met_none, head_
 use Rattle.page.specs.Grammar.{fields_of}
 use Rattle.page.specs.Rules.{Every, none_left, one_more, spoken, times, HeadLine}
 use Rattle.page.specs.declared.Met.{Met}
-use Rattle.page.specs.declared.Heading.TheVariants as H
 use Rattle.verdicts.specs.Headers.{followers, Begun, Keeps}
 use Rattle.laws.proofs.Decides.{Decides, holds as yes-it-holds, fails, equal}
 use Rattle.laws.proofs.Lists.{every_head, every_tail, every_at, every_from}
@@ -96,7 +96,7 @@ times_more : (k : ℕ) (l : Bytes) (ls : List Bytes) → times k (l ∷ ls) ≡ 
 unfolding times
 times_more k l ls = refl
 
-silent_step : (m : Met) (l : Bytes) → clean false (content l) ≡ true → silent l ≡ true → head_step m (content l) ≡ H.Go m
+silent_step : (m : Met) (l : Bytes) → clean false (content l) ≡ true → silent l ≡ true → head_step m (content l) ≡ Some m
 unfolding head_step head_choose
 silent_step m l c s = rw (c, s)
 
@@ -108,39 +108,39 @@ pub first_line : (m : Met) (l : Bytes) → m.form ≡ 0 → clean false (content
 unfolding head_step head_choose
 first_line m l f c s = rw (c, s, f)
 
-pub other_go : (m : Met) (k : ℕ) (fs : List Bytes) → met_before k m ≡ false → holds k m.form fs ≡ true → other_step m k fs ≡ H.Go (meet k m)
+pub other_go : (m : Met) (k : ℕ) (fs : List Bytes) → met_before k m ≡ false → holds k m.form fs ≡ true → other_step m k fs ≡ Some (meet k m)
 unfolding other_step head_choose
 other_go m k fs b h = rw (b, h)
 
-goes_other : (m q : Met) (k : ℕ) (fs : List Bytes) → other_step m k fs ≡ H.Go q → (met_before k m ≡ false) × (holds k m.form fs ≡ true) × (q ≡ meet k m)
+goes_other : (m q : Met) (k : ℕ) (fs : List Bytes) → other_step m k fs ≡ Some q → (met_before k m ≡ false) × (holds k m.form fs ≡ true) × (q ≡ meet k m)
 unfolding other_step head_choose
 goes_other m q k fs e = by (met_before k m) (holds k m.form fs) refl refl e
   where
-    by : (a b : Bool) → met_before k m ≡ a → holds k m.form fs ≡ b → head_choose (not a && b) (H.Go (meet k m)) H.Stop ≡ H.Go q →
+    by : (a b : Bool) → met_before k m ≡ a → holds k m.form fs ≡ b → head_choose (not a && b) (Some (meet k m)) None ≡ Some q →
         (met_before k m ≡ false) × (holds k m.form fs ≡ true) × (q ≡ meet k m)
     by true b p r e = absurd (false≢true (cc))
     by false true p r e = (p, r, (cc))
     by false false p r e = absurd (false≢true (cc))
 
-clean_step : (m q : Met) (c : Bytes) → head_step m c ≡ H.Go q → clean false c ≡ true
+clean_step : (m q : Met) (c : Bytes) → head_step m c ≡ Some q → clean false c ≡ true
 unfolding head_step head_choose
 clean_step m q c e = by (clean false c) e
   where
-    by : (b : Bool) → head_choose b (head_choose (blank c || eqb (command c) Com) (H.Go m)
-        (head_choose (eqb m.form 0) (mod_step (command c) (fields (rest c))) (other_step m (command c) (fields (rest c))))) H.Stop ≡ H.Go q → b ≡ true
+    by : (b : Bool) → head_choose b (head_choose (blank c || eqb (command c) Com) (Some m)
+        (head_choose (eqb m.form 0) (mod_step (command c) (fields (rest c))) (other_step m (command c) (fields (rest c))))) None ≡ Some q → b ≡ true
     by true e = refl
     by false e = absurd (false≢true (cc))
 
 -- after `mod`: the step goes on exactly if the line may follow, and what may follow it may follow then
 module _ (m : Met) (l : Bytes) (ls : List Bytes) (begun : ¬ (m.form ≡ 0)) where
-  follows_go : Follows m (l ∷ ls) → (q : Met) × (head_step m (content l) ≡ H.Go q) × (¬ (q.form ≡ 0)) × Follows q ls
+  follows_go : Follows m (l ∷ ls) → (q : Met) × (head_step m (content l) ≡ Some q) × (¬ (q.form ≡ 0)) × Follows q ls
   unfolding meet
   follows_go f = by (silent l) refl
     where
       ok : clean false (content l) ≡ true
       ok = every_head f.clean
 
-      by : (b : Bool) → silent l ≡ b → (q : Met) × (head_step m (content l) ≡ H.Go q) × (¬ (q.form ≡ 0)) × Follows q ls
+      by : (b : Bool) → silent l ≡ b → (q : Met) × (head_step m (content l) ≡ Some q) × (¬ (q.form ≡ 0)) × Follows q ls
       by true s = (m, silent_step m l ok s, begun, record { clean = every_tail f.clean; each = rw (spoken_not l ls s) at f.each; once = rw (spoken_not l ls s) at f.once })
       by false s =
           let x : Every (HeadLine m.form) (l ∷ spoken ls) = rw (spoken_so l ls s) at f.each in
@@ -167,7 +167,7 @@ module _ (m : Met) (l : Bytes) (ls : List Bytes) (begun : ¬ (m.form ≡ 0)) whe
               absurd (let z : ⊥ = omega (arith, (rw d at c)) in z)
           unmet false g = refl
 
-  go_follows : (q : Met) → head_step m (content l) ≡ H.Go q → Follows q ls → Follows m (l ∷ ls)
+  go_follows : (q : Met) → head_step m (content l) ≡ Some q → Follows q ls → Follows m (l ∷ ls)
   unfolding meet
   go_follows q e f = by (silent l) refl
     where
@@ -198,7 +198,7 @@ none_met : (f : ℕ) → Every (λ j. tally j (met_none f) ≡ 0) followers
 unfolding met_before
 none_met f = one_more refl (one_more refl (one_more refl (one_more refl (one_more refl (one_more refl none_left)))))
 
-starts_go : (l : Bytes) (ls : List Bytes) → Keeps (l ∷ ls) → (q : Met) × (head_step (met_none 0) (content l) ≡ H.Go q) × (((q ≡ met_none 0) × Keeps ls) ⊎ (¬ (q.form ≡ 0) × Follows q ls))
+starts_go : (l : Bytes) (ls : List Bytes) → Keeps (l ∷ ls) → (q : Met) × (head_step (met_none 0) (content l) ≡ Some q) × (((q ≡ met_none 0) × Keeps ls) ⊎ (¬ (q.form ≡ 0) × Follows q ls))
 unfolding mod_step head_choose met_before
 starts_go l ls k = by (silent l) refl k.rules
   where
@@ -206,7 +206,7 @@ starts_go l ls k = by (silent l) refl k.rules
     ok = every_head k.clean
 
     by : (b : Bool) → silent l ≡ b → (spoken (l ∷ ls) ≡ []) ⊎ Begun (l ∷ ls) →
-        (q : Met) × (head_step (met_none 0) (content l) ≡ H.Go q) × (((q ≡ met_none 0) × Keeps ls) ⊎ (¬ (q.form ≡ 0) × Follows q ls))
+        (q : Met) × (head_step (met_none 0) (content l) ≡ Some q) × (((q ≡ met_none 0) × Keeps ls) ⊎ (¬ (q.form ≡ 0) × Follows q ls))
     by true s (inl e) = (met_none 0, silent_step (met_none 0) l ok s, inl (refl, record { clean = every_tail k.clean; rules = inl (sym (spoken_not l ls s) ∙ e) }))
     by true s (inr g) = (
       met_none 0,
@@ -234,17 +234,17 @@ starts_go l ls k = by (silent l) refl k.rules
           ),
         )
 
-mod_goes : (q : Met) (k : ℕ) (fs : List Bytes) → mod_step k fs ≡ H.Go q → (k ≡ Mod) × (¬ (mod_form fs ≡ 0)) × (q ≡ met_none (mod_form fs))
+mod_goes : (q : Met) (k : ℕ) (fs : List Bytes) → mod_step k fs ≡ Some q → (k ≡ Mod) × (¬ (mod_form fs ≡ 0)) × (q ≡ met_none (mod_form fs))
 unfolding mod_step head_choose
 mod_goes q k fs e = by (eqb k Mod) (eqb (mod_form fs) 0) (equal k Mod) (equal (mod_form fs) 0) e
   where
-    by : (a b : Bool) → Decides (k ≡ Mod) a → Decides (mod_form fs ≡ 0) b → head_choose (a && not b) (H.Go (met_none (mod_form fs))) H.Stop ≡ H.Go q →
+    by : (a b : Bool) → Decides (k ≡ Mod) a → Decides (mod_form fs ≡ 0) b → head_choose (a && not b) (Some (met_none (mod_form fs))) None ≡ Some q →
         (k ≡ Mod) × (¬ (mod_form fs ≡ 0)) × (q ≡ met_none (mod_form fs))
     by true true d g e = absurd (false≢true (cc))
     by true false (yes-it-holds h) (fails n) e = (h, n, (cc))
     by false b d g e = absurd (false≢true (cc))
 
-go_starts : (l : Bytes) (ls : List Bytes) (q : Met) → head_step (met_none 0) (content l) ≡ H.Go q → ((q ≡ met_none 0) × Keeps ls) ⊎ (¬ (q.form ≡ 0) × Follows q ls) → Keeps (l ∷ ls)
+go_starts : (l : Bytes) (ls : List Bytes) (q : Met) → head_step (met_none 0) (content l) ≡ Some q → ((q ≡ met_none 0) × Keeps ls) ⊎ (¬ (q.form ≡ 0) × Follows q ls) → Keeps (l ∷ ls)
 go_starts l ls q e x = by (silent l) refl x
   where
     ok : clean false (content l) ≡ true
@@ -298,12 +298,12 @@ of_good (starting e k) = inl (e, k)
 of_good (started n f) = inr (n, f)
 
 -- a good line leads to where the rest is good
-pub good_go : {m : Met} (l : Bytes) (ls : List Bytes) → Good m (l ∷ ls) → (q : Met) × (head_step m (content l) ≡ H.Go q) × Good q ls
+pub good_go : {m : Met} (l : Bytes) (ls : List Bytes) → Good m (l ∷ ls) → (q : Met) × (head_step m (content l) ≡ Some q) × Good q ls
 good_go l ls (starting e k) = let x = starts_go l ls k in (x.0, rw e x.1, good_of x.2)
 good_go {m} l ls (started n f) = let x = follows_go m l ls n f in (x.0, x.1, started x.2 x.3)
 
 -- what is met stays so
-pub fit_go : {m q : Met} (l : Bytes) → Fit m → head_step m (content l) ≡ H.Go q → Fit q
+pub fit_go : {m q : Met} (l : Bytes) → Fit m → head_step m (content l) ≡ Some q → Fit q
 unfolding meet
 fit_go {m} {q} l f e = by (silent l) refl f
   where
@@ -320,7 +320,7 @@ fit_go {m} {q} l f e = by (silent l) refl f
         inr (λ h. n (sym (ap (λ (x : Met). x.form) g.2) ∙ h))
 
 -- and the other way
-pub go_good : {m q : Met} (l : Bytes) (ls : List Bytes) → Fit m → head_step m (content l) ≡ H.Go q → Good q ls → Good m (l ∷ ls)
+pub go_good : {m q : Met} (l : Bytes) (ls : List Bytes) → Fit m → head_step m (content l) ≡ Some q → Good q ls → Good m (l ∷ ls)
 unfolding meet
 go_good {q} l ls (inl z) e g = starting z (go_starts l ls q (rw z at e) (of_good g))
 go_good {m} {q} l ls (inr n) e (started k f) = started n (go_follows m l ls n q e f)
@@ -346,7 +346,7 @@ good_nil {m} (inr n) = started n (record { clean = none_left; each = none_left; 
     few false = omega arith
 
 -- after `mod`, a line's command is counted
-pub tally_go : (m : Met) {q : Met} (l : Bytes) (ls : List Bytes) → ¬ (m.form ≡ 0) → head_step m (content l) ≡ H.Go q →
+pub tally_go : (m : Met) {q : Met} (l : Bytes) (ls : List Bytes) → ¬ (m.form ≡ 0) → head_step m (content l) ≡ Some q →
     (¬ (q.form ≡ 0)) × Every (λ j. tally j q + times j (spoken ls) ≡ tally j m + times j (spoken (l ∷ ls))) followers
 unfolding meet
 tally_go m {q} l ls n e = by (silent l) refl
@@ -366,7 +366,7 @@ tally_go m {q} l ls n e = by (silent l) refl
         )
 
 -- the line `mod` counts nothing yet
-pub mod_go : {q : Met} (l : Bytes) (ls : List Bytes) → head_step (met_none 0) (content l) ≡ H.Go q →
+pub mod_go : {q : Met} (l : Bytes) (ls : List Bytes) → head_step (met_none 0) (content l) ≡ Some q →
     ((q ≡ met_none 0) × (spoken (l ∷ ls) ≡ spoken ls)) ⊎ ((¬ (q.form ≡ 0)) × (spoken (l ∷ ls) ≡ l ∷ spoken ls) × Every (λ j. tally j q ≡ 0) followers)
 mod_go {q} l ls e = by (silent l) refl
   where

@@ -1,4 +1,5 @@
 -- The header: accepted exactly if it keeps the rules, and else refused exactly at the first line that breaks one, or for what is missing.
+use Rattle.std.specs.Prelude.{None, Option, Some}
 use mathlib.Core.Path.{◌≡◌, refl, ap, sym, ◌∙◌}
 use mathlib.Core.Bool.{Bool, true, false, false≢true}
 use mathlib.Core.List.{List, [], ◌∷◌, ◌++◌, append-nil}
@@ -13,8 +14,6 @@ use Rattle.page.specs.Lines.{content, Src, Chs, Ver, Ifv}
 use Rattle.page.specs.Header.{met_before, met_none, head_step, complete, head_end, head_continue, head_run, head_of}
 use Rattle.page.specs.Rules.{Every, none_left, one_more, spoken, times, SoundHeader}
 use Rattle.page.specs.declared.Met.{Met}
-use Rattle.page.specs.declared.Heading.{Heading}
-use Rattle.page.specs.declared.Heading.TheVariants as H
 use Rattle.page.specs.declared.Finding.{Finding}
 use Rattle.verdicts.specs.Headers.{followers, Begun, Keeps, HeaderFault, at_line, missing}
 use Rattle.laws.proofs.Decides.{Decides, holds, fails, fact, tested, when, both}
@@ -27,7 +26,7 @@ finding v n = record { verdict = v; line = n }
 -- the machine over lines that it does not refuse
 pub data Steps : Met → List Bytes → Met → Type 0 where
   stay : {m : Met} → Steps m [] m
-  move : {m q r : Met} {l : Bytes} {ls : List Bytes} → head_step m (content l) ≡ H.Go q → Steps q ls r → Steps m (l ∷ ls) r
+  move : {m q r : Met} {l : Bytes} {ls : List Bytes} → head_step m (content l) ≡ Some q → Steps q ls r → Steps m (l ∷ ls) r
 
 good_steps : {m : Met} (ls : List Bytes) → Good m ls → (q : Met) × Steps m ls q
 good_steps {m = m} [] g = (m, stay)
@@ -168,18 +167,18 @@ sound_keeps ls h =
 
 -- the machine passes all lines, or stops at one
 settle : (m : Met) (ls : List Bytes) →
-    ((q : Met) × Steps m ls q) ⊎ ((before : List Bytes) × (after : List Bytes) × (l : Bytes) × (q : Met) × (ls ≡ before ++ (l ∷ after)) × Steps m before q × (head_step q (content l) ≡ H.Stop))
+    ((q : Met) × Steps m ls q) ⊎ ((before : List Bytes) × (after : List Bytes) × (l : Bytes) × (q : Met) × (ls ≡ before ++ (l ∷ after)) × Steps m before q × (head_step q (content l) ≡ None))
 settle m [] = inl (m, stay)
 settle m (l ∷ ls) = by (head_step m (content l)) refl (λ q. settle q ls)
   where
-    by : (h : Heading) → head_step m (content l) ≡ h →
-        ((q : Met) → ((r : Met) × Steps q ls r) ⊎ ((before : List Bytes) × (after : List Bytes) × (x : Bytes) × (r : Met) × (ls ≡ before ++ (x ∷ after)) × Steps q before r × (head_step r (content x) ≡ H.Stop))) →
-        ((r : Met) × Steps m (l ∷ ls) r) ⊎ ((before : List Bytes) × (after : List Bytes) × (x : Bytes) × (r : Met) × (l ∷ ls ≡ before ++ (x ∷ after)) × Steps m before r × (head_step r (content x) ≡ H.Stop))
-    by H.Stop e ih = inr ([], ls, l, m, refl, stay, e)
-    by (H.Go q) e ih = on (ih q)
+    by : (h : Option Met) → head_step m (content l) ≡ h →
+        ((q : Met) → ((r : Met) × Steps q ls r) ⊎ ((before : List Bytes) × (after : List Bytes) × (x : Bytes) × (r : Met) × (ls ≡ before ++ (x ∷ after)) × Steps q before r × (head_step r (content x) ≡ None))) →
+        ((r : Met) × Steps m (l ∷ ls) r) ⊎ ((before : List Bytes) × (after : List Bytes) × (x : Bytes) × (r : Met) × (l ∷ ls ≡ before ++ (x ∷ after)) × Steps m before r × (head_step r (content x) ≡ None))
+    by None e ih = inr ([], ls, l, m, refl, stay, e)
+    by (Some q) e ih = on (ih q)
       where
-        on : ((r : Met) × Steps q ls r) ⊎ ((before : List Bytes) × (after : List Bytes) × (x : Bytes) × (r : Met) × (ls ≡ before ++ (x ∷ after)) × Steps q before r × (head_step r (content x) ≡ H.Stop)) →
-            ((r : Met) × Steps m (l ∷ ls) r) ⊎ ((before : List Bytes) × (after : List Bytes) × (x : Bytes) × (r : Met) × (l ∷ ls ≡ before ++ (x ∷ after)) × Steps m before r × (head_step r (content x) ≡ H.Stop))
+        on : ((r : Met) × Steps q ls r) ⊎ ((before : List Bytes) × (after : List Bytes) × (x : Bytes) × (r : Met) × (ls ≡ before ++ (x ∷ after)) × Steps q before r × (head_step r (content x) ≡ None)) →
+            ((r : Met) × Steps m (l ∷ ls) r) ⊎ ((before : List Bytes) × (after : List Bytes) × (x : Bytes) × (r : Met) × (l ∷ ls ≡ before ++ (x ∷ after)) × Steps m before r × (head_step r (content x) ≡ None))
         on (inl y) = inl (y.0, move e y.1)
         on (inr y) = inr (l ∷ y.0, y.1, y.2, y.3, ap (λ (z : List Bytes). l ∷ z) y.4, move e y.5, y.6)
 
@@ -188,7 +187,7 @@ pub passed : (ls : List Bytes) (q : Met) → Steps (met_none 0) ls q → head_of
 unfolding head_of head_run
 passed ls q s = let z : head_run (met_none 0) 0 (ls ++ []) ≡ head_end q (length ls + 0) = steps_run 0 [] s in (rw append-nil at z) ∙ ap (head_end q) (omega arith)
 
-stopped : (before after : List Bytes) (l : Bytes) (q : Met) → Steps (met_none 0) before q → head_step q (content l) ≡ H.Stop → head_of (before ++ (l ∷ after)) ≡ finding 2 (suc (length before))
+stopped : (before after : List Bytes) (l : Bytes) (q : Met) → Steps (met_none 0) before q → head_step q (content l) ≡ None → head_of (before ++ (l ∷ after)) ≡ finding 2 (suc (length before))
 unfolding head_of head_run head_continue
 stopped before after l q s e = steps_run 0 (l ∷ after) s ∙ rw e (ap (finding 2) (omega arith))
 
@@ -208,21 +207,21 @@ steps_keeps ls q s = of (steps_good fit s)
     of (started n f) = absurd (n refl)
 
 -- where the machine stops, the line breaks a rule, and the other way
-no_step : (q p r : Met) (l : Bytes) → q ≡ p → head_step q (content l) ≡ H.Stop → Steps p (l ∷ []) r → ⊥
-no_step q p r l z e (move {q = m} f s) = let g : head_step p (content l) ≡ H.Stop = rw z at e in let y : false ≡ true = cc in false≢true y
+no_step : (q p r : Met) (l : Bytes) → q ≡ p → head_step q (content l) ≡ None → Steps p (l ∷ []) r → ⊥
+no_step q p r l z e (move {q = m} f s) = let g : head_step p (content l) ≡ None = rw z at e in let y : false ≡ true = cc in false≢true y
 
-stop_breaks : (before : List Bytes) (l : Bytes) (q : Met) → Steps (met_none 0) before q → head_step q (content l) ≡ H.Stop → ¬ Keeps (before ++ (l ∷ []))
+stop_breaks : (before : List Bytes) (l : Bytes) (q : Met) → Steps (met_none 0) before q → head_step q (content l) ≡ None → ¬ Keeps (before ++ (l ∷ []))
 stop_breaks before l q s e k =
     let x = keeps_steps (before ++ (l ∷ [])) k in
     let y = steps_split before (l ∷ []) x.1 in
     no_step q y.0 x.0 l (steps_once s y.1) e y.2
 
-breaks_stop : (before : List Bytes) (l : Bytes) (q : Met) → Steps (met_none 0) before q → ¬ Keeps (before ++ (l ∷ [])) → head_step q (content l) ≡ H.Stop
+breaks_stop : (before : List Bytes) (l : Bytes) (q : Met) → Steps (met_none 0) before q → ¬ Keeps (before ++ (l ∷ [])) → head_step q (content l) ≡ None
 breaks_stop before l q s n = by (head_step q (content l)) refl
   where
-    by : (h : Heading) → head_step q (content l) ≡ h → head_step q (content l) ≡ H.Stop
-    by H.Stop e = e
-    by (H.Go r) e = absurd (n (steps_keeps (before ++ (l ∷ [])) r (steps_join s (move e stay))))
+    by : (h : Option Met) → head_step q (content l) ≡ h → head_step q (content l) ≡ None
+    by None e = e
+    by (Some r) e = absurd (n (steps_keeps (before ++ (l ∷ [])) r (steps_join s (move e stay))))
 
 -- a header has verdict 0 exactly if it is sound
 pub header_exactly : (ls : List Bytes) → head_of ls ≡ record { verdict = 0; line = 0 } ↔ SoundHeader ls
@@ -236,7 +235,7 @@ header_exactly ls = (λ e. into e (settle (met_none 0) ls), back)
     at_end true n e = refl
     at_end false n e = let z = ap (λ (f : Finding). f.verdict) e in absurd (let y : ⊥ = omega arith in y)
 
-    into : head_of ls ≡ finding 0 0 → ((q : Met) × Steps (met_none 0) ls q) ⊎ ((before : List Bytes) × (after : List Bytes) × (l : Bytes) × (q : Met) × (ls ≡ before ++ (l ∷ after)) × Steps (met_none 0) before q × (head_step q (content l) ≡ H.Stop)) → SoundHeader ls
+    into : head_of ls ≡ finding 0 0 → ((q : Met) × Steps (met_none 0) ls q) ⊎ ((before : List Bytes) × (after : List Bytes) × (l : Bytes) × (q : Met) × (ls ≡ before ++ (l ∷ after)) × Steps (met_none 0) before q × (head_step q (content l) ≡ None)) → SoundHeader ls
     into e (inl x) = complete_sound ls x.0 x.1 (steps_keeps ls x.0 x.1) (at_end (complete x.0) (length ls) (sym (passed ls x.0 x.1) ∙ e))
     into e (inr x) =
         let z = ap (λ (f : Finding). f.verdict) (sym e ∙ ap head_of x.4 ∙ stopped x.0 x.1 x.2 x.3 x.5 x.6) in
@@ -251,7 +250,7 @@ header_refused_exactly ls n = (λ e. into e (settle (met_none 0) ls), back)
     at_end true k e = let z = ap (λ (f : Finding). f.verdict) e in absurd (let y : ⊥ = omega arith in y)
     at_end false k e = (refl, sym (ap (λ (f : Finding). f.line) e))
 
-    into : head_of ls ≡ finding 2 n → ((q : Met) × Steps (met_none 0) ls q) ⊎ ((before : List Bytes) × (after : List Bytes) × (l : Bytes) × (q : Met) × (ls ≡ before ++ (l ∷ after)) × Steps (met_none 0) before q × (head_step q (content l) ≡ H.Stop)) → HeaderFault ls n
+    into : head_of ls ≡ finding 2 n → ((q : Met) × Steps (met_none 0) ls q) ⊎ ((before : List Bytes) × (after : List Bytes) × (l : Bytes) × (q : Met) × (ls ≡ before ++ (l ∷ after)) × Steps (met_none 0) before q × (head_step q (content l) ≡ None)) → HeaderFault ls n
     into e (inl x) =
         let y = at_end (complete x.0) (length ls) (sym (passed ls x.0 x.1) ∙ e) in
         missing (steps_keeps ls x.0 x.1) (λ h. false≢true (sym y.0 ∙ sound_complete ls x.0 x.1 h)) y.1
@@ -278,7 +277,7 @@ header_settled ls = by (settle (met_none 0) ls)
     at_end true e = inl e
     at_end false e = inr (length ls, e)
 
-    by : ((q : Met) × Steps (met_none 0) ls q) ⊎ ((before : List Bytes) × (after : List Bytes) × (l : Bytes) × (q : Met) × (ls ≡ before ++ (l ∷ after)) × Steps (met_none 0) before q × (head_step q (content l) ≡ H.Stop)) →
+    by : ((q : Met) × Steps (met_none 0) ls q) ⊎ ((before : List Bytes) × (after : List Bytes) × (l : Bytes) × (q : Met) × (ls ≡ before ++ (l ∷ after)) × Steps (met_none 0) before q × (head_step q (content l) ≡ None)) →
         (head_of ls ≡ finding 0 0) ⊎ ((n : ℕ) × (head_of ls ≡ finding 2 n))
     by (inl x) = at_end (complete x.0) (passed ls x.0 x.1)
     by (inr x) = inr (suc (length x.0), ap head_of x.4 ∙ stopped x.0 x.1 x.2 x.3 x.5 x.6)

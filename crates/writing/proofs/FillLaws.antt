@@ -1,4 +1,5 @@
 -- A fill that nothing refuses names a field of an accepted file, and a text of at most 40 bytes. Assumes nothing.
+use Rattle.std.specs.Prelude.{Result}
 use mathlib.Core.Path.{◌≡◌, refl, ap, sym, ◌∙◌}
 use mathlib.Core.Bool.{Bool, true, false, not, ◌||◌}
 use Prim.Native.Nat.{ℕ, suc, ◌-◌, ◌<◌, ◌≤◌}
@@ -12,7 +13,7 @@ use Rattle.page.specs.Lines.{allowed}
 use Rattle.page.specs.Cut.{sections}
 use Rattle.page.specs.Head.{latin_of}
 use Rattle.page.specs.Records.{table_index}
-use Rattle.page.specs.Model.{model_of, datum_at, fill}
+use Rattle.page.specs.Model.{model_of, datum_at}
 use Rattle.page.specs.Answers.{earlier, refuse_if}
 use Rattle.page.specs.Reading.{outside, section_at, row_at}
 use Rattle.page.specs.File.{file_refusal}
@@ -20,12 +21,12 @@ use Rattle.page.specs.Form.{form_of}
 use Rattle.page.specs.Writing.{put_of, put_after, empty_datum, fill_place, fill_refusal, fill_form}
 use Rattle.page.specs.declared.LineEnd.TheVariants as E
 use Rattle.page.specs.declared.Refusal.{Refusal}
-use Rattle.page.specs.declared.Stays.TheVariants as St
-use Rattle.page.specs.declared.Written.{Written}
 use Rattle.output.specs.Put.{Wrote}
 use Rattle.copies.specs.Changed.{changed_model}
-use Rattle.writing.proofs.ModelLaws.{coded, Beside}
-use Rattle.writing.proofs.FormLaws.{wrote_by}
+use Rattle.copies.specs.declared.plan.Change.TheVariants as C
+use Rattle.copies.specs.declared.plan.Fill.{Fill}
+use Rattle.writing.proofs.ModelLaws.{Named}
+use Rattle.writing.proofs.FormLaws.{lf_plan, wrote_by}
 use Rattle.page.proofs.TestLaws.{neither}
 use Rattle.laws.proofs.Earlier.{earlier_none}
 
@@ -85,18 +86,20 @@ module _ (s : Bytes) (i r f : ℕ) (t : Bytes) where
         size = ltb-false 40 (length t) (unrefused (ltb 40 (length t)) 12 g.1);
       }
 
-module _ (s : Bytes) (i r f : ℕ) (t : Bytes) (q : Refusal) (e : q ≡ fill_refusal s i r f t) where
-  pub fill_ready : q.number ≡ 0 → ((file_refusal s).number ≡ 0) × (length t ≤ 40)
-  fill_ready z = let x = fillable s i r f t (sym (ap (λ (y : Refusal). y.number) e) ∙ z) in (x.file, x.size)
+module _ (s : Bytes) (x : Fill) (q : Refusal) (e : q ≡ fill_refusal s x.section x.rec x.field x.text.now) where
+  ready : q.number ≡ 0 → Fillable s x.section x.rec x.field x.text.now
+  ready z = fillable s x.section x.rec x.field x.text.now (sym (ap (λ (y : Refusal). y.number) e) ∙ z)
 
-  filled : q.number ≡ 0 → Beside (fill i r f t) t
-  filled z =
-      let k = fillable s i r f t (sym (ap (λ (y : Refusal). y.number) e) ∙ z) in
-      (refl, k.section, k.entry, k.field)
+  pub fill_ready : q.number ≡ 0 → (file_refusal s).number ≡ 0
+  fill_ready z = (ready z).file
 
-  pub fill_done : (before after : Bytes) (w : Written) → Wrote q (form_of E.Lf (changed_model (coded E.Lf St.All (fill i r f t)) t (model_of s))) before after w
-      → (w ≡ put_of (fill_refusal s i r f t) (fill_form s i r f t) (length before)) × (after ≡ put_after (fill_refusal s i r f t) (fill_form s i r f t) before)
+  filled : q.number ≡ 0 → Named (C.Fill x)
+  filled z = let k = ready z in (k.section, k.entry, k.field)
+
+  pub fill_done : (before after : Bytes) (w : Result ℕ Refusal) → Wrote q (form_of E.Lf (changed_model (lf_plan (C.Fill x)) (model_of s))) before after w
+      → (w ≡ put_of (fill_refusal s x.section x.rec x.field x.text.now) (fill_form s x.section x.rec x.field x.text.now) (length before))
+      × (after ≡ put_after (fill_refusal s x.section x.rec x.field x.text.now) (fill_form s x.section x.rec x.field x.text.now) before)
   unfolding fill_form
-  fill_done before after w x =
-      let y = wrote_by s t E.Lf St.All (fill i r f t) filled x in
-      (rw (sym e) y.answer, rw (sym e) y.left)
+  fill_done before after w y =
+      let z = wrote_by s (lf_plan (C.Fill x)) filled y in
+      (rw (sym e) z.answer, rw (sym e) z.left)

@@ -1,8 +1,8 @@
 -- A sound header's texts stand in the file as they are written. Assumes nothing.
+use Rattle.std.specs.Prelude.{None, Some, Option}
 use mathlib.Core.Path.{◌≡◌, refl, ap, sym, ◌∙◌}
 use mathlib.Core.Bool.{Bool, true, false, false≢true}
 use mathlib.Core.List.{List, []}
-use mathlib.Core.Option.{Option, none, some}
 use Prim.Native.Nat.{ℕ, zero, suc, ◌+◌, ◌-◌, ◌<◌, ◌≤◌}
 use native.Mathlib.Omega.{arith}
 use borrow.Author.Tests.{eqb-true, eqb-false, ne_eqb, ltb-true, ltb-false}
@@ -18,7 +18,6 @@ use Rattle.page.specs.Head.{field_in, text_in, text_if, stands_in, text_span, sp
 use Rattle.page.specs.Records.{own_bytes}
 use Rattle.page.specs.Form.{doubled}
 use Rattle.page.specs.declared.Span.{Span}
-use Rattle.page.specs.declared.Stated.TheVariants as St
 use Rattle.page.proofs.ScanLaws.{part_length, part_moved}
 use Rattle.page.proofs.LineLaws.{line_size, line_in, cut_at, lines_end}
 use Rattle.page.proofs.CutLaws.{header_run}
@@ -81,7 +80,7 @@ within_front r n s o i =
 
 -- what stands between a text's quotes, by its place in the whole
 
-between : (w s : Bytes) (a n : ℕ) (sp : Span) (f u : Bytes) → sp.from ≤ sp.to → sp.to ≤ length w → part sp w ≡ f → text_of f ≡ some u
+between : (w s : Bytes) (a n : ℕ) (sp : Span) (f u : Bytes) → sp.from ≤ sp.to → sp.to ≤ length w → part sp w ≡ f → text_of f ≡ Some u
     → w ≡ take n (drop a s) → length w ≤ n → part (moved a (unquoted sp)) s ≡ doubled u
 between w s a n sp f u o i e t q l =
     let m = sp.to - sp.from in
@@ -105,9 +104,9 @@ pub record Texts (ls : List Bytes) : Type 0 where
 
 -- a text of the header: its bytes in the file are the text with its quotes doubled
 
-some_of : (o : Option Bytes) → is_text o ≡ true → o ≡ some (own_bytes o)
-some_of none e = absurd (false≢true e)
-some_of (some u) e = refl
+some_of : (o : Option Bytes) → is_text o ≡ true → o ≡ Some (own_bytes o)
+some_of None e = absurd (false≢true e)
+some_of (Some u) e = refl
 
 module _ (s : Bytes) where
   abbrev ls : List Bytes
@@ -143,7 +142,7 @@ module _ (s : Bytes) where
   unfolding span_if text_if
   stated_placed k b t = by (stands_in k ls) refl
     where
-      by : (x : Bool) → stands_in k ls ≡ x → Same_stated s (pick x (St.At (text_span k ls)) St.Absent) (pick x (some (text_in k ls)) none)
+      by : (x : Bool) → stands_in k ls ≡ x → Same_stated s (pick x (Some (text_span k ls)) None) (pick x (Some (text_in k ls)) None)
       by true e = stated (text_span k ls) (text_in k ls) (text_placed k b e (t e))
       by false e = absent
 

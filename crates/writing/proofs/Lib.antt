@@ -1,5 +1,4 @@
 pub mod SoundLaws
-pub mod RoomLaws
 pub mod HeadLaws
 pub mod ModelLaws
 pub mod HeaderLaws

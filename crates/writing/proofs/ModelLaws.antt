@@ -9,10 +9,10 @@ use lib.Dec.{eqb}
 use Rattle.page.specs.Bytes.{Bytes, pick}
 use Rattle.page.specs.Records.{words, Record}
 use Rattle.page.specs.Model.{Content, Model, change, fill_record, fill_content, fill_model, strip_datum, strip_content, strip_model, Changes, nothing as no_change, strip as no-marks, fill as one_text, changed, kept}
-use Rattle.page.specs.declared.LineEnd.{LineEnd}
 use Rattle.page.specs.declared.Owner.TheVariants as O
-use Rattle.page.specs.declared.Stays.{Stays}
-use Rattle.copies.specs.Changed.{kept_tables, changed_datum, changed_values, changed_records, changed_content, changed_tables, changed_model}
+use Rattle.copies.specs.Changed.{strips, section_of, record_of, field_of, text_of, kept_tables, changed_datum, changed_values, changed_records, changed_content, changed_tables, changed_model}
+use Rattle.copies.specs.declared.plan.Change.{Change}
+use Rattle.copies.specs.declared.plan.Change.TheVariants as C
 use Rattle.copies.specs.declared.plan.Plan.{Plan}
 use Rattle.copies.proofs.KeptLaws.{kept_is}
 
@@ -104,21 +104,32 @@ tables_filled : (i r f : ℕ) (t : Bytes) (cs : List Content) → 0 < i → 0 < 
 tables_filled zero r f t cs a b c = absurd (omega arith)
 tables_filled (suc k) r f t cs a b c = tables_fill k r f t cs b c ∙ rw (less_one k)
 
--- The code's plan for what is changed, and the text beside it.
+-- What the code's word for a change says, where a section, a record and a field are named.
 
-abbrev pub coded : LineEnd → Stays → Changes → Plan
-coded e x no_change = record { ends = e; stays = x; strip = false; section = 0; rec = 0; field = 0 }
-coded e x no-marks = record { ends = e; stays = x; strip = true; section = 0; rec = 0; field = 0 }
-coded e x (one_text i r f t) = record { ends = e; stays = x; strip = false; section = i; rec = r; field = f }
+abbrev pub said : Change → Changes
+said C.Nothing = no_change
+said C.Strip = no-marks
+said (C.Fill x) = one_text x.section x.rec x.field x.text.now
 
-abbrev pub Beside : Changes → Bytes → Type 0
-Beside no_change t = Unit
-Beside no-marks t = Unit
-Beside (one_text i r f u) t = (t ≡ u) × (0 < i) × (0 < r) × (0 < f)
+abbrev pub Named : Change → Type 0
+Named C.Nothing = Unit
+Named C.Strip = Unit
+Named (C.Fill x) = (0 < x.section) × (0 < x.rec) × (0 < x.field)
 
-pub planned : (e : LineEnd) (x : Stays) (c : Changes) (t : Bytes) (m : Model) → Beside c t → changed_model (coded e x c) t m ≡ changed c (kept x m)
+pub planned : (p : Plan) (m : Model) → Named p.change → changed_model p m ≡ changed (said p.change) (kept p.stays m)
 unfolding changed_model changed strip_model fill_model
-planned e x no_change t m b = rw (tables_none 0 0 t (kept_tables x m.tables)) (kept_is x m)
-planned e x no-marks t m b = rw (tables_strip 0 0 t (kept_tables x m.tables)) (ap strip_model (kept_is x m))
-planned e x (one_text i r f u) t m b =
-    rw (b.0, tables_filled i r f u (kept_tables x m.tables) b.1 b.2 b.3) (ap (fill_model i r f u) (kept_is x m))
+planned p m b = by p.change b
+  where
+    form : Change → Model
+    form c =
+        record {
+          head = m.head;
+          tables = changed_tables (strips c) (section_of c) (record_of c) (field_of c) (text_of c) (kept_tables p.stays m.tables);
+        }
+
+    by : (c : Change) → Named c → form c ≡ changed (said c) (kept p.stays m)
+    by C.Nothing b = rw (tables_none 0 0 [] (kept_tables p.stays m.tables)) (kept_is p.stays m)
+    by C.Strip b = rw (tables_strip 0 0 [] (kept_tables p.stays m.tables)) (ap strip_model (kept_is p.stays m))
+    by (C.Fill x) b =
+        rw (tables_filled x.section x.rec x.field x.text.now (kept_tables p.stays m.tables) b.0 b.1 b.2)
+        (ap (fill_model x.section x.rec x.field x.text.now) (kept_is p.stays m))

@@ -1,5 +1,5 @@
 // Writing, stripping and filling into lent output, whole or not at all, where it is known what refuses them.
-ghost use Rattle.std.specs.Prelude.{◌≡◌, ◌≤◌, length};
+ghost use Rattle.std.specs.Prelude.{◌≡◌, length};
 ghost use Rattle.page.specs.File.{file_refusal};
 ghost use Rattle.page.specs.Model.{model_of};
 ghost use Rattle.page.specs.Form.{form_of};
@@ -8,58 +8,57 @@ ghost use Rattle.output.specs.Put.{Wrote};
 ghost use Rattle.copies.specs.Changed.{changed_model};
 
 use crate::file::put_form;
-use copies::Plan;
-use output::refuse_room;
-use page::{LineEnd, Refusal, Stays, Written};
+use copies::{Change, Fill, Plan};
+use output::{Output, refuse_room};
+use page::{LineEnd, Refusal, Stays};
 
-// The planned form at the front of `out`, unless something refuses it: the measuring pass is the writing pass with nothing lent.
-fn hand_form(out: &mut [u8], refusal: Refusal, s: &[u8], plan: Plan, text: &[u8]) -> Written
-    requires { refusal.number ≡ 0 → ((file_refusal s.now).number ≡ 0) × (length text.now ≤ 40) }
-    ensures { Wrote refusal (form_of plan.ends (changed_model plan text.now (model_of s.now))) out.old out.new result }
+// The changed form at the front of `out`, unless something refuses it: the measuring pass is the writing pass with nothing lent.
+fn hand_form(
+    out: &mut [u8],
+    refusal: Refusal,
+    s: &[u8],
+    change: Change<'_>,
+) -> Result<usize, Refusal>
+    requires { refusal.number ≡ 0 → (file_refusal s.now).number ≡ 0 }
+    ensures { Wrote refusal
+        (form_of LineEnd.Lf (changed_model (record { ends = LineEnd.Lf; stays = Stays.All; change = change.entry }) (model_of s.now)))
+        out.old out.new result }
 {
     if refusal.number != 0 {
-        return Written::Refused(refusal);
+        return Err(refusal);
     }
-    let need = put_form(&mut out[..0], s, plan, text);
-    let room = refuse_room(need, out.len());
-    if room.number != 0 {
-        return Written::Refused(room);
-    }
-    Written::Length(put_form(out, s, plan, text))
+    let plan = Plan {
+        ends: LineEnd::Lf,
+        stays: Stays::All,
+        change,
+    };
+    let mut measured = Output {
+        room: &mut [],
+        at: 0,
+    };
+    put_form(&mut measured, s, plan);
+    refuse_room(measured.at, out.len())?;
+    let mut written = Output { room: out, at: 0 };
+    put_form(&mut written, s, plan);
+    Ok(written.at)
 }
 
 // "Only a file with verdict 0 is written; else its verdict is given."
-pub fn write_checked(s: &[u8], refusal: Refusal, out: &mut [u8]) -> Written
+pub fn write_checked(s: &[u8], refusal: Refusal, out: &mut [u8]) -> Result<usize, Refusal>
     requires { refusal ≡ file_refusal s.now }
     ensures { (result ≡ write_of s.now (length out.old))
         × (out.new ≡ write_after s.now out.old) }
 {
-    let plan = Plan {
-        ends: LineEnd::Lf,
-        stays: Stays::All,
-        strip: false,
-        section: 0,
-        rec: 0,
-        field: 0,
-    };
-    hand_form(out, refusal, s, plan, &s[..0])
+    hand_form(out, refusal, s, Change::Nothing)
 }
 
 // "Stripping gives the written form with marked texts empty and no marks."
-pub fn strip_checked(s: &[u8], refusal: Refusal, out: &mut [u8]) -> Written
+pub fn strip_checked(s: &[u8], refusal: Refusal, out: &mut [u8]) -> Result<usize, Refusal>
     requires { refusal ≡ file_refusal s.now }
     ensures { (result ≡ strip_of s.now (length out.old))
         × (out.new ≡ strip_after s.now out.old) }
 {
-    let plan = Plan {
-        ends: LineEnd::Lf,
-        stays: Stays::All,
-        strip: true,
-        section: 0,
-        rec: 0,
-        field: 0,
-    };
-    hand_form(out, refusal, s, plan, &s[..0])
+    hand_form(out, refusal, s, Change::Strip)
 }
 
 // The text is put in as it is: who calls has taken the spaces at its end off.
@@ -71,18 +70,16 @@ pub fn fill_checked(
     field: usize,
     text: &[u8],
     out: &mut [u8],
-) -> Written
+) -> Result<usize, Refusal>
     requires { refusal ≡ fill_refusal s.now section entry field text.now }
     ensures { (result ≡ put_of (fill_refusal s.now section entry field text.now) (fill_form s.now section entry field text.now) (length out.old))
         × (out.new ≡ put_after (fill_refusal s.now section entry field text.now) (fill_form s.now section entry field text.now) out.old) }
 {
-    let plan = Plan {
-        ends: LineEnd::Lf,
-        stays: Stays::All,
-        strip: false,
-        section: section,
+    let fill = Fill {
+        section,
         rec: entry,
-        field: field,
+        field,
+        text,
     };
-    hand_form(out, refusal, s, plan, text)
+    hand_form(out, refusal, s, Change::Fill(fill))
 }

@@ -1,49 +1,42 @@
 // The written file.
-ghost use Rattle.std.specs.Prelude.{◌≡◌, map, ◌+◌, ◌<◌, ◌≤◌, ◌^◌, length};
+ghost use Rattle.std.specs.Prelude.{◌≡◌, map, length};
 ghost use Rattle.page.specs.Cut.{sections};
 ghost use Rattle.page.specs.File.{file_refusal};
 ghost use Rattle.page.specs.Model.{model_of};
 ghost use Rattle.page.specs.Form.{form_of};
-ghost use Rattle.output.specs.Put.{Put};
+ghost use Rattle.output.specs.Put.{Puts};
 ghost use Rattle.recording.specs.Said.{said_in, Passing};
 ghost use Rattle.copies.specs.Changed.{changed_model};
 ghost use Rattle.copies.specs.Planned.{tables_by};
 
 use copies::{Plan, plan_section};
 use frames::{put_count_line, put_head};
-use recording::{Progress, put_section};
+use output::Output;
+use recording::put_section;
 
-// "sections keep their order": the records of every section passed their rules.
-fn put_sections(out: &mut [u8], at: usize, s: &[u8], plan: Plan, text: &[u8]) -> Progress
-    requires { (at
-        + length (tables_by plan 0 text.now (map said_in (sections s.now)))
-        + 2560 < 2 ^ 62)
-        × (length text.now ≤ 40)
-        × Passing s.now }
-    ensures { Put out.old at
-        (tables_by plan 0 text.now (map said_in (sections s.now))) out.new result.at
-        × (result.count ≡ length (sections s.now)) }
+// "sections keep their order": the records of every section passed their rules. How many sections there are.
+fn put_sections(out: &mut Output<'_>, s: &[u8], plan: Plan<'_>) -> usize
+    requires { Passing s.now }
+    ensures form { Puts out.old (tables_by plan.entry 0 (map said_in (sections s.now))) out.new }
+    ensures count { result ≡ length (sections s.now) }
 {
     let mut a = cut::find_section(s, 0);
-    let mut n: usize = 0;
-    let mut o = at;
+    let mut n = 0;
     while a < s.len() {
         let e = cut::section_end(s, a);
-        o = put_section(out, o, &s[a..e], plan_section(plan, n), text);
+        put_section(out, &s[a..e], plan_section(plan, n));
         a = cut::find_section(s, e);
         n += 1;
     }
-    Progress { at: o, count: n }
+    n
 }
 
 // The planned form of an accepted file.
-pub fn put_form(out: &mut [u8], s: &[u8], plan: Plan, text: &[u8]) -> usize
-    requires { ((file_refusal s.now).number ≡ 0) × (length text.now ≤ 40) }
-    ensures { Put out.old 0 (form_of plan.ends (changed_model plan text.now (model_of s.now))) out.new result }
+pub fn put_form(out: &mut Output<'_>, s: &[u8], plan: Plan<'_>)
+    requires { (file_refusal s.now).number ≡ 0 }
+    ensures { Puts out.old (form_of plan.entry.ends (changed_model plan.entry (model_of s.now))) out.new }
 {
-    let ends = plan.ends;
-    let header = headers::read_values(s);
-    let a = put_head(out, 0, ends, s, header);
-    let p = put_sections(out, a, s, plan, text);
-    put_count_line(out, p.at, ends, b"eof", p.count as u64)
+    put_head(out, plan.ends, s, headers::read_values(s));
+    let n = put_sections(out, s, plan);
+    put_count_line(out, plan.ends, b"eof", n as u64);
 }

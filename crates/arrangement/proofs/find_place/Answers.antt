@@ -9,22 +9,19 @@ use Rattle.arrangement.specs.Orders.{held}
 use Rattle.arrangement.proofs.OrderLaws.{held_length, held_at, place_hit, place_more, place_end}
 use Rattle.arrangement.proofs.find_place.Goals as goal
 
-pub loop-p-init : goal.loop-p-init
-loop-p-init c = (c.find_width-n.ensures, omega arith, omega arith)
-
 pub bounds-o-p : goal.bounds-o-p
 bounds-o-p c = let w = width_le c.args.t in omega arith
 
-pub overflow_cast-x : goal.overflow_cast-x
-overflow_cast-x c = let s = c.requires.small c.loop-p.p in search rules
+pub overflow_cast-o : goal.overflow_cast-o
+overflow_cast-o c = let s = c.requires.small c.loop-p.p in search rules
 
-pub returns-then-x-c : goal.returns-then-x-c
-returns-then-x-c c =
+pub returns-then-o-p : goal.returns-then-o-p
+returns-then-o-p c =
     let a = c.args in
     let l = c.loop-p in
     let k : l.p < width a.t = omega arith in
     let n : l.p < length (held a.t a.o.now) = omega (arith, held_length a.t a.o.now c.requires) in
-    let h = place_hit a.c (held a.t a.o.now) l.p n (held_at a.t a.o.now l.p k ∙ c.if-x-c.true) in
+    let h = place_hit a.c (held a.t a.o.now) l.p n (held_at a.t a.o.now l.p k ∙ c.if-o-p.true) in
     omega arith
 
 pub loop-p-preserved : goal.loop-p-preserved
@@ -33,8 +30,8 @@ loop-p-preserved c =
     let l = c.loop-p in
     let k : l.p < width a.t = omega arith in
     let n : l.p < length (held a.t a.o.now) = omega (arith, held_length a.t a.o.now c.requires) in
-    let h = place_more a.c (held a.t a.o.now) l.p n (λ e. c.if-x-c.false (sym (held_at a.t a.o.now l.p k) ∙ e)) in
-    (l.invariant.0, omega arith, omega arith)
+    let h = place_more a.c (held a.t a.o.now) l.p n (λ e. c.if-o-p.false (sym (held_at a.t a.o.now l.p k) ∙ e)) in
+    omega arith
 
 pub returns : goal.returns
 returns c =

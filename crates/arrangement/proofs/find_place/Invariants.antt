@@ -1,13 +1,9 @@
 use mathlib.Core.Path.{◌≡◌}
-use Prim.Native.Nat.{◌+◌, ◌-◌, ◌≤◌}
+use Prim.Native.Nat.{◌+◌}
 use lib.ListN.{drop}
-use Rattle.page.specs.Tables.{width}
 use Rattle.page.specs.Order.{place}
 use Rattle.arrangement.specs.Orders.{held}
 use Rattle.arrangement.proofs.find_place.Given as goal
 
 abbrev pub invariant-loop-p : goal.invariant-loop-p
-invariant-loop-p l = (l.n ≡ width l.t) × (l.p ≤ l.n) × (l.p + place l.c (drop l.p (held l.t l.o)) ≡ place l.c (held l.t l.o))
-
-abbrev pub decreases-loop-p : goal.decreases-loop-p
-decreases-loop-p l = l.n - l.p
+invariant-loop-p l = l.p + place l.c (drop l.p (held l.t l.o)) ≡ place l.c (held l.t l.o)

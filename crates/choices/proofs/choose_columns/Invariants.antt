@@ -8,6 +8,3 @@ use Rattle.choices.proofs.choose_columns.Given as goal
 abbrev pub invariant-loop-k : goal.invariant-loop-k
 invariant-loop-k l =
     (l.k ≤ width l.t) × (l.kinds ≡ kinds_from l.taken l.t (held l.t l.o) l.k) × (l.slots ≡ slots_from l.taken l.t (held l.t l.o) l.k)
-
-abbrev pub decreases-loop-k : goal.decreases-loop-k
-decreases-loop-k l = l.k

@@ -3,7 +3,6 @@ use mathlib.Core.Bool.{Bool}
 use Prim.Native.Nat.{◌-◌, ◌<◌, ◌≤◌}
 use native.Mathlib.Omega.{arith}
 use borrow.Author.Rules.{rules}
-use borrow.Author.Tests.{not-true, not-false}
 use lib.ListN.{length, get_or, take, drop}
 use Rattle.page.specs.declared.Column.{Column}
 use Rattle.page.specs.Bytes.{trim}
@@ -22,19 +21,19 @@ pub loop-k-init : goal.loop-k-init
 loop-k-init c =
     let a = c.args in
     let cs = standing a.t (held a.t a.o.now) in
-    (omega arith, omega arith, ap (matches has_format cs) (from_all a.w.now) ∙ sym (formats_matches cs (fields a.w.now)))
+    (omega arith, ap (matches has_format cs) (from_all a.w.now) ∙ sym (formats_matches cs (fields a.w.now)))
 
 pub returns-then-w-at : goal.returns-then-w-at
 returns-then-w-at c =
     let a = c.args in
     let cs = standing a.t (held a.t a.o.now) in
-    let n : c.find_width-n.result ≡ length cs = c.find_width-n.ensures ∙ sym (held_standing a.t a.o.now c.requires) in
+    let n : c.find_width-k-end.result ≡ length cs = c.find_width-k-end.ensures ∙ sym (held_standing a.t a.o.now c.requires) in
     let l = c.loop-k in
     let w = a.w.now in
-    sym (matches_none has_format cs l.k (omega arith) (from w l.at) (from_end w l.at c.if-w-at.true)) ∙ l.invariant.2
+    sym (matches_none has_format cs l.k (omega arith) (from w l.at) (from_end w l.at c.if-w-at.true)) ∙ l.invariant.1
 
 pub bounds-o-k : goal.bounds-o-k
-bounds-o-k c = omega (arith, width_le c.args.t, c.find_width-n.ensures)
+bounds-o-k c = omega (arith, width_le c.args.t, c.find_width-k-end.ensures)
 
 pub overflow_cast-o : goal.overflow_cast-o
 overflow_cast-o c = let s = c.requires.small c.loop-k.k in search rules
@@ -49,7 +48,7 @@ pub returns-then-not-is_format : goal.returns-then-not-is_format
 returns-then-not-is_format c =
     let a = c.args in
     let cs = standing a.t (held a.t a.o.now) in
-    let n : c.find_width-n.result ≡ length cs = c.find_width-n.ensures ∙ sym (held_standing a.t a.o.now c.requires) in
+    let n : c.find_width-k-end.result ≡ length cs = c.find_width-k-end.ensures ∙ sym (held_standing a.t a.o.now c.requires) in
     let l = c.loop-k in
     let e = c.field_end-e in
     let w = a.w.now in
@@ -57,12 +56,12 @@ returns-then-not-is_format c =
     let k : l.k < length cs = omega arith in
     let f = take (e.result - l.at) (drop l.at w) in
     let i : (get_or cs l.k no_column).column.text ≡ c.is_text-text.result =
-    ap (λ (x : Column). x.text) (held_column a.t a.o.now l.k c.requires (omega (arith, c.find_width-n.ensures))) ∙ sym c.is_text-text.ensures in
+    ap (λ (x : Column). x.text) (held_column a.t a.o.now l.k c.requires (omega (arith, c.find_width-k-end.ensures))) ∙ sym c.is_text-text.ensures in
     let q : format_ok (get_or cs l.k no_column).column.text (trim f) ≡ c.is_format.result =
     ap (λ (x : Bool). format_ok x (trim f)) i
     ∙ ap (format_ok c.is_text-text.result) (sym c.trimmed.ensures) ∙ sym c.is_format.ensures in
     let m = from_more w l.at e.result h e.ensures in
-    sym (matches_not has_format cs l.k k (from w l.at) _ _ m (q ∙ not-true _ c.if-not-is_format.true-raw)) ∙ l.invariant.2
+    sym (matches_not has_format cs l.k k (from w l.at) _ _ m (q ∙ c.if-not-is_format.true)) ∙ l.invariant.1
 
 pub overflow_add-at : goal.overflow_add-at
 overflow_add-at c =
@@ -73,7 +72,7 @@ pub loop-k-preserved : goal.loop-k-preserved
 loop-k-preserved c =
     let a = c.args in
     let cs = standing a.t (held a.t a.o.now) in
-    let n : c.find_width-n.result ≡ length cs = c.find_width-n.ensures ∙ sym (held_standing a.t a.o.now c.requires) in
+    let n : c.find_width-k-end.result ≡ length cs = c.find_width-k-end.ensures ∙ sym (held_standing a.t a.o.now c.requires) in
     let l = c.loop-k in
     let e = c.field_end-e in
     let w = a.w.now in
@@ -81,20 +80,19 @@ loop-k-preserved c =
     let k : l.k < length cs = omega arith in
     let f = take (e.result - l.at) (drop l.at w) in
     let i : (get_or cs l.k no_column).column.text ≡ c.is_text-text.result =
-    ap (λ (x : Column). x.text) (held_column a.t a.o.now l.k c.requires (omega (arith, c.find_width-n.ensures))) ∙ sym c.is_text-text.ensures in
+    ap (λ (x : Column). x.text) (held_column a.t a.o.now l.k c.requires (omega (arith, c.find_width-k-end.ensures))) ∙ sym c.is_text-text.ensures in
     let q : format_ok (get_or cs l.k no_column).column.text (trim f) ≡ c.is_format.result =
     ap (λ (x : Bool). format_ok x (trim f)) i
     ∙ ap (format_ok c.is_text-text.result) (sym c.trimmed.ensures) ∙ sym c.is_format.ensures in
     let m = from_more w l.at e.result h e.ensures in (
-      omega arith,
       omega (arith, end_in w l.at e.result h e.ensures),
-      sym (matches_more has_format cs l.k k (from w l.at) _ _ m (q ∙ not-false _ c.if-not-is_format.false-raw)) ∙ l.invariant.2,
+      sym (matches_more has_format cs l.k k (from w l.at) _ _ m (q ∙ c.if-not-is_format.false)) ∙ l.invariant.1,
     )
 
 pub returns : goal.returns
 returns c =
     let a = c.args in
     let cs = standing a.t (held a.t a.o.now) in
-    let n : c.find_width-n.result ≡ length cs = c.find_width-n.ensures ∙ sym (held_standing a.t a.o.now c.requires) in
+    let n : c.find_width-k-end.result ≡ length cs = c.find_width-k-end.ensures ∙ sym (held_standing a.t a.o.now c.requires) in
     let l = c.loop-k in
-    matches_last has_format cs l.k (omega arith) a.w.now l.at ∙ l.invariant.2
+    matches_last has_format cs l.k (omega arith) a.w.now l.at ∙ l.invariant.1

@@ -1,5 +1,5 @@
 use mathlib.Core.Path.{◌≡◌}
-use Prim.Native.Nat.{◌+◌, ◌-◌, ◌≤◌}
+use Prim.Native.Nat.{◌+◌, ◌≤◌}
 use lib.ListN.{length, drop}
 use Rattle.page.specs.Fields.{fields}
 use Rattle.page.specs.Order.{standing}
@@ -11,7 +11,4 @@ use Rattle.names.proofs.formats_match.Given as goal
 
 abbrev pub invariant-loop-k : goal.invariant-loop-k
 invariant-loop-k l =
-    (l.k ≤ l.n) × (l.at ≤ length l.w + 1) × (matches has_format (drop l.k (standing l.t (held l.t l.o))) (from l.w l.at) ≡ formats_ok (standing l.t (held l.t l.o)) (fields l.w))
-
-abbrev pub decreases-loop-k : goal.decreases-loop-k
-decreases-loop-k l = l.n - l.k
+    (l.at ≤ length l.w + 1) × (matches has_format (drop l.k (standing l.t (held l.t l.o))) (from l.w l.at) ≡ formats_ok (standing l.t (held l.t l.o)) (fields l.w))

@@ -1,78 +1,44 @@
-use Rattle.rounds.proofs.NumberLaws.{stands_first, stands_in, stands_next, stands_end, again_here}
-use Rattle.rounds.proofs.RoundLaws.{told_met, told_new}
-use Prim.Native.Nat.{◌-◌}
 use mathlib.Core.Path.{refl, ◌∙◌}
 use native.Mathlib.Omega.{arith}
+use Rattle.rounds.proofs.NumberLaws.{stands_first, stands_in, stands_next, again_here}
+use Rattle.rounds.proofs.RoundLaws.{told_met, told_new}
 use Rattle.rounds.proofs.settle_doubts.Goals as goal
+use Rattle.rounds.proofs.settle_doubts.Goals.{else-put_doubtful-via-then-put_doubtful+else-is_again, else-put_doubtful-via-else-put_doubtful}
 
-pub loop-at-init : goal.loop-at-init
-loop-at-init c = (omega arith, refl, stands_first _, λ m h. absurd (omega arith))
-
-pub returns-then-i-last : goal.returns-then-i-last
-returns-then-i-last c = record { within = omega arith; hit = λ l. absurd (omega arith); clear = λ m h x o. (c.loop-at.invariant.3 m (omega arith) o).0 }
-
-pub pass_line-at-requires : goal.pass_line-at-requires
-pass_line-at-requires c = c.loop-at-test.true
-
-pub overflow_add-i : goal.overflow_add-i
-overflow_add-i c = omega (arith, c.loop-at.invariant.2.low)
-
-pub put_doubtful-requires : goal.put_doubtful-requires
-put_doubtful-requires c = (c.requires.0, omega (arith, c.requires.1, c.loop-at.invariant.1))
-
-pub is_again-requires : goal.is_again-requires
-is_again-requires c = (omega arith, omega arith)
+pub loop-i-init : goal.loop-i-init
+loop-i-init c =
+    let r = c.enumerate-i-items.ensures in
+    rw (c.into_iter-i-iterator.ensures.into_iter_gives, r.count, r.source, c.lines_of.ensures.bytes, c.lines_of.ensures.at)
+    (refl, omega arith, refl, stands_first _, λ m h. absurd (omega arith))
 
 pub returns-then-is_again : goal.returns-then-is_again
 returns-then-is_again c =
-    let w = c.args.w.now in
-    let v = c.loop-at in
-    let e = c.pass_line-at.result in
-    let z = c.pass_line-at.ensures.0 in
-    record {
-      within = omega arith;
-      hit = λ l. (stands_in w v.at v.i e v.invariant.2 c.loop-at-test.true z, again_here w v.at v.i e v.invariant.2 c.loop-at-test.true z _ _ c.is_again.ensures ∙ c.if-is_again.true);
-      clear = λ m h x o. (v.invariant.3 m h o).0;
+    let v = c.loop-i.invariant in
+    let g = c.in-Some.ensures.steps in
+    let t = rw v.0 at g.0.1 in
+    let a = rw (t.at, t.bytes) at c.is_again.ensures in
+    rw g.1 record {
+      within = omega (arith, g.1);
+      hit = λ l. (stands_in _ _ _ _ v.3 t.before t.size, again_here _ _ _ _ v.3 t.before t.size _ _ a ∙ c.if-is_again.true);
+      clear = λ m h x o. (v.4 m h o).0;
     }
 
-pub loop-at-smaller-else-is_again : goal.loop-at-smaller-else-is_again
-loop-at-smaller-else-is_again c = omega arith
-
-pub loop-at-preserved-else-is_again : goal.loop-at-preserved-else-is_again
-loop-at-preserved-else-is_again c =
-    let w = c.args.w.now in
-    let v = c.loop-at in
-    let e = c.pass_line-at.result in
-    let z = c.pass_line-at.ensures.0 in
-    let p = c.put_doubtful in (
-      omega arith,
-      p.auto.t ∙ v.invariant.1,
-      stands_next w v.at v.i e v.invariant.2 c.loop-at-test.true z,
-      told_met _ w v.at v.i e v.invariant.2 c.loop-at-test.true z _ _ _ _ v.invariant.3 _ _ p.ensures v.invariant.1 _ c.is_again.ensures c.if-is_again.false,
+pub loop-i-preserved : goal.loop-i-preserved
+loop-i-preserved c =
+    let v = c.loop-i.invariant in
+    let g = c.in-Some.ensures.steps in
+    let t = rw v.0 at g.0.1 in
+    let p = c.put_doubtful in
+    let m = rw t.bytes at p.ensures in
+    rw g.2 (
+      g.0.0 ∙ v.0,
+      omega (arith, g.1),
+      p.auto.t ∙ v.2,
+      stands_next _ _ _ _ v.3 t.before t.size,
+      elim c.else-put_doubtful.branch [
+        | else-put_doubtful-via-then-put_doubtful+else-is_again x ↦
+            let a = rw (t.at, t.bytes) at x.is_again.ensures in
+            told_met _ _ _ _ _ v.3 t.before t.size _ _ _ _ v.4 _ _ m v.2 _ a x.if-is_again.false
+        | else-put_doubtful-via-else-put_doubtful x ↦ told_new _ _ _ _ _ v.3 t.before t.size _ _ _ _ v.4 _ _ m v.2 x.if-put_doubtful.false
+      ],
     )
-
-pub loop-at-smaller : goal.loop-at-smaller
-loop-at-smaller c = omega arith
-
-pub loop-at-preserved : goal.loop-at-preserved
-loop-at-preserved c =
-    let w = c.args.w.now in
-    let v = c.loop-at in
-    let e = c.pass_line-at.result in
-    let z = c.pass_line-at.ensures.0 in
-    let p = c.put_doubtful in (
-      omega arith,
-      p.auto.t ∙ v.invariant.1,
-      stands_next w v.at v.i e v.invariant.2 c.loop-at-test.true z,
-      told_new _ w v.at v.i e v.invariant.2 c.loop-at-test.true z _ _ _ _ v.invariant.3 _ _ p.ensures v.invariant.1 c.if-put_doubtful.false,
-    )
-
-pub returns : goal.returns
-returns c =
-    let w = c.args.w.now in
-    let v = c.loop-at in
-    record {
-      within = omega arith;
-      hit = λ l. absurd (omega arith);
-      clear = λ m h x o. (v.invariant.3 m (omega (arith, stands_end w v.at v.i v.invariant.2 c.loop-at-test.false)) o).0;
-    }

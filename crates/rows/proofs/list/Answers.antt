@@ -1,15 +1,15 @@
-use Rattle.std.proofs.Common.{◌≡◌, ◌+◌, ◌<◌, ◌≤◌, length, refl, sym, ap, ◌∙◌, arith, rules}
+use Rattle.std.proofs.Common.{◌≡◌, ◌<◌, length, sym, ap, ◌∙◌, arith}
 use Rattle.std.proofs.Common.{ℕ, Bool, List}
 use Rattle.page.specs.Bytes.{Bytes}
 use Rattle.page.specs.declared.Row.{Row}
 use Rattle.page.specs.Answers.{earlier}
 use Rattle.page.specs.File.{file_refusal}
 use Rattle.page.specs.declared.Refusal.{Refusal}
-use Rattle.steps.specs.Steps.{Begins, at_of, start_of}
+use Rattle.steps.specs.Steps.{at_of, start_of}
 use Rattle.steps.specs.declared.Start.{Start}
 use Rattle.steps.specs.declared.Step.{Step}
-use Rattle.rows.specs.Walk.{step_of, step_at, row_at, sound_at, filled}
-use Rattle.rows.proofs.WalkLaws.{start_room, start_rows, start_at, start_refusal, begins_at, step_here, known_at, sound_none, filled_none, filled_length, filled_step, filled_all}
+use Rattle.rows.specs.Walk.{step_of, step_at, sound_at, filled}
+use Rattle.rows.proofs.WalkLaws.{start_room, start_rows, start_at, start_refusal, begins_at, step_here, known_at, sound_none, filled_none, filled_step, filled_all}
 use Rattle.rows.proofs.list.Goals as goal
 
 pub loop-i-init : goal.loop-i-init
@@ -17,7 +17,6 @@ loop-i-init c =
     let s = c.args.file.now in
     let ys = c.args.rows.now in
     record {
-      within = omega arith;
       rows = filled_none s ys;
       place = ap (λ (b : Start). b.at) c.begin_list-b.ensures ∙ start_at s (length ys);
       known = sound_none s;
@@ -57,7 +56,6 @@ loop-i-preserved c =
     let k = start_rows s (length ys) in
     let e = c.read_step-t.ensures ∙ handed s ys b.result b.ensures l.i l.at l.sound c.loop-i-test.true l.invariant.place l.invariant.known in
     record {
-      within = omega arith;
       rows = rw (l.invariant.rows, ap (λ (x : Step). x.row) e) (filled_step s ys l.i (omega (arith, less, k)) (omega (arith, less, m)));
       place = ap (λ (x : Step). x.next) e;
       known = ap (λ (x : Step). x.sound) e;
@@ -69,7 +67,7 @@ answer_list-requires c =
     let ys = c.args.rows.now in
     let l = c.loop-i in
     let b = c.begin_list-b in
-    let over : l.i ≡ b.result.count = omega (arith, l.invariant.within) in
+    let over : l.i ≡ b.result.count = omega arith in
     λ r k. known_at s (length ys) (rw b.ensures at r) (rw (sym (ap (λ (x : Start). x.count) b.ensures)) (rw (sym over) (sym l.invariant.known ∙ k)))
 
 pub returns : goal.returns
@@ -78,7 +76,7 @@ returns c =
     let ys = c.args.rows.now in
     let l = c.loop-i in
     let b = c.begin_list-b in
-    let over : l.i ≡ b.result.count = omega (arith, l.invariant.within) in (
+    let over : l.i ≡ b.result.count = omega arith in (
       c.answer_list.ensures ∙ ap (λ (x : Refusal). earlier x (file_refusal s)) (ap (λ (x : Start). x.refusal) b.ensures ∙ start_refusal s (length ys)),
       l.invariant.rows ∙ ap (filled s ys) (over ∙ ap (λ (x : Start). x.count) b.ensures) ∙ filled_all s ys,
     )

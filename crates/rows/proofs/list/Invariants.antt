@@ -1,4 +1,4 @@
-use Rattle.std.proofs.Common.{◌≡◌, ◌-◌, ◌≤◌, length}
+use Rattle.std.proofs.Common.{◌≡◌, length}
 use Rattle.steps.specs.Steps.{at_of}
 use Rattle.rows.specs.Walk.{sound_at, filled}
 use Rattle.rows.proofs.list.Given as goal
@@ -7,11 +7,7 @@ use Rattle.rows.proofs.list.Given as goal
 abbrev pub invariant-loop-i : goal.invariant-loop-i
 invariant-loop-i l =
     record {
-      within : l.i ≤ l.n;
       rows : l.rows ≡ filled l.file l.initial.rows l.i;
       place : l.at ≡ at_of l.file (length l.initial.rows) l.i;
       known : l.sound ≡ sound_at l.file l.i;
     }
-
-abbrev pub decreases-loop-i : goal.decreases-loop-i
-decreases-loop-i l = l.n - l.i

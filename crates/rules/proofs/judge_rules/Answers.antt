@@ -1,24 +1,52 @@
-use borrow.Author.Tests.{eq-eqb, ne_eqb}
-use mathlib.Core.Path.{sym}
-use Rattle.rules.proofs.RuleLaws.{rules_by, points_in, feeder_in}
+use Rattle.std.proofs.Common.{◌≡◌, sym}
+use Rattle.std.specs.Prelude.{Some, None}
+use Rattle.page.specs.Tables as Page
+use Rattle.tables.specs.Rows.{rules_of}
+use Rattle.tables.specs.declared.rows.Rule.TheVariants.{Points, Feeder}
+use Rattle.rules.specs.Broken.{broken_by}
+use Rattle.rules.proofs.RuleLaws.{points_in, feeder_in}
 use Rattle.rules.proofs.judge_rules.Goals as goal
 
-pub judge_points-v-requires : goal.judge_points-v-requires
-judge_points-v-requires c = points_in c.args.t c.find_rules-rules.result c.find_rules-rules.ensures
+pub points_agree-requires : goal.points_agree-requires
+points_agree-requires c =
+    let x = c.in-Some-Points in
+    points_in c.args.t x.p (rw x.field-0-is at x.ensures)
 
-pub returns-then-v-ne0 : goal.returns-then-v-ne0
-returns-then-v-ne0 c =
-    let a = c.args in
-    let r = c.find_rules-rules in
-    let p = c.judge_points-v in
-    rw (rules_by a.t r.result r.ensures a.ns.now, sym p.ensures, ne_eqb p.result 0 c.if-v-ne0.true)
+pub is_mixed-requires : goal.is_mixed-requires
+is_mixed-requires c =
+    let y = c.in-Some-Feeder in
+    feeder_in c.args.t y.c y.x (rw y.field-0-is at y.ensures)
 
-pub judge_feeder-requires : goal.judge_feeder-requires
-judge_feeder-requires c = let r = c.find_rules-rules in feeder_in c.args.t r.result r.ensures
+pub returns-in-Some-Points : goal.returns-in-Some-Points
+unfolding broken_by
+returns-in-Some-Points c =
+    let x = c.in-Some-Points in
+    let e : rules_of (Some (Points x.p)) ≡ Page.rules c.args.t = rw x.field-0-is at x.ensures in
+    rw (← e, sym c.points_agree.ensures, c.if-points_agree.true)
 
-pub returns : goal.returns
-returns c =
-    let a = c.args in
-    let r = c.find_rules-rules in
-    let p = c.judge_points-v in
-    rw (rules_by a.t r.result r.ensures a.ns.now, sym p.ensures, eq-eqb p.result 0 c.if-v-ne0.false) c.judge_feeder.ensures
+pub returns-in-Some-Feeder : goal.returns-in-Some-Feeder
+unfolding broken_by
+returns-in-Some-Feeder c =
+    let x = c.in-Some-Feeder in
+    let e : rules_of (Some (Feeder x.c x.x)) ≡ Page.rules c.args.t = rw x.field-0-is at x.ensures in
+    rw (← e, sym c.is_mixed.ensures, c.if-is_mixed.true)
+
+pub returns-in_default : goal.returns-in_default
+unfolding broken_by
+returns-in_default c =
+    let x = c.in-Some-Points in
+    let e : rules_of (Some (Points x.p)) ≡ Page.rules c.args.t = rw x.field-0-is at x.ensures in
+    rw (← e, sym c.points_agree.ensures, c.if-points_agree.false)
+
+pub returns-in_default-2 : goal.returns-in_default-2
+unfolding broken_by
+returns-in_default-2 c =
+    let x = c.in-Some-Feeder in
+    let e : rules_of (Some (Feeder x.c x.x)) ≡ Page.rules c.args.t = rw x.field-0-is at x.ensures in
+    rw (← e, sym c.is_mixed.ensures, c.if-is_mixed.false)
+
+pub returns-in_default-3 : goal.returns-in_default-3
+unfolding broken_by
+returns-in_default-3 c =
+    let e : rules_of None ≡ Page.rules c.args.t = rw c.in_default.is at c.find_rule.ensures in
+    rw (← e)

@@ -13,7 +13,7 @@ use Rattle.starts.proofs.find_starts.Goals as goal
 
 pub loop-k-init : goal.loop-k-init
 unfolding field_place
-loop-k-init c = (omega arith, omega arith, refl, refl, λ (p : ℕ) (l : p < 0). absurd (omega arith))
+loop-k-init c = (omega arith, refl, refl, λ (p : ℕ) (l : p < 0). absurd (omega arith))
 
 pub offset_bounds-starts-k : goal.offset_bounds-starts-k
 offset_bounds-starts-k c = let l = width_le c.args.t in omega arith
@@ -30,9 +30,6 @@ overflow_add-at c =
     let h : e.result ≤ length a.w.now + l.k = omega (arith, field_le false (drop l.at a.w.now), length-drop l.at a.w.now) in
     search rules
 
-pub overflow_add-k : goal.overflow_add-k
-overflow_add-k c = let l = width_le c.args.t in omega arith
-
 pub loop-k-preserved : goal.loop-k-preserved
 loop-k-preserved c =
     let a = c.args in
@@ -40,13 +37,12 @@ loop-k-preserved c =
     let e = c.field_end-at in
     let g = width_le a.t in
     let h : e.result ≤ length a.w.now + l.k = omega (arith, field_le false (drop l.at a.w.now), length-drop l.at a.w.now) in
-    let n : l.k < length l.starts = omega (arith, l.invariant.3) in (
+    let n : l.k < length l.starts = omega (arith, l.invariant.2) in (
       omega arith,
-      omega arith,
-      place_on a.w.now l.k l.at e.result l.invariant.2 e.ensures,
-      length-set l.starts l.k l.at ∙ l.invariant.3,
-      starts_more a.w.now l.k l.at l.starts n l.invariant.4 l.invariant.2,
+      place_on a.w.now l.k l.at e.result l.invariant.1 e.ensures,
+      length-set l.starts l.k l.at ∙ l.invariant.2,
+      starts_more a.w.now l.k l.at l.starts n l.invariant.3 l.invariant.1,
     )
 
 pub returns : goal.returns
-returns c = λ (p : ℕ) (h : p < width c.args.t). c.loop-k.invariant.4 p (omega arith)
+returns c = λ (p : ℕ) (h : p < width c.args.t). c.loop-k.invariant.3 p (omega arith)

@@ -1,5 +1,5 @@
 use mathlib.Core.Path.{◌≡◌}
-use Prim.Native.Nat.{◌+◌, ◌-◌, ◌≤◌}
+use Prim.Native.Nat.{◌+◌, ◌≤◌}
 use lib.ListN.{length}
 use Rattle.page.specs.Tables.{WIDEST}
 use Rattle.page.specs.Places.{field_place}
@@ -8,7 +8,4 @@ use Rattle.starts.proofs.find_starts.Given as goal
 
 abbrev pub invariant-loop-k : goal.invariant-loop-k
 invariant-loop-k l =
-    (l.k ≤ l.n) × (l.at ≤ length l.w + l.k) × (l.at ≡ field_place l.k 0 l.w) × (length l.starts ≡ WIDEST) × Starts l.w l.k l.starts
-
-abbrev pub decreases-loop-k : goal.decreases-loop-k
-decreases-loop-k l = l.n - l.k
+    (l.at ≤ length l.w + l.k) × (l.at ≡ field_place l.k 0 l.w) × (length l.starts ≡ WIDEST) × Starts l.w l.k l.starts

@@ -7,7 +7,7 @@ unfolding owner_of
 returns-then-m-f c =
     rw (eq-eqb c.args.m c.args.f c.if-m-f.true)
 
-pub returns : goal.returns
+pub returns-else-m-f : goal.returns-else-m-f
 unfolding owner_of
-returns c =
+returns-else-m-f c =
     rw (ne_eqb c.args.m c.args.f c.if-m-f.false)

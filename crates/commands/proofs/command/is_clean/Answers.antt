@@ -1,11 +1,18 @@
-use mathlib.Core.Path.{sym}
-use Rattle.page.specs.Lines.{clean}
+use Rattle.std.proofs.Common.{◌≡◌, ◌∙◌, ◌&&◌, eqb, ap}
+use Rattle.page.specs.Bytes.{all}
+use Rattle.page.specs.Lines.{clean, allowed, command}
+use Rattle.commands.specs.declared.command.Command.TheVariants.{Rec}
+use Rattle.commands.proofs.CodeLaws.{is_command}
+use Rattle.commands.proofs.command.is_clean.Goals.{then-latin, else-latin}
 use Rattle.commands.proofs.command.is_clean.Goals as goal
-
-pub returns-then-latin : goal.returns-then-latin
-unfolding clean
-returns-then-latin c = rw (c.if-latin.true, sym c.command_of-k.ensures) c.all_allowed.ensures
 
 pub returns : goal.returns
 unfolding clean
-returns c = rw c.if-latin.false c.all_allowed-2.ensures
+returns c =
+    let s = c.args.c.now in
+    let e : c.if-latin.all_allowed ≡ (c.args.latin && eqb (command s) 11) =
+    elim c.if-latin.branch [
+      | then-latin w ↦ w.all_allowed-is ∙ rw w.if-latin.true (is_command _ Rec _ _ w.eq.ensures w.of.ensures)
+      | else-latin w ↦ w.all_allowed-is ∙ rw w.if-latin.false
+    ] in
+    c.all_allowed.ensures ∙ ap (λ b. all (allowed b) s) e

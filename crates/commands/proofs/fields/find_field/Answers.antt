@@ -1,60 +1,32 @@
-use borrow.Author.Rules.{rules}
-use Prim.Native.Nat.{◌-◌}
-use mathlib.Core.Path.{◌≡◌, sym, ◌∙◌}
-use native.Mathlib.Omega.{arith}
-use Rattle.page.specs.Fields.{fields}
-use Rattle.page.proofs.FieldLaws.{from_all, from_more, end_in, left_in, next_left, place_more, place_here, span_here, span_in}
+use Rattle.std.proofs.Common.{◌≡◌, ◌+◌, false, length, ◌≤◌, drop, sym, arith, rules}
+use Rattle.page.specs.Fields.{field_size}
+use Rattle.page.proofs.FieldLaws.{span_here, span_in}
+use Rattle.commands.proofs.IterLaws.{nth_some, nth_at}
 use Rattle.commands.proofs.fields.find_field.Goals as goal
 
-pub loop-i-init : goal.loop-i-init
-loop-i-init c =
-    let a = c.args in
-    let z : a.k - 0 ≡ a.k = omega arith in
-    (omega arith, omega arith, sym (from_all a.w.now), rw z)
+pub unwrap-field-requires : goal.unwrap-field-requires
+unwrap-field-requires c =
+    nth_some c.fields_of.result c.args.w.now c.fields_of.ensures.bytes c.fields_of.ensures.at c.args.k c.nth.new.self c.nth.result c.nth.ensures.ran c.requires
 
-pub overflow_add-at : goal.overflow_add-at
-overflow_add-at c =
-    let l = c.loop-i in
-    let w = c.args.w.now in
-    let e = c.field_end-e in
-    let a = left_in w l.i l.at (search rules) l.invariant.2 in
-    let h = end_in w l.at e.result a e.ensures in
+pub overflow_add-field : goal.overflow_add-field
+overflow_add-field c =
+    let t =
+    nth_at c.fields_of.result c.args.w.now c.fields_of.ensures.bytes c.fields_of.ensures.at c.args.k c.nth.new.self c.unwrap-field.result (rw c.unwrap-field.ensures at c.nth.ensures.ran) in
     search rules
-
-pub loop-i-preserved : goal.loop-i-preserved
-loop-i-preserved c =
-    let l = c.loop-i in
-    let w = c.args.w.now in
-    let e = c.field_end-e in
-    let a = left_in w l.i l.at (search rules) l.invariant.2 in
-    let h = end_in w l.at e.result a e.ensures in
-    let k = c.args.k in (
-      omega arith,
-      omega arith,
-      next_left (fields w) l.i _ _ (l.invariant.2 ∙ from_more w l.at e.result a e.ensures),
-      sym (place_more w k l.i l.at e.result (search rules) e.ensures) ∙ l.invariant.3,
-    )
 
 pub trim_in-requires : goal.trim_in-requires
 trim_in-requires c =
-    let l = c.loop-i in
-    let w = c.args.w.now in
-    let e = c.field_end-e-2 in
-    let a = left_in w l.i l.at (search rules) l.invariant.2 in
-    let h = end_in w l.at e.result a e.ensures in
-    h
+    let t =
+    nth_at c.fields_of.result c.args.w.now c.fields_of.ensures.bytes c.fields_of.ensures.at c.args.k c.nth.new.self c.unwrap-field.result (rw c.unwrap-field.ensures at c.nth.ensures.ran) in
+    (omega arith, omega arith)
 
 pub returns : goal.returns
 returns c =
-    let l = c.loop-i in
     let w = c.args.w.now in
-    let k = c.args.k in
-    let e = c.field_end-e-2 in
-    let t = c.trim_in in
-    let a = left_in w l.i l.at (search rules) l.invariant.2 in
-    let h = end_in w l.at e.result a e.ensures in
-    let y = span_in w l.at e.result e.ensures h t.result t.ensures in (
-      span_here w l.at e.result e.ensures h t.result t.ensures k (sym l.invariant.3 ∙ place_here w k l.i l.at (search rules)),
-      y.0,
-      y.1,
-    )
+    let f = c.unwrap-field.result in
+    let e = f.at + length f.bytes.now in
+    let t = nth_at c.fields_of.result w c.fields_of.ensures.bytes c.fields_of.ensures.at c.args.k c.nth.new.self f (rw c.unwrap-field.ensures at c.nth.ensures.ran) in
+    let q : e ≡ f.at + field_size false (drop f.at w) = rw t.at (omega arith) in
+    let h : (f.at ≤ e) × (e ≤ length w) = (omega arith, omega arith) in
+    let y = span_in w f.at e q h c.trim_in.result c.trim_in.ensures in
+    (span_here w f.at e q h c.trim_in.result c.trim_in.ensures c.args.k (sym t.at), y.0, y.1)

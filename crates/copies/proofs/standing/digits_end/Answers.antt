@@ -1,29 +1,16 @@
-use Prim.Native.Nat.{◌+◌, ◌-◌}
-use mathlib.Core.Path.{◌≡◌, refl, sym, ◌∙◌}
-use mathlib.Core.Bool.{true, false}
-use native.Mathlib.Omega.{arith}
+use Rattle.std.proofs.Common.{◌≡◌, ◌+◌, ◌-◌, sym, ◌∙◌, arith, true, false, length, get_or}
 use borrow.Author.Tests.{eq-eqb, not-false}
-use lib.ListN.{get_or}
 use Rattle.page.specs.Fields.{digit}
 use Rattle.page.proofs.FieldLaws.{field_hit, field_end}
 use Rattle.copies.proofs.StandLaws.{digit_low, digit_more}
 use Rattle.copies.proofs.standing.digits_end.Goals as goal
-
-pub loop-i-init : goal.loop-i-init
-loop-i-init c = (omega arith, omega arith, refl, (λ h. absurd (omega arith)))
 
 pub returns-then-b-eq59 : goal.returns-then-b-eq59
 returns-then-b-eq59 c =
     let w = c.args.w.now in
     let l = c.loop-i in
     let z = field_hit false w l.i c.loop-i-test.true (eq-eqb (get_or w l.i 0) 59 c.if-b-eq59.true) in
-    λ h. (omega (arith, l.invariant.2), l.invariant.3)
-
-pub returns-then-not-is_digit : goal.returns-then-not-is_digit
-returns-then-not-is_digit c = λ h. absurd (omega arith)
-
-pub loop-i-smaller : goal.loop-i-smaller
-loop-i-smaller c = omega arith
+    (omega (arith, l.invariant.ends), l.invariant.digit_before)
 
 pub loop-i-preserved : goal.loop-i-preserved
 loop-i-preserved c =
@@ -32,11 +19,12 @@ loop-i-preserved c =
     let d : digit (get_or w l.i 0) ≡ true = sym c.is_digit.ensures ∙ not-false _ c.if-not-is_digit.false-raw in
     let m = digit_more w l.i c.loop-i-test.true d in
     let n : l.i + 1 - 1 ≡ l.i = omega arith in
-    (omega arith, omega arith, omega (arith, l.invariant.2), (λ h. rw n (digit_low (get_or w l.i 0) d)))
+    record { ends = omega (arith, l.invariant.ends); digit_before = λ h. rw n (digit_low (get_or w l.i 0) d) }
 
 pub returns : goal.returns
 returns c =
     let w = c.args.w.now in
     let l = c.loop-i in
     let z = field_end false w l.i c.loop-i-test.false in
-    λ h. (omega (arith, l.invariant.2), l.invariant.3)
+    let n : l.i ≡ length w = omega arith in
+    rw (sym n) (omega (arith, l.invariant.ends), l.invariant.digit_before)

@@ -1,45 +1,40 @@
-use Prim.Native.Nat.{◌-◌, ◌≤◌}
-use mathlib.Core.Path.{◌≡◌}
-use native.Mathlib.Omega.{arith}
-use borrow.Author.Tests.{eq-eqb, ne_eqb}
-use lib.ListN.{length, get_or, get_or-eq_default}
+use Rattle.std.proofs.Common.{◌≡◌, ◌≤◌, ◌-◌, arith, length, get_or}
+use lib.ListN.{get_or-eq_default}
+use borrow.Author.Tests.{ne_eqb}
 use Rattle.copies.specs.Parts.{stands}
 use Rattle.copies.proofs.standing.is_written.Goals as goal
 
-pub returns-then-f-eq0 : goal.returns-then-f-eq0
+pub returns-then-is_empty : goal.returns-then-is_empty
 unfolding stands
-returns-then-f-eq0 c =
+returns-then-is_empty c =
     let f = c.args.f.now in
-    let none : length f ≤ 0 = omega arith in
+    let none : length f ≤ 0 = grind arith in
     rw (get_or-eq_default f 0 none)
 
-pub returns-then-b-eq45 : goal.returns-then-b-eq45
+pub returns-in-45 : goal.returns-in-45
 unfolding stands
-returns-then-b-eq45 c = rw (eq-eqb (get_or c.args.f.now 0 0) 45 c.if-b-eq45.true)
+returns-in-45 c = rw c.in-45.is
 
-pub returns-then-b-eq48 : goal.returns-then-b-eq48
+pub returns-in-48 : goal.returns-in-48
 unfolding stands
-returns-then-b-eq48 c =
-    let f = c.args.f.now in
-    rw (ne_eqb (get_or f 0 0) 45 c.if-b-eq45.false, eq-eqb (get_or f 0 0) 48 c.if-b-eq48.true)
-
-pub returns-then-b-ne34 : goal.returns-then-b-ne34
-unfolding stands
-returns-then-b-ne34 c =
-    let f = c.args.f.now in
-    rw (ne_eqb (get_or f 0 0) 45 c.if-b-eq45.false, ne_eqb (get_or f 0 0) 48 c.if-b-eq48.false, ne_eqb (get_or f 0 0) 34 c.if-b-ne34.true)
+returns-in-48 c = rw c.in-48.is
 
 pub returns-then-f-eq1 : goal.returns-then-f-eq1
 unfolding stands
 returns-then-f-eq1 c =
     let f = c.args.f.now in
-    let q : get_or f 0 0 ≡ 34 = c.if-b-ne34.false in
     let n : length f - 2 ≡ 0 = omega arith in
-    rw (n, q)
+    rw (n, c.in-34.is, c.if-f-eq1.true)
 
-pub returns : goal.returns
+pub returns-else-f-eq1 : goal.returns-else-f-eq1
 unfolding stands
-returns c =
-    let f = c.args.f.now in
-    let q : get_or f 0 0 ≡ 34 = c.if-b-ne34.false in
-    rw q
+returns-else-f-eq1 c = rw c.in-34.is
+
+pub returns-in_default : goal.returns-in_default
+unfolding stands
+returns-in_default c =
+    let b = get_or c.args.f.now 0 0 in
+    let x : b ≡ 45 → ⊥ = λ e. omega arith in
+    let y : b ≡ 48 → ⊥ = λ e. omega arith in
+    let z : b ≡ 34 → ⊥ = λ e. omega arith in
+    rw (ne_eqb b 45 x, ne_eqb b 48 y, ne_eqb b 34 z)

@@ -1,9 +1,13 @@
+use mathlib.Core.Path.{refl}
+use Rattle.page.specs.Bytes.{bytes}
 use Rattle.decimals.proofs.DecimalLaws.{format_char, format_num}
-use Rattle.output.proofs.PutLaws.{put_as}
+use Rattle.output.proofs.OutputLaws.{put_as}
 use Rattle.decimals.proofs.numbers.put_format.Goals as goal
 
 pub returns-then-column : goal.returns-then-column
-returns-then-column c = put_as (format_char _ c.if-column.true) c.put_char.ensures
+unfolding bytes
+returns-then-column c = put_as (format_char c.args.column _ _ refl refl c.if-column.true) c.put_sized.ensures
 
-pub returns : goal.returns
-returns c = put_as (format_num _ c.if-column.false) c.put_num.ensures
+pub returns-else-column : goal.returns-else-column
+unfolding bytes
+returns-else-column c = put_as (format_num c.args.column _ _ refl refl c.if-column.false) c.put_sized-else-column.ensures

@@ -1,9 +1,11 @@
 use Rattle.doubling.proofs.TextLaws.{doubled_quote, doubled_other}
-use Rattle.output.proofs.PutLaws.{put_as, puts}
+use Rattle.output.proofs.OutputLaws.{put_as, puts}
 use Rattle.doubling.proofs.texts.put_doubled_byte.Goals as goal
-
-pub returns-then-b-eq34 : goal.returns-then-b-eq34
-returns-then-b-eq34 c = put_as (doubled_quote _ c.if-b-eq34.true) (puts c.put_byte-p.ensures c.put_byte.ensures)
+use Rattle.doubling.proofs.texts.put_doubled_byte.Goals.{then-b-eq34, else-b-eq34}
 
 pub returns : goal.returns
-returns c = put_as (doubled_other _ c.if-b-eq34.false) c.put_byte-2.ensures
+returns c =
+    elim c.if-b-eq34.branch [
+      | then-b-eq34 w ↦ put_as (doubled_quote _ w.if-b-eq34.true) (puts w.put_byte.ensures (rw w.out-is at c.put_byte-2.ensures))
+      | else-b-eq34 w ↦ put_as (doubled_other _ w.if-b-eq34.false) (rw w.out-is at c.put_byte-2.ensures)
+    ]

@@ -1,7 +1,7 @@
 use mathlib.Core.Path.{ap}
 use Rattle.doubling.specs.Raw.{raw_text}
 use Rattle.doubling.proofs.TextLaws.{part_same}
-use Rattle.output.proofs.PutLaws.{put_as}
+use Rattle.output.proofs.OutputLaws.{put_as}
 use Rattle.doubling.proofs.texts.put_raw_part.Goals as goal
 
 pub returns : goal.returns

@@ -1,13 +1,13 @@
 use Rattle.seats.proofs.WalkLaws.{row_end, unsound_here, unsound_more, unsound_end}
 use Rattle.page.proofs.CutLaws.{sections_all}
+use Rattle.files.proofs.AnswerLaws.{unsound_told, unsound_none}
 use Rattle.page.specs.File.{row_of, first_unsound}
 use Rattle.page.specs.Cut.{Section}
 use mathlib.Core.List.{List, map}
 use borrow.Author.Rules.{rules}
-use Prim.Native.Nat.{◌+◌, ◌-◌}
+use Prim.Native.Nat.{◌+◌}
 use mathlib.Core.Path.{ap, sym, ◌∙◌}
 use native.Mathlib.Omega.{arith}
-use lib.ListN.{length}
 use Rattle.files.proofs.unsound.first_unsound.Goals as goal
 
 pub loop-at-init : goal.loop-at-init
@@ -16,8 +16,8 @@ loop-at-init c =
     let a = c.args in
     (x.within, omega arith, x.settled, ap (λ (xs : List Section). first_unsound 1 (map (row_of a.latin) xs)) (x.same ∙ sections_all a.s.now))
 
-pub overflow_add-e : goal.overflow_add-e
-overflow_add-e c =
+pub overflow_add-at : goal.overflow_add-at
+overflow_add-at c =
     let a = c.args in
     let x = row_end a.latin a.s.now c.loop-at.at c.read_section-row.result c.loop-at-test.true c.read_section-row.ensures in
     search rules
@@ -27,11 +27,12 @@ find_section-at-requires-in-loop-at c =
     let a = c.args in
     (row_end a.latin a.s.now c.loop-at.at c.read_section-row.result c.loop-at-test.true c.read_section-row.ensures).2
 
-pub returns-then-verdict-ne0 : goal.returns-then-verdict-ne0
-returns-then-verdict-ne0 c =
+pub returns-then-row-ne0 : goal.returns-then-row-ne0
+returns-then-row-ne0 c =
     let a = c.args in
     let l = c.loop-at in
-    sym (unsound_here a.s.now l.at l.i a.latin c.loop-at-test.true l.invariant.2 c.read_section-row.result c.read_section-row.ensures c.if-verdict-ne0.true) ∙ l.invariant.3
+    let e = sym l.invariant.3 ∙ unsound_here a.s.now l.at l.i a.latin c.loop-at-test.true l.invariant.2 c.read_section-row.result c.read_section-row.ensures c.if-row-ne0.true in
+    unsound_told _ _ _ _ e c.if-row-ne0.true
 
 pub loop-at-smaller : goal.loop-at-smaller
 loop-at-smaller c =
@@ -52,7 +53,7 @@ loop-at-preserved c =
       omega (arith, x.after, e.1),
       x.settled,
       ap (λ (xs : List Section). first_unsound (l.i + 1) (map (row_of a.latin) xs)) x.same
-          ∙ sym (unsound_more a.s.now l.at l.i a.latin c.loop-at-test.true l.invariant.2 r.result r.ensures c.if-verdict-ne0.false (l.at + r.result.length) e.0)
+          ∙ sym (unsound_more a.s.now l.at l.i a.latin c.loop-at-test.true l.invariant.2 r.result r.ensures c.if-row-ne0.false (l.at + r.result.length) e.0)
           ∙ l.invariant.3,
     )
 
@@ -60,4 +61,4 @@ pub returns : goal.returns
 returns c =
     let a = c.args in
     let l = c.loop-at in
-    sym (unsound_end a.s.now l.at l.i a.latin c.loop-at-test.false) ∙ l.invariant.3
+    unsound_none _ (sym l.invariant.3 ∙ unsound_end a.s.now l.at l.i a.latin c.loop-at-test.false)

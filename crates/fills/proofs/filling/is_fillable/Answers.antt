@@ -7,16 +7,16 @@ use Rattle.page.specs.declared.Refusal.{Refusal}
 use Rattle.fills.proofs.filling.is_fillable.Goals as goal
 
 pub table_at-requires : goal.table_at-requires
-table_at-requires c = (rw c.in-At.is at c.locate.ensures.1).inside
+table_at-requires c = (rw c.in-Ok.is at c.locate.ensures.1).inside
 
-pub returns-in-At : goal.returns-in-At
-returns-in-At c =
+pub returns-in-Ok : goal.returns-in-Ok
+returns-in-Ok c =
     let a = c.args in
-    let b = rw c.in-At.is at c.locate.ensures.1 in
+    let b = rw c.in-Ok.is at c.locate.ensures.1 in
     let t = c.table_at.ensures ∙ ap (λ (x : Section). table_index x.lines) (sym b.is) in
     c.is_fillable.ensures ∙ ap (λ (n : ℕ). (column_at n (a.f - 1)).fillable) t
 
-pub returns-in-Refused : goal.returns-in-Refused
-returns-in-Refused c =
-    let b = rw c.in-Refused.is at c.locate.ensures.1 in
+pub returns-in-Err : goal.returns-in-Err
+returns-in-Err c =
+    let b = rw c.in-Err.is at c.locate.ensures.1 in
     absurd (b.0 (ap (λ (x : Refusal). x.number) b.1 ∙ c.requires.0))

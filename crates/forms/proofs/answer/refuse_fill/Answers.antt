@@ -13,21 +13,21 @@ unfolding value_of
 judge_fill-requires c =
     let a = c.args in
     let s = a.s.now in
-    let g = got_is (value_refusal s a.section a.«record» a.field) (value_at (section_at s a.section) a.«record» a.field) _ (sym c.in-Is.is ∙ c.value.ensures) in
+    let g = got_is (value_refusal s a.section a.«record» a.field) (value_at (section_at s a.section) a.«record» a.field) _ (sym c.in-Ok.is ∙ c.value.ensures) in
     asked_there s a.section a.«record» a.field g.0
 
-pub returns-in-Is : goal.returns-in-Is
+pub returns-in-Ok : goal.returns-in-Ok
 unfolding value_of
-returns-in-Is c =
+returns-in-Ok c =
     let a = c.args in
     let s = a.s.now in
-    let g = got_is (value_refusal s a.section a.«record» a.field) (value_at (section_at s a.section) a.«record» a.field) _ (sym c.in-Is.is ∙ c.value.ensures) in
+    let g = got_is (value_refusal s a.section a.«record» a.field) (value_at (section_at s a.section) a.«record» a.field) _ (sym c.in-Ok.is ∙ c.value.ensures) in
     fill_there s _ _ _ _ (sym (ap (λ (r : Refusal). r.number) c.check_file-verdict.ensures) ∙ c.if-verdict-ne0.false) g.0 _ g.1 _ c.judge_fill.ensures
 
-pub returns-in-Refused : goal.returns-in-Refused
+pub returns-in-Err : goal.returns-in-Err
 unfolding value_of
-returns-in-Refused c =
+returns-in-Err c =
     let a = c.args in
     let s = a.s.now in
-    let g = got_refused (value_refusal s a.section a.«record» a.field) _ (value_at (section_at s a.section) a.«record» a.field) (sym c.in-Refused.is ∙ c.value.ensures) in
+    let g = got_refused (value_refusal s a.section a.«record» a.field) _ (value_at (section_at s a.section) a.«record» a.field) (sym c.in-Err.is ∙ c.value.ensures) in
     fill_nowhere s _ _ _ _ (sym (ap (λ (r : Refusal). r.number) c.check_file-verdict.ensures) ∙ c.if-verdict-ne0.false) _ g.1 g.0

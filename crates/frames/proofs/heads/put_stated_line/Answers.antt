@@ -1,9 +1,9 @@
+use Rattle.output.proofs.OutputLaws.{put_as, put_none}
 use Rattle.frames.proofs.LineLaws.{stated_none, stated_at}
-use Rattle.output.proofs.PutLaws.{put_as, put_none}
 use Rattle.frames.proofs.heads.put_stated_line.Goals as goal
 
-pub returns-in-Absent : goal.returns-in-Absent
-returns-in-Absent c = put_as (stated_none _ _ _ _ c.in-Absent.is) put_none
+pub returns-in-Some : goal.returns-in-Some
+returns-in-Some c = put_as (stated_at _ _ _ _ _ c.in-Some.is) c.put_text_line.ensures
 
-pub returns-in-At : goal.returns-in-At
-returns-in-At c = put_as (stated_at _ _ _ _ _ c.in-At.is) c.put_text_line.ensures
+pub returns-in_default : goal.returns-in_default
+returns-in_default c = put_as (stated_none _ _ _ _ c.in_default.is) put_none

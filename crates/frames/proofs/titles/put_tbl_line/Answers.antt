@@ -1,15 +1,9 @@
-use Prim.Native.String.{String}
-use Rattle.frames.proofs.TitleLaws.{tbl_is, title_length}
 use Rattle.page.specs.Bytes.{bytes}
-use Rattle.output.proofs.PutLaws.{puts, put_as}
-use mathlib.Core.Path.{ap}
-use native.Mathlib.Omega.{arith}
-use lib.ListN.{length}
+use Rattle.output.proofs.OutputLaws.{puts, put_as}
+use Rattle.frames.proofs.TitleLaws.{tbl_is}
 use Rattle.frames.proofs.titles.put_tbl_line.Goals as goal
-
-pub put_line_end-requires : goal.put_line_end-requires
-put_line_end-requires c = omega (arith, title_length c.args.t, ap (λ (w : String). length (bytes w)) c.look_title.ensures)
 
 pub returns : goal.returns
 unfolding bytes
-returns c = put_as (tbl_is _ _ _ c.look_title.ensures) (puts c.put_bytes-a.ensures (puts c.put_word-b.ensures c.put_line_end.ensures))
+returns c =
+    put_as (tbl_is _ _ _ c.find_title.ensures) (puts c.put_bytes.ensures (puts c.put_bytes-2.ensures c.put_line_end.ensures))

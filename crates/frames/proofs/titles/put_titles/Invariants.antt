@@ -1,13 +1,8 @@
-use Rattle.output.proofs.PutLaws.{Todo}
-use Rattle.frames.specs.Titles.{titles}
+use Rattle.std.proofs.Common.{drop}
 use Rattle.page.specs.Form.{separated}
-use Prim.Native.Nat.{◌-◌, ◌≤◌}
-use lib.ListN.{drop}
+use Rattle.frames.specs.Titles.{titles}
+use Rattle.output.proofs.OutputLaws.{Todo}
 use Rattle.frames.proofs.titles.put_titles.Given as goal
 
 abbrev pub invariant-loop-k : goal.invariant-loop-k
-invariant-loop-k l =
-    (l.k ≤ l.n) × Todo l.initial.out l.initial.o (separated (titles l.formats l.t)) l.out l.o (separated (drop l.k (titles l.formats l.t)))
-
-abbrev pub decreases-loop-k : goal.decreases-loop-k
-decreases-loop-k l = l.n - l.k
+invariant-loop-k l = Todo l.initial.out (separated (titles l.formats l.t)) l.out (separated (drop l.k (titles l.formats l.t)))

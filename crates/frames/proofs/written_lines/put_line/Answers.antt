@@ -1,5 +1,5 @@
-use Rattle.output.proofs.PutLaws.{puts}
+use Rattle.output.proofs.OutputLaws.{puts}
 use Rattle.frames.proofs.written_lines.put_line.Goals as goal
 
 pub returns : goal.returns
-returns c = puts c.put_bytes-a.ensures c.put_line_end.ensures
+returns c = puts c.put_bytes.ensures c.put_line_end.ensures

@@ -1,9 +1,4 @@
 use Rattle.guesses.proofs.hashes.hash_line.Given as goal
 
-abbrev pub invariant-loop-rest : goal.invariant-loop-rest
-invariant-loop-rest l =
-    Unit {0}
-
 abbrev pub decreases-loop-rest : goal.decreases-loop-rest
-decreases-loop-rest l =
-    l.rest
+decreases-loop-rest l = l.rest

@@ -1,71 +1,37 @@
-use mathlib.Core.Path.{ap, sym, ◌∙◌}
-use Prim.Native.Nat.{◌-◌}
-use native.Mathlib.Omega.{arith}
-use borrow.Author.Rules.{rules}
+use Rattle.std.proofs.Common.{◌≡◌, ◌∙◌, ap, sym, arith, rules}
+use Rattle.page.specs.Lines.{content}
 use Rattle.page.specs.Header.{head_step, head_of}
-use Rattle.lines.proofs.CursorLaws.{handed}
 use Rattle.headers.proofs.RunLaws.{turn_go, turn_stop, run_end}
 use Rattle.headers.proofs.steps.read_lines.Goals as goal
 
-pub loop-c-init : goal.loop-c-init
+pub loop-line-init : goal.loop-line-init
 unfolding head_of
-loop-c-init c =
-    (omega arith, omega arith, rw c.begin-m.ensures)
-
-pub slice_bounds-content_of-count : goal.slice_bounds-content_of-count
-slice_bounds-content_of-count c =
-    let s = c.args.s.now in
-    let at = c.loop-c.c.at in
-    let t = handed s at c.line-l.result c.loop-c-test.true c.line-l.ensures in
-    omega arith
-
-pub slice_bounds-content_of-start : goal.slice_bounds-content_of-start
-slice_bounds-content_of-start c =
-    let s = c.args.s.now in
-    let at = c.loop-c.c.at in
-    let t = handed s at c.line-l.result c.loop-c-test.true c.line-l.ensures in
-    search rules
-
-pub slice_bounds-content_of-end : goal.slice_bounds-content_of-end
-slice_bounds-content_of-end c =
-    let s = c.args.s.now in
-    let at = c.loop-c.c.at in
-    let t = handed s at c.line-l.result c.loop-c-test.true c.line-l.ensures in
-    search rules
+loop-line-init c =
+    let p : c.into_iter-line-iterator.result.at ≡ 0 = search rules in
+    (search rules, omega arith, omega arith, rw (p, c.begin-m.ensures))
 
 pub overflow_add-n : goal.overflow_add-n
 overflow_add-n c =
-    let s = c.args.s.now in
-    let at = c.loop-c.c.at in
-    let t = handed s at c.line-l.result c.loop-c-test.true c.line-l.ensures in
+    let t = rw c.loop-line.invariant.0 at c.in-Some.ensures.steps.1 in
     search rules
 
-pub loop-c-smaller : goal.loop-c-smaller
-loop-c-smaller c =
+pub loop-line-preserved : goal.loop-line-preserved
+loop-line-preserved c =
     let s = c.args.s.now in
-    let at = c.loop-c.c.at in
-    let t = handed s at c.line-l.result c.loop-c-test.true c.line-l.ensures in
-    omega arith
+    let l = c.loop-line in
+    let t = rw l.invariant.0 at c.in-Some.ensures.steps.1 in
+    let x = c.step_header.ensures ∙ ap (head_step l.m) (c.content_of.ensures ∙ ap content t.bytes) in
+    (search rules, t.within, omega arith, sym (turn_go s _ _ t.before t.size l.m l.n c.step_header.result x _ c.in-Some-step_header.is) ∙ l.invariant.3)
 
-pub loop-c-preserved : goal.loop-c-preserved
-loop-c-preserved c =
+pub returns-in-None-step_header : goal.returns-in-None-step_header
+returns-in-None-step_header c =
     let s = c.args.s.now in
-    let at = c.loop-c.c.at in
-    let t = handed s at c.line-l.result c.loop-c-test.true c.line-l.ensures in (
-      omega arith,
-      omega arith,
-      rw t.next (sym (turn_go s at c.line-l.result.span.to c.loop-c-test.true t.size c.loop-c.m c.loop-c.n c.step_header-st.result
-          (c.step_header-st.ensures ∙ ap (head_step c.loop-c.m) c.content_of.ensures) _ c.in-Go.is) ∙ c.loop-c.invariant.2),
-    )
-
-pub returns-in-Stop : goal.returns-in-Stop
-returns-in-Stop c =
-    let s = c.args.s.now in
-    let at = c.loop-c.c.at in
-    let t = handed s at c.line-l.result c.loop-c-test.true c.line-l.ensures in
-    sym (turn_stop s at c.line-l.result.span.to c.loop-c-test.true t.size c.loop-c.m c.loop-c.n c.step_header-st.result
-    (c.step_header-st.ensures ∙ ap (head_step c.loop-c.m) c.content_of.ensures) c.in-Stop.is) ∙ c.loop-c.invariant.2
+    let l = c.loop-line in
+    let t = rw l.invariant.0 at c.in-Some.ensures.steps.1 in
+    let x = c.step_header.ensures ∙ ap (head_step l.m) (c.content_of.ensures ∙ ap content t.bytes) in
+    sym (turn_stop s _ _ t.before t.size l.m l.n c.step_header.result x c.in-None-step_header.is) ∙ l.invariant.3
 
 pub returns : goal.returns
 returns c =
-    c.end_header.ensures ∙ sym (run_end c.args.s.now c.loop-c.c.at c.loop-c.m c.loop-c.n c.loop-c-test.false) ∙ c.loop-c.invariant.2
+    let l = c.loop-line in
+    c.end_header.ensures ∙ sym (run_end c.args.s.now _ l.m l.n (rw l.invariant.0 at c.in-None.ensures.steps.2)) ∙ l.invariant.3

@@ -1,14 +1,9 @@
-use mathlib.Core.Path.{◌≡◌}
-use Prim.Native.Nat.{◌-◌, ◌≤◌}
-use lib.ListN.{length, drop}
-use Rattle.page.specs.Header.{head_run, head_of}
+use Rattle.std.proofs.Common.{◌≡◌, ◌≤◌, length, drop}
 use Rattle.page.specs.Lines.{lines}
+use Rattle.page.specs.Header.{head_run, head_of}
 use Rattle.headers.proofs.steps.read_lines.Given as goal
 
-abbrev pub invariant-loop-c : goal.invariant-loop-c
-invariant-loop-c l =
-    (l.c.at ≤ length l.s) × (l.n ≤ l.c.at) × (head_run l.m l.n (lines (drop l.c.at l.s)) ≡ head_of (lines l.s))
-
-abbrev pub decreases-loop-c : goal.decreases-loop-c
-decreases-loop-c l =
-    length l.s - l.c.at
+abbrev pub invariant-loop-line : goal.invariant-loop-line
+invariant-loop-line l =
+    let at = l.line-iterator.at in
+    (l.line-iterator.bytes.now ≡ l.s) × (at ≤ length l.s) × (l.n ≤ at) × (head_run l.m l.n (lines (drop at l.s)) ≡ head_of (lines l.s))

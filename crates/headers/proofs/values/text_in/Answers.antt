@@ -10,4 +10,4 @@ find_field-f-requires c =
 pub returns : goal.returns
 unfolding text_span
 returns c =
-    rw (sym c.find_line-l.ensures.at, sym c.find_line-l.ensures.rest, sym c.find_field-f.ensures.0, c.one_less.ensures)
+    rw (sym c.find_line-l.ensures.at, sym c.find_line-l.ensures.rest, sym c.find_field-f.ensures.0, c.saturating_sub.ensures)

@@ -1,6 +1,6 @@
 use mathlib.Core.Path.{◌≡◌}
 use mathlib.Core.Bool.{true}
-use Prim.Native.Nat.{◌+◌, ◌-◌, ◌≤◌}
+use Prim.Native.Nat.{◌+◌, ◌≤◌}
 use lib.ListN.{length, take, drop}
 use Rattle.page.specs.Bytes.{all}
 use Rattle.page.specs.Lines.{allowed}
@@ -15,9 +15,13 @@ use Rattle.judging.proofs.records.judge_fields.Given as goal
 
 abbrev pub invariant-loop-k : goal.invariant-loop-k
 invariant-loop-k l =
-    (l.k ≤ l.n) × (l.at ≤ length l.w + 1) × (first_wrong (drop l.k (standing l.t (held l.t l.o))) (from l.w l.at) ≡ first_wrong (standing l.t (held l.t l.o)) (fields l.w))
-    × (drop l.k (fields l.w) ≡ from l.w l.at) × (l.k ≤ length (fields l.w)) × (length l.ns ≡ WIDEST) × Numbers l.t l.o (fields l.w) l.k l.ns
-    × (l.clean ≡ true → all (allowed l.wide) (take l.at l.w) ≡ true)
-
-abbrev pub decreases-loop-k : goal.decreases-loop-k
-decreases-loop-k l = l.n - l.k
+    let o = held l.t l.o in
+    record {
+      within : l.at ≤ length l.w + 1;
+      first : first_wrong (drop l.k (standing l.t o)) (from l.w l.at) ≡ first_wrong (standing l.t o) (fields l.w);
+      left : drop l.k (fields l.w) ≡ from l.w l.at;
+      some : l.k ≤ length (fields l.w);
+      wide : length l.numbers ≡ WIDEST;
+      numbers : Numbers l.t l.o (fields l.w) l.k l.numbers;
+      clean : l.clean ≡ true → all (allowed l.wide) (take l.at l.w) ≡ true;
+    }

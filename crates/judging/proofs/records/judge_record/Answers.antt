@@ -1,11 +1,14 @@
-use mathlib.Core.Path.{refl}
-use Rattle.page.specs.Tables.{all_tables}
-use Rattle.tables.specs.Arrays.{flat, row_given, kinds, marks, lows, highs}
+use mathlib.Core.Path.{sym, ◌∙◌}
+use Rattle.page.specs.Section.{rec_verdict}
+use borrow.Author.Tests.{ne_eqb}
 use Rattle.judging.proofs.records.judge_record.Goals as goal
 
-pub judge_fields-j-requires : goal.judge_fields-j-requires
-unfolding kinds marks lows highs row_given flat all_tables
-judge_fields-j-requires c = (c.requires, refl, refl, refl, refl)
+pub returns-then-has_width : goal.returns-then-has_width
+unfolding rec_verdict
+returns-then-has_width c =
+    let x = rw c.in-Err.is at c.judge_fields.ensures in
+    rw (sym c.has_width.ensures ∙ c.if-has_width.true, sym x.0, ne_eqb c.in-Err.v 0 x.1)
 
-pub judge_found-requires : goal.judge_found-requires
-judge_found-requires c = c.judge_fields-j.ensures.0
+pub returns-else-has_width : goal.returns-else-has_width
+unfolding rec_verdict
+returns-else-has_width c = rw (sym c.has_width.ensures ∙ c.if-has_width.false)

@@ -1,15 +1,10 @@
-use mathlib.Core.Path.{sym}
-use borrow.Author.Tests.{eq-eqb, ne_eqb}
+use Rattle.page.specs.Fields.{fields}
+use Rattle.arrangement.specs.Orders.{held}
+use Rattle.judging.proofs.RecordLaws.{verdict_wrong}
 use Rattle.judging.proofs.records.passes.Goals as goal
 
-pub judge_found-requires : goal.judge_found-requires
-judge_found-requires c = c.judge_fields-j.ensures.0
-
-pub returns-then-judge_found-ne0 : goal.returns-then-judge_found-ne0
-returns-then-judge_found-ne0 c = rw (sym c.judge_found.ensures, ne_eqb _ 0 c.if-judge_found-ne0.true)
-
-pub is_clean-requires : goal.is_clean-requires
-is_clean-requires c = c.judge_fields-j.ensures.1
-
-pub returns : goal.returns
-returns c = rw (sym c.judge_found.ensures, eq-eqb _ 0 c.if-judge_found-ne0.false) c.is_clean.ensures
+pub returns-in-Err : goal.returns-in-Err
+returns-in-Err c =
+    let a = c.args in
+    let x = rw c.in-Err.is at c.judge_fields.ensures in
+    rw (verdict_wrong a.t (held a.t a.o.now) a.m (fields a.w.now) _ x.0 x.1)

@@ -1,65 +1,59 @@
 use mathlib.Core.Path.{◌≡◌, refl, ap, sym, ◌∙◌}
 use mathlib.Core.List.{List}
-use Prim.Native.Nat.{◌+◌, ◌/◌, ◌%◌, ◌≤◌}
+use Prim.Native.Nat.{◌+◌, ◌/◌, ◌%◌}
 use native.Mathlib.Omega.{arith}
 use borrow.Author.Rules.{rules}
-use lib.ListN.{length, set, replicate, length-set}
+use lib.ListN.{set, replicate, length-set}
 use lib.Seq.{set_out}
 use Rattle.page.specs.Bytes.{Bytes}
 use Rattle.page.proofs.FieldLaws.{from, from_all, end_in}
 use Rattle.keys.specs.Numbers.{gather, gathered}
 use Rattle.keys.proofs.StoreLaws.{gather_skip, gather_take, gather_past, gather_none}
 use Rattle.keys.proofs.read.read_chosen.Goals as goal
+use Rattle.keys.proofs.read.read_chosen.Goals.{then-kind-ne0+then-n-lt-PLACES, else-kind-ne0, else-kind-ne0-via-then-kind-ne0+else-n-lt-PLACES, else-kind-ne0-via-else-kind-ne0}
 
 pub loop-rest-init : goal.loop-rest-init
-loop-rest-init c = let a = c.args in
+loop-rest-init c =
+    let a = c.args in
     (omega arith, refl, ap (λ (fs : List Bytes). gather a.choice.kinds a.choice.slots fs (replicate 7 0)) (from_all a.w.now))
 
-pub returns-then-w-at : goal.returns-then-w-at
-unfolding gathered
-returns-then-w-at c = let l = c.loop-rest in
-    let w = c.args.w.now in
-    sym (gather_past w l.at l.rest l.slots l.k (search rules)) ∙ l.invariant.2
-
 pub overflow_add-at : goal.overflow_add-at
-overflow_add-at c = let w = c.args.w.now in
-    let l = c.loop-rest in
+overflow_add-at c =
     let f = c.take_field-f in
-    let a : l.at ≤ length w = search rules in
-    let h = end_in w l.at f.result.end a f.ensures.0 in
+    let h = end_in c.args.w.now c.loop-rest.at f.result.end c.if-at-w.true f.ensures.0 in
     search rules
 
-pub loop-rest-preserved-then-n-lt-PLACES : goal.loop-rest-preserved-then-n-lt-PLACES
-loop-rest-preserved-then-n-lt-PLACES c = let w = c.args.w.now in
-    let l = c.loop-rest in
-    let f = c.take_field-f in
-    let a : l.at ≤ length w = search rules in
-    let h = end_in w l.at f.result.end a f.ensures.0 in
-    let t = gather_take w l.at f.result.end l.rest l.slots l.k a f.ensures.0 c.if-kind-ne0.true f.result.value f.ensures.1 in
-    (omega arith, length-set l.k (l.slots % 8) f.result.value ∙ l.invariant.1, sym t ∙ l.invariant.2)
-
-pub loop-rest-preserved-else-n-lt-PLACES : goal.loop-rest-preserved-else-n-lt-PLACES
-loop-rest-preserved-else-n-lt-PLACES c = let w = c.args.w.now in
-    let l = c.loop-rest in
-    let f = c.take_field-f in
-    let a : l.at ≤ length w = search rules in
-    let h = end_in w l.at f.result.end a f.ensures.0 in
-    let t = gather_take w l.at f.result.end l.rest l.slots l.k a f.ensures.0 c.if-kind-ne0.true f.result.value f.ensures.1 in
-    let o : set l.k (l.slots % 8) f.result.value ≡ l.k = set_out l.k (l.slots % 8) f.result.value (omega arith) in
-    (omega arith, l.invariant.1, sym (t ∙ ap (gather (l.rest / 4) (l.slots / 8) (from w (f.result.end + 1))) o) ∙ l.invariant.2)
-
 pub loop-rest-preserved : goal.loop-rest-preserved
-loop-rest-preserved c = let w = c.args.w.now in
+loop-rest-preserved c =
+    let w = c.args.w.now in
     let l = c.loop-rest in
     let f = c.take_field-f in
-    let a : l.at ≤ length w = search rules in
+    let a = c.if-at-w.true in
     let h = end_in w l.at f.result.end a f.ensures.0 in
-    let t = gather_skip w l.at f.result.end l.rest l.slots l.k a f.ensures.0 c.if-kind-ne0.false in
-    (omega arith, l.invariant.1, sym t ∙ l.invariant.2)
+    elim c.if-kind-ne0.branch [
+      | then-kind-ne0+then-n-lt-PLACES x ↦
+          let t = gather_take w l.at f.result.end l.rest l.slots l.k a f.ensures.0 x.if-kind-ne0.true f.result.value f.ensures.1 in
+          rw x.k-is (omega arith, length-set l.k (l.slots % 8) f.result.value ∙ l.invariant.1, sym t ∙ l.invariant.2)
+      | else-kind-ne0 x ↦ elim x.else-kind-ne0.branch [
+        | else-kind-ne0-via-then-kind-ne0+else-n-lt-PLACES y ↦
+            let t = gather_take w l.at f.result.end l.rest l.slots l.k a f.ensures.0 y.if-kind-ne0.true f.result.value f.ensures.1 in
+            let o : set l.k (l.slots % 8) f.result.value ≡ l.k = set_out l.k (l.slots % 8) f.result.value (omega arith) in
+            rw x.k-is (omega arith, l.invariant.1, sym (t ∙ ap (gather (l.rest / 4) (l.slots / 8) (from w (f.result.end + 1))) o) ∙ l.invariant.2)
+        | else-kind-ne0-via-else-kind-ne0 y ↦
+            let t = gather_skip w l.at f.result.end l.rest l.slots l.k a f.ensures.0 y.if-kind-ne0.false in
+            rw x.k-is (omega arith, l.invariant.1, sym t ∙ l.invariant.2)
+      ]
+    ]
 
-pub returns : goal.returns
+pub returns-else-at-w : goal.returns-else-at-w
 unfolding gathered
-returns c = let l = c.loop-rest in
-    let w = c.args.w.now in
+returns-else-at-w c =
+    let l = c.loop-rest in
+    sym (gather_past c.args.w.now l.at l.rest l.slots l.k (omega arith)) ∙ l.invariant.2
+
+pub returns-after-loop-rest : goal.returns-after-loop-rest
+unfolding gathered
+returns-after-loop-rest c =
+    let l = c.loop-rest in
     let z : l.rest ≡ 0 = omega arith in
-    sym (gather_none l.slots (from w l.at) l.k) ∙ rw z at l.invariant.2
+    sym (gather_none l.slots (from c.args.w.now l.at) l.k) ∙ rw z at l.invariant.2

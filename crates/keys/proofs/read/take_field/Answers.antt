@@ -1,17 +1,18 @@
-use mathlib.Core.Path.{ap, ◌∙◌}
+use mathlib.Core.Path.{◌≡◌, ap, ◌∙◌}
+use native.Mathlib.Omega.{arith}
 use borrow.Author.Tests.{ne_eqb}
 use Rattle.page.specs.Section.{amount}
 use Rattle.keys.specs.Numbers.{field_as}
 use Rattle.keys.proofs.read.take_field.Goals as goal
 
-pub returns-then-kind-eq1 : goal.returns-then-kind-eq1
+pub returns-in-1 : goal.returns-in-1
 unfolding field_as
-returns-then-kind-eq1 c = (c.number_at-c.ensures.0, rw c.if-kind-eq1.true (c.worth.ensures ∙ ap amount c.number_at-c.ensures.1))
+returns-in-1 c = (c.number_at-c.ensures.0, rw c.in-1.is (c.worth.ensures ∙ ap amount c.number_at-c.ensures.1))
 
-pub returns-then-kind-eq0 : goal.returns-then-kind-eq0
-returns-then-kind-eq0 c = (c.field_end.ensures, rw c.if-kind-eq0.true)
-
-pub returns : goal.returns
+pub returns-in_default : goal.returns-in_default
 unfolding field_as
-returns c = let a = c.args in
-    (c.take_text.ensures.0, rw (ne_eqb a.kind 0 c.if-kind-eq0.false, ne_eqb a.kind 1 c.if-kind-eq1.false) c.take_text.ensures.1)
+returns-in_default c =
+    let k = c.args.kind in
+    let a : k ≡ 0 → ⊥ = omega arith in
+    let b : k ≡ 1 → ⊥ = omega arith in
+    (c.take_text.ensures.0, rw (ne_eqb k 0 a, ne_eqb k 1 b) c.take_text.ensures.1)

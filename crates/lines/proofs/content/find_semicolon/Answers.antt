@@ -1,20 +1,13 @@
-use borrow.Author.Rules.{rules}
-use native.Mathlib.Omega.{arith}
-use borrow.Author.Tests.{eq-eqb, ne_eqb}
-use Rattle.page.proofs.ScanLaws.{until_hit, until_more, until_end}
+use Rattle.std.proofs.Common.{◌≡◌, ◌∙◌, true, false, rules, tests}
+use Rattle.std.proofs.lemmas.Iterator.{IsFirst-from_position, YieldsList-from_slice}
 use Rattle.page.specs.Lines.{semicolon}
+use Rattle.page.proofs.ChainLaws.{until_first}
 use Rattle.lines.proofs.content.find_semicolon.Goals as goal
-
-pub returns-then-c-i-eq59 : goal.returns-then-c-i-eq59
-returns-then-c-i-eq59 c =
-    let s = c.args.c.now in
-    omega (arith, until_hit semicolon s c.loop-i.i (search rules) (eq-eqb _ _ c.if-c-i-eq59.true))
-
-pub loop-i-preserved : goal.loop-i-preserved
-loop-i-preserved c =
-    let s = c.args.c.now in
-    omega (arith, until_more semicolon s c.loop-i.i (search rules) (ne_eqb _ _ c.if-c-i-eq59.false))
 
 pub returns : goal.returns
 returns c =
-    omega (arith, until_end semicolon c.args.c.now c.loop-i.i (search rules))
+    let s = c.args.c.now in
+    let h =
+    IsFirst-from_position _ _ _ (λ b. semicolon b ≡ true) (λ b. semicolon b ≡ false) c.position.ensures.ran (YieldsList-from_slice s cc)
+    (λ x q k. search (rules, tests)) (λ x q k. search (rules, tests)) in
+    c.unwrap_or.ensures ∙ until_first semicolon s c.position.result h

@@ -12,5 +12,5 @@ returns-then-i-c c =
     let k = c.find_semicolon-i.result + 1 in
     take_all _ _ (le_of_eq (length-drop k s)) ∙ rest_at s _ c.find_semicolon-i.ensures
 
-pub returns : goal.returns
-returns c = sym (rest_none c.args.c.now _ c.find_semicolon-i.ensures c.if-i-c.false)
+pub returns-else-i-c : goal.returns-else-i-c
+returns-else-i-c c = sym (rest_none c.args.c.now _ c.find_semicolon-i.ensures c.if-i-c.false)

@@ -1,20 +1,13 @@
-use mathlib.Core.Path.{ap}
-use mathlib.Core.Bool.{not}
-use native.Mathlib.Omega.{arith}
-use borrow.Author.Tests.{eq-eqb, ne_eqb}
+use Rattle.std.proofs.Common.{◌≡◌, ◌∙◌, true, false, rules, tests}
+use Rattle.std.proofs.lemmas.Iterator.{IsFirst-from_position, YieldsList-from_slice}
 use Rattle.page.specs.Bytes.{no_space}
-use Rattle.page.proofs.ScanLaws.{until_hit, until_more, until_end}
+use Rattle.page.proofs.ChainLaws.{until_first}
 use Rattle.lines.proofs.scan.spaces.Goals as goal
 
-pub returns-then-s-i-ne32 : goal.returns-then-s-i-ne32
-returns-then-s-i-ne32 c =
-    let s = c.args.s.now in
-    omega (arith, until_hit no_space s _ c.loop-i-test.true (ap not (ne_eqb _ _ c.if-s-i-ne32.true)))
-
-pub loop-i-preserved : goal.loop-i-preserved
-loop-i-preserved c =
-    let s = c.args.s.now in
-    omega (arith, until_more no_space s _ c.loop-i-test.true (ap not (eq-eqb _ _ c.if-s-i-ne32.false)))
-
 pub returns : goal.returns
-returns c = omega (arith, until_end no_space c.args.s.now _ c.loop-i-test.false)
+returns c =
+    let s = c.args.s.now in
+    let h =
+    IsFirst-from_position _ _ _ (λ b. no_space b ≡ true) (λ b. no_space b ≡ false) c.position.ensures.ran (YieldsList-from_slice s cc)
+    (λ x q k. search (rules, tests)) (λ x q k. search (rules, tests)) in
+    c.unwrap_or.ensures ∙ until_first no_space s c.position.result h

@@ -5,6 +5,6 @@ pub returns-then-found : goal.returns-then-found
 unfolding choose
 returns-then-found c = rw c.if-found.true
 
-pub returns : goal.returns
+pub returns-else-found : goal.returns-else-found
 unfolding choose
-returns c = rw c.if-found.false
+returns-else-found c = rw c.if-found.false

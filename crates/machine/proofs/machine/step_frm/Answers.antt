@@ -7,7 +7,7 @@ unfolding frm_step choose
 returns-then-formats_match c =
     rw (sym c.formats_match.ensures ∙ c.if-formats_match.true)
 
-pub returns : goal.returns
+pub returns-else-formats_match : goal.returns-else-formats_match
 unfolding frm_step choose
-returns c =
+returns-else-formats_match c =
     rw (sym c.formats_match.ensures ∙ c.if-formats_match.false)

@@ -1,17 +1,17 @@
-use borrow.Author.Tests.{eq-eqb, ne_eqb}
+use borrow.Author.Rules.{rules}
 use Rattle.page.specs.Section.{line_step, choose}
+use Rattle.commands.specs.declared.command.Command.TheVariants.{Rec, End}
+use Rattle.commands.proofs.CodeLaws.{apart}
 use Rattle.machine.proofs.machine.step_rows.Goals as goal
 
-pub returns-then-k-eq-REC : goal.returns-then-k-eq-REC
+pub returns-in-Rec : goal.returns-in-Rec
 unfolding line_step choose
-returns-then-k-eq-REC c = rw (eq-eqb c.args.k 11 c.if-k-eq-REC.true) c.step_rec.ensures
+returns-in-Rec c = rw c.in-Rec.is c.step_rec.ensures
 
-pub returns-then-k-eq-END : goal.returns-then-k-eq-END
+pub returns-in-End : goal.returns-in-End
 unfolding line_step choose
-returns-then-k-eq-END c =
-    rw (ne_eqb c.args.k 11 c.if-k-eq-REC.false, eq-eqb c.args.k 12 c.if-k-eq-END.true) c.step_end.ensures
+returns-in-End c = rw c.in-End.is c.step_end.ensures
 
-pub returns : goal.returns
+pub returns-in_default : goal.returns-in_default
 unfolding line_step choose
-returns c =
-    rw (ne_eqb c.args.k 11 c.if-k-eq-REC.false, ne_eqb c.args.k 12 c.if-k-eq-END.false)
+returns-in_default c = rw (apart c.args.k Rec (search rules), apart c.args.k End (search rules))

@@ -14,7 +14,7 @@ unfolding tbl_step choose
 returns-then-t-lt-TABLES c =
     rw (sym c.count_fields.ensures, eq-eqb c.count_fields.result 1 c.if-count_fields-ne1.false, sym c.field_at.ensures, sym c.find_table-t.ensures, lt-ltb c.find_table-t.result TABLES c.if-t-lt-TABLES.true)
 
-pub returns : goal.returns
+pub returns-else-t-lt-TABLES : goal.returns-else-t-lt-TABLES
 unfolding tbl_step choose
-returns c =
+returns-else-t-lt-TABLES c =
     rw (sym c.count_fields.ensures, eq-eqb c.count_fields.result 1 c.if-count_fields-ne1.false, sym c.field_at.ensures, sym c.find_table-t.ensures, le-ltb c.find_table-t.result TABLES c.if-t-lt-TABLES.false)

@@ -1,4 +1,3 @@
-use Prim.Native.Nat.{◌-◌}
 use mathlib.Core.Path.{ap, sym, ◌∙◌}
 use mathlib.Core.Bool.{not}
 use native.Mathlib.Omega.{arith}
@@ -10,14 +9,13 @@ pub returns-then-not-is_digit : goal.returns-then-not-is_digit
 returns-then-not-is_digit c =
     let w = c.args.w.now in
     let i = c.loop-i.i in
-    omega (arith, until_hit no_digit w i c.loop-i-test.true (ap not (sym c.is_digit.ensures) ∙ c.if-not-is_digit.true-raw))
+    omega (arith, until_hit no_digit w i c.loop-i-test.true (ap not (sym c.is_digit.ensures ∙ c.if-not-is_digit.true)), c.loop-i.invariant)
 
 pub loop-i-preserved : goal.loop-i-preserved
 loop-i-preserved c =
     let w = c.args.w.now in
     let i = c.loop-i.i in
-    let more = until_more no_digit w i c.loop-i-test.true (ap not (sym c.is_digit.ensures) ∙ c.if-not-is_digit.false-raw) in
-    (omega arith, omega arith)
+    omega (arith, until_more no_digit w i c.loop-i-test.true (ap not (sym c.is_digit.ensures ∙ c.if-not-is_digit.false)), c.loop-i.invariant)
 
 pub returns : goal.returns
-returns c = omega (arith, until_end no_digit c.args.w.now c.loop-i.i c.loop-i-test.false)
+returns c = omega (arith, until_end no_digit c.args.w.now c.loop-i.i c.loop-i-test.false, c.loop-i.invariant)

@@ -1,5 +1,4 @@
 use mathlib.Core.Path.{◌≡◌}
-use Prim.Native.Nat.{◌-◌, ◌≤◌}
 use lib.ListN.{drop}
 use Rattle.page.specs.Lines.{find}
 use Rattle.names.specs.Told.{column_named}
@@ -7,7 +6,4 @@ use Rattle.names.proofs.ToldLaws.{names}
 use Rattle.names.proofs.orders.find_column.Given as goal
 
 abbrev pub invariant-loop-i : goal.invariant-loop-i
-invariant-loop-i l = (l.i ≤ l.n) × (find l.i (drop l.i (names l.t)) l.f ≡ column_named l.t l.f)
-
-abbrev pub decreases-loop-i : goal.decreases-loop-i
-decreases-loop-i l = l.n - l.i
+invariant-loop-i l = find l.i (drop l.i (names l.t)) l.f ≡ column_named l.t l.f

@@ -1,30 +1,21 @@
-use Prim.Native.Nat.{◌-◌, ◌≤◌}
 use mathlib.Core.Path.{sym, ◌∙◌}
 use native.Mathlib.Omega.{arith}
-use lib.ListN.{length}
-use lib.Seq.{length-take-le}
 use Rattle.page.specs.Fields.{text_of}
 use Rattle.page.proofs.TextLaws.{text_long}
 use Rattle.quoted.proofs.SizeLaws.{size_some, empty_kept, empty_not}
 use Rattle.quoted.proofs.texts.is_empty_text.Goals as goal
 
-pub overflow_sub-e : goal.overflow_sub-e
-overflow_sub-e c =
+pub slice_bounds-kept-count : goal.slice_bounds-kept-count
+slice_bounds-kept-count c =
     let f = c.args.f.now in
-    omega (arith, text_long f _ (size_some (text_of f) _ (sym c.text_size.ensures ∙ c.in-Is.is)))
+    omega (arith, text_long f _ (size_some (text_of f) _ (sym c.text_size.ensures ∙ c.in-Some.is)))
 
-pub slice_bounds-kept-end : goal.slice_bounds-kept-end
-slice_bounds-kept-end c =
+pub returns-in-Some : goal.returns-in-Some
+returns-in-Some c =
     let f = c.args.f.now in
-    let le : length f - 1 ≤ length f = omega arith in
-    sym (length-take-le _ f le)
+    rw c.kept.ensures (empty_kept f _ (sym c.text_size.ensures ∙ c.in-Some.is))
 
-pub returns-in-Is : goal.returns-in-Is
-returns-in-Is c =
+pub returns-in-None : goal.returns-in-None
+returns-in-None c =
     let f = c.args.f.now in
-    rw c.kept.ensures (empty_kept f _ (sym c.text_size.ensures ∙ c.in-Is.is))
-
-pub returns-in-Nothing : goal.returns-in-Nothing
-returns-in-Nothing c =
-    let f = c.args.f.now in
-    empty_not f (sym c.text_size.ensures ∙ c.in-Nothing.is)
+    empty_not f (sym c.text_size.ensures ∙ c.in-None.is)

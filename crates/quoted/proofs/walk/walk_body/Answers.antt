@@ -6,7 +6,7 @@ use borrow.Author.Rules.{rules}
 use borrow.Author.Tests.{not-false, eqb-true, ltb-true}
 use lib.Dec.{eqb, ltb}
 use lib.ListN.{length, get_or}
-use Rattle.page.proofs.TestLaws.{false_true, and_left, and_right}
+use Rattle.page.proofs.TestLaws.{and_left, and_right}
 use Rattle.quoted.proofs.WalkLaws.{walked_none, walked_byte, walked_pair, walked_closed}
 use Rattle.quoted.proofs.walk.walk_body.Goals as goal
 
@@ -22,13 +22,13 @@ pub returns-then-not-is_quote : goal.returns-then-not-is_quote
 returns-then-not-is_quote c =
     let a = c.args in
     let l = c.loop-i in
-    λ e. walked_closed a.w.now a.wide a.from l.i l.n l.invariant c.loop-i-test.true c.if-b-eq34.true
+    walked_closed a.w.now a.wide a.from l.i l.size l.invariant c.loop-i-test.true c.if-b-eq34.true
 
 pub overflow_add-i : goal.overflow_add-i
 overflow_add-i c = let h = (let h : c.loop-i.i + 1 < length c.args.w.now = ltb-true _ _ (and_left _ _ (pair c)) in h) in search rules
 
-pub overflow_add-n : goal.overflow_add-n
-overflow_add-n c = omega (arith, (let h : c.loop-i.i + 1 < length c.args.w.now = ltb-true _ _ (and_left _ _ (pair c)) in h), c.loop-i.invariant.few)
+pub overflow_add-size : goal.overflow_add-size
+overflow_add-size c = omega (arith, (let h : c.loop-i.i + 1 < length c.args.w.now = ltb-true _ _ (and_left _ _ (pair c)) in h), c.loop-i.invariant.few)
 
 pub loop-i-smaller-then-b-eq34 : goal.loop-i-smaller-then-b-eq34
 loop-i-smaller-then-b-eq34 c = let h = (let h : c.loop-i.i + 1 < length c.args.w.now = ltb-true _ _ (and_left _ _ (pair c)) in h) in search rules
@@ -37,19 +37,13 @@ pub loop-i-preserved-then-b-eq34 : goal.loop-i-preserved-then-b-eq34
 loop-i-preserved-then-b-eq34 c =
     let a = c.args in
     let l = c.loop-i in
-    walked_pair a.w.now a.wide a.from l.i l.n l.invariant c.loop-i-test.true c.if-b-eq34.true ((let h : c.loop-i.i + 1 < length c.args.w.now = ltb-true _ _ (and_left _ _ (pair c)) in h)) (eqb-true _ 34 (and_right (ltb (l.i + 1) (length a.w.now)) _ (pair c)))
+    walked_pair a.w.now a.wide a.from l.i l.size l.invariant c.loop-i-test.true c.if-b-eq34.true ((let h : c.loop-i.i + 1 < length c.args.w.now = ltb-true _ _ (and_left _ _ (pair c)) in h)) (eqb-true _ 34 (and_right (ltb (l.i + 1) (length a.w.now)) _ (pair c)))
 
-pub returns-then-not-is_allowed : goal.returns-then-not-is_allowed
-returns-then-not-is_allowed c = λ e. false_true e
-
-pub overflow_add-n-else-b-eq34 : goal.overflow_add-n-else-b-eq34
-overflow_add-n-else-b-eq34 c = omega (arith, c.loop-i.invariant.few)
+pub overflow_add-size-else-b-eq34 : goal.overflow_add-size-else-b-eq34
+overflow_add-size-else-b-eq34 c = omega (arith, c.loop-i.invariant.few)
 
 pub loop-i-preserved : goal.loop-i-preserved
 loop-i-preserved c =
     let a = c.args in
     let l = c.loop-i in
-    walked_byte a.w.now a.wide a.from l.i l.n l.invariant c.loop-i-test.true c.if-b-eq34.false (sym c.is_allowed.ensures ∙ not-false _ c.if-not-is_allowed.false-raw)
-
-pub returns : goal.returns
-returns c = λ e. false_true e
+    walked_byte a.w.now a.wide a.from l.i l.size l.invariant c.loop-i-test.true c.if-b-eq34.false (sym c.is_allowed.ensures ∙ not-false _ c.if-not-is_allowed.false-raw)

@@ -1,13 +1,5 @@
-use Prim.Native.Nat.{◌-◌, ◌≤◌}
-use mathlib.Core.Path.{◌≡◌}
-use lib.ListN.{length}
-use Rattle.page.specs.Tables.{MOST}
+use Prim.Native.Nat.{◌≤◌}
 use Rattle.references.proofs.children.note_record.Given as goal
 
-abbrev pub invariant-loop-next : goal.invariant-loop-next
-invariant-loop-next l =
-    (l.new ≤ l.next) × (l.next ≤ MOST) × (length l.g ≡ length l.initial.g)
-
-abbrev pub decreases-loop-next : goal.decreases-loop-next
-decreases-loop-next l =
-    MOST - l.next
+abbrev pub invariant-loop-r : goal.invariant-loop-r
+invariant-loop-r l = l.new ≤ l.r

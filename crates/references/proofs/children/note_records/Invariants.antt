@@ -1,12 +1,5 @@
-use Prim.Native.Nat.{◌+◌, ◌-◌, ◌≤◌}
-use mathlib.Core.Path.{◌≡◌}
-use lib.ListN.{length}
+use Prim.Native.Nat.{◌+◌, ◌≤◌}
 use Rattle.references.proofs.children.note_records.Given as goal
 
-abbrev pub invariant-loop-from : goal.invariant-loop-from
-invariant-loop-from l =
-    (l.count ≤ l.most + 2) × (length l.g ≡ length l.initial.g)
-
-abbrev pub decreases-loop-from : goal.decreases-loop-from
-decreases-loop-from l =
-    length l.w - l.from
+abbrev pub invariant-loop-line : goal.invariant-loop-line
+invariant-loop-line l = l.count ≤ l.most + 2

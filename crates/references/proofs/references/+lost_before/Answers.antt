@@ -1,6 +1,10 @@
-use Rattle.aims.proofs.AimLaws.{looked_lost}
+use mathlib.Core.Path.{◌≡◌}
+use Prim.Native.Nat.{◌+◌, ◌-◌}
+use native.Mathlib.Omega.{arith}
+use Rattle.aims.proofs.AimLaws.{looked_here}
 use Rattle.references.proofs.references.+lost_before.Goals as goal
 
 pub returns : goal.returns
 returns t c =
-    looked_lost c.args.s.now c.args.seats c.requires.0 c.args.n c.if-n-eq0.false c.lost_before-before.result c.lost_before-before.ensures c.if-before-ne0.false c.lost_line-line.result c.lost_line-line.ensures c.if-line-eq0.false c.requires.1
+    let o : c.args.n - 1 + 1 ≡ c.args.n = omega arith in
+    rw o at (looked_here _ _ c.requires.0 (c.args.n - 1) c.in_ok-lost_before.ensures (omega (arith, c.requires.1)) _ c.in-Some.ensures c.args.n)

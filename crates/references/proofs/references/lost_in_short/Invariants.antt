@@ -1,14 +1,8 @@
-use Rattle.page.specs.Answers.{sound}
-use Rattle.seats.specs.Faults.{Looked}
-use Prim.Native.Nat.{◌-◌, ◌≤◌}
 use mathlib.Core.Path.{◌≡◌}
-use lib.ListN.{length}
+use Prim.Native.Nat.{ℕ, ◌<◌}
+use Rattle.seats.specs.Seating.{seat_at}
+use Rattle.seats.specs.Faults.{lost_line}
 use Rattle.references.proofs.references.lost_in_short.Given as goal
 
-abbrev pub invariant-loop-n : goal.invariant-loop-n
-invariant-loop-n l =
-    (l.n ≤ l.seats.count) × Looked l.s l.seats l.n sound × (length l.g ≡ length l.initial.g)
-
-abbrev pub decreases-loop-n : goal.decreases-loop-n
-decreases-loop-n l =
-    l.seats.count - l.n
+abbrev pub invariant-loop-i : goal.invariant-loop-i
+invariant-loop-i l = (m : ℕ) → m < l.i → lost_line l.s l.seats (seat_at l.seats m) ≡ 0

@@ -1,77 +1,50 @@
-use Rattle.repeats.proofs.PartLaws.{clean_first, clean_all, clean_more, repeats_here, rising_first, rising_next, rising_end}
-use Prim.Native.Nat.{◌-◌}
 use mathlib.Core.Path.{◌≡◌, refl, sym, ◌∙◌}
+use borrow.Author.Rules.{rules}
 use native.Mathlib.Omega.{arith}
+use Rattle.seats.proofs.RepeatLaws.{seat_bounds, seat_ordered}
+use Rattle.repeats.proofs.PartLaws.{clean_first, clean_all, clean_more, repeats_here, rising_first, rising_next, rising_end}
 use Rattle.repeats.proofs.repeats.first_repeat.Goals as goal
 
 pub scan-init : goal.scan-init
-scan-init c = (omega arith, refl, clean_first _ _ _)
+scan-init c = (refl, clean_first _ _ _)
 
-pub find_choice-choice-requires : goal.find_choice-choice-requires
-find_choice-choice-requires c = (c.requires, c.scan-test.true)
+pub choose_key-choice-requires : goal.choose_key-choice-requires
+choose_key-choice-requires c = (seat_ordered _ _ c.requires c.scan.i (omega arith) _ c.seat-seat.ensures).stands.orderly
 
 pub find_part-w-requires : goal.find_part-w-requires
-find_part-w-requires c = (c.requires, c.scan-test.true)
+find_part-w-requires c = seat_bounds _ _ c.requires c.scan.i (omega arith) _ c.seat-seat.ensures
 
-pub overflow_add-i : goal.overflow_add-i
-overflow_add-i c = omega (arith, c.scan-test.true, c.requires.few)
+pub loop-line-init : goal.loop-line-init
+loop-line-init c =
+    let z : c.into_iter-line-iterator.result.at ≡ 0 = search rules in
+    (search rules, c.scan.invariant.0, rw z (rising_first _ _ _))
 
-pub loop-at-init : goal.loop-at-init
-loop-at-init c = (c.scan.invariant.1, rising_first _ _ _)
+pub loop-line-preserved : goal.loop-line-preserved
+loop-line-preserved c =
+    let v = c.loop-line.invariant in
+    let t = rw v.0 at c.in-Some.ensures.steps.1 in
+    let r = rw t.bytes at c.in-Ok.ensures in
+    (search rules, v.1, rising_next _ _ _ _ v.2 _ t.before t.size _ r)
 
-pub scan-smaller : goal.scan-smaller
-scan-smaller c = omega (arith, c.scan-test.true)
+pub scan-preserved-in_default : goal.scan-preserved-in_default
+scan-preserved-in_default c = (
+  c.loop-line.invariant.1,
+  clean_more _ _ c.requires _ _ c.scan.invariant.1 (omega arith) _ c.seat-seat.ensures _ c.choose_key-choice.ensures _ c.find_part-w.ensures c.in_default.ensures,
+)
 
 pub scan-preserved : goal.scan-preserved
 scan-preserved c =
-    let v = c.scan in
-    let q = c.find_choice-choice in
-    let w = c.find_part-w in
-    let l = c.loop-at in (
-      omega (arith, c.scan-test.true),
-      l.invariant.0,
-      clean_more c.args.s.now c.args.seats c.requires c.args.second v.i v.invariant.2 c.scan-test.true q.result q.ensures w.result.now w.ensures (rising_end _ _ _ _ l.invariant.1 c.loop-at-test.false),
+    let v = c.loop-line.invariant in
+    let e = rw v.0 at c.in-None.ensures.steps.2 in (
+      v.1,
+      clean_more _ _ c.requires _ _ c.scan.invariant.1 (omega arith) _ c.seat-seat.ensures _ c.choose_key-choice.ensures _ c.find_part-w.ensures (rising_end _ _ _ _ v.2 e),
     )
-
-pub pass_line-at-requires : goal.pass_line-at-requires
-pass_line-at-requires c = c.loop-at-test.true
-
-pub find_rise-rise-requires : goal.find_rise-rise-requires
-find_rise-rise-requires c = (omega arith, omega arith)
-
-pub scan-smaller-then-n-eq0 : goal.scan-smaller-then-n-eq0
-scan-smaller-then-n-eq0 c = omega (arith, c.scan-test.true)
-
-pub scan-preserved-then-n-eq0 : goal.scan-preserved-then-n-eq0
-scan-preserved-then-n-eq0 c =
-    let v = c.scan in
-    let q = c.find_choice-choice in
-    let w = c.find_part-w in
-    let z : c.find_repeat-n.result ≡ 0 = c.if-n-eq0.true in (
-      omega (arith, c.scan-test.true),
-      c.loop-at.invariant.0,
-      clean_more c.args.s.now c.args.seats c.requires c.args.second v.i v.invariant.2 c.scan-test.true q.result q.ensures w.result.now w.ensures (sym c.find_repeat-n.ensures ∙ z),
-    )
-
-pub loop-at-smaller : goal.loop-at-smaller
-loop-at-smaller c = omega arith
-
-pub loop-at-preserved : goal.loop-at-preserved
-loop-at-preserved c =
-    let l = c.loop-at in
-    let w = c.find_part-w.result.now in
-    let e = c.pass_line-at in
-    (l.invariant.0, rising_next _ w _ l.at l.invariant.1 e.result c.loop-at-test.true e.ensures.0 _ _ c.find_rise-rise.ensures c.if-not-rise.false)
 
 pub returns-after-scan : goal.returns-after-scan
-returns-after-scan c =
-    let v = c.scan in
-    v.invariant.1 ∙ clean_all c.args.s.now c.args.seats c.requires c.args.second v.i v.invariant.2 c.scan-test.false
+returns-after-scan c = c.scan.invariant.0 ∙ sym (clean_all _ _ c.requires _ c.scan.i c.scan.invariant.1 (omega arith))
 
-pub returns-else-n-eq0 : goal.returns-else-n-eq0
-returns-else-n-eq0 c =
-    let v = c.scan in
-    let q = c.find_choice-choice in
-    let w = c.find_part-w in
-    c.refuse_repeat-found.ensures
-    ∙ repeats_here c.args.s.now c.args.seats c.requires c.args.second v.i v.invariant.2 c.scan-test.true q.result q.ensures w.result.now w.ensures _ c.find_repeat-n.ensures c.if-n-eq0.false
+pub returns-in-Some-find_repeat : goal.returns-in-Some-find_repeat
+returns-in-Some-find_repeat c =
+    let n = c.in-Some-find_repeat.ensures in
+    rw c.repeat_number.ensures
+    (sym (repeats_here _ _ c.requires _ _ c.scan.invariant.1 (omega arith) _ c.seat-seat.ensures _ c.choose_key-choice.ensures _ c.find_part-w.ensures _ n.0 n.1))

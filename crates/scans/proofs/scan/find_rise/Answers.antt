@@ -1,11 +1,22 @@
-use Rattle.scans.proofs.TopLaws.{rises_other, rises_record}
-use mathlib.Core.Path.{◌∙◌}
+use mathlib.Core.Path.{sym, ◌∙◌}
+use borrow.Author.Rules.{rules}
+use Rattle.keys.proofs.DeriveLaws.{less_compared}
+use Rattle.scans.proofs.TopLaws.{rises_other, rises_keyed}
 use Rattle.scans.proofs.scan.find_rise.Goals as goal
 
-pub returns-then-command_of-ne-REC : goal.returns-then-command_of-ne-REC
-returns-then-command_of-ne-REC c = rises_other _ _ _ _ c.content_of-c.ensures c.command_of.ensures _ c.if-command_of-ne-REC.true
+pub returns-in-None : goal.returns-in-None
+returns-in-None c = rises_other _ _ _ c.in-None.ensures
 
-pub returns : goal.returns
-returns c =
-    let r = rises_record _ _ _ _ c.content_of-c.ensures c.command_of.ensures _ c.if-command_of-ne-REC.false _ c.rest_of.ensures _ c.read_chosen-key.ensures in
-    (c.less_key-rises.ensures ∙ r.0, r.1)
+pub returns-in-Some : goal.returns-in-Some
+returns-in-Some c =
+    let k = c.in-Some.ensures in
+    let r = rises_keyed _ _ c.args.top.k k.0 _ k.1 in
+    let e = c.lt.ensures ∙ less_compared c.args.top.k c.in-Some.key.k (search rules) in
+    (r.0 ∙ sym e ∙ c.if-lt.true, r.1)
+
+pub returns-in-Some-2 : goal.returns-in-Some-2
+returns-in-Some-2 c =
+    let k = c.in-Some.ensures in
+    let r = rises_keyed _ _ c.args.top.k k.0 _ k.1 in
+    let e = c.lt.ensures ∙ less_compared c.args.top.k c.in-Some.key.k (search rules) in
+    (r.0 ∙ sym e ∙ c.if-lt.false, r.1)

@@ -7,7 +7,7 @@ use Rattle.sections.proofs.records.skip_records.Goals as goal
 pub pass_records-r-requires : goal.pass_records-r-requires
 pass_records-r-requires c =
     let q = c.requires in
-    (q.0, rows_stand _ _ _ _ _ c.in-Rows.is q.2, q.3, q.4, q.5, q.6)
+    (q.0, rows_stand _ _ _ _ _ c.in-Rows.is q.2)
 
 pub overflow_add-result : goal.overflow_add-result
 overflow_add-result c =
@@ -29,11 +29,4 @@ returns-in-Rows c =
 pub returns : goal.returns
 returns c =
     let q = c.requires in
-    let a = c.args in
-    let x = c.skip_none.ensures in (
-      omega (arith, x.0, x.1),
-      omega (arith, x.0, q.0),
-      rw (x.1, x.2) (omega arith),
-      rw x.2 q.2,
-      λ n. rw (x.0, x.1, x.2, add-zero n),
-    )
+    (omega arith, q.0, omega arith, q.2, λ n. rw (add-zero n))

@@ -1,13 +1,12 @@
 use Rattle.page.specs.declared.Refusal.{Refusal}
 use Rattle.writing.proofs.FormLaws.{write_done}
 use mathlib.Core.Path.{ap, sym, ◌∙◌}
-use native.Mathlib.Omega.{arith}
 use Rattle.writing.proofs.checked.write_checked.Goals as goal
 
 pub hand_form-requires : goal.hand_form-requires
 hand_form-requires c =
-    λ e. (sym (ap (λ (r : Refusal). r.number) c.requires) ∙ e, omega arith)
+    λ e. sym (ap (λ (r : Refusal). r.number) c.requires) ∙ e
 
 pub returns : goal.returns
 returns c =
-    write_done _ _ _ _ _ _ c.requires c.hand_form.ensures
+    write_done _ _ _ _ _ c.requires c.hand_form.ensures

@@ -1,13 +1,10 @@
+use Rattle.std.proofs.Common.{ap, ◌∙◌, arith, length}
 use Rattle.page.specs.Cut.{sections}
 use Rattle.page.proofs.ScanLaws.{part_length}
 use Rattle.page.proofs.CutLaws.{sections_from, sections_all, sections_end}
 use Rattle.cut.proofs.WalkLaws.{walk_here}
-use Rattle.output.proofs.PutLaws.{begin, left_is, next_by, at_end, same}
-use Rattle.recording.proofs.SectionLaws.{tables_begin, tables_more, tables_end, lines_from, tables_fit, passing_here, passing_rest, passes_section}
-use Prim.Native.Nat.{◌-◌}
-use mathlib.Core.Path.{ap, ◌∙◌}
-use native.Mathlib.Omega.{arith}
-use lib.ListN.{length}
+use Rattle.output.proofs.OutputLaws.{begin, left_is, next_by, at_end}
+use Rattle.recording.proofs.SectionLaws.{tables_begin, tables_more, tables_end, lines_from, passing_here, passing_rest, passes_section}
 use Rattle.writing.proofs.file.put_sections.Goals as goal
 
 pub loop-a-init : goal.loop-a-init
@@ -16,18 +13,23 @@ loop-a-init c =
     let s = a.s.now in
     let f = c.find_section-a.ensures in
     let y = f.same ∙ sections_all s in
-    (f.within, omega arith, f.settled, rw y c.requires.2, omega (arith, ap length y), left_is (tables_begin a.plan a.text.now (sections s) _ y) begin)
+    record {
+      within = f.within;
+      few = omega arith;
+      settled = f.settled;
+      passing = rw y c.requires;
+      count = omega (arith, ap length y);
+      form = left_is (tables_begin a.plan (sections s) _ y) begin;
+    }
 
-pub put_section-o-requires : goal.put_section-o-requires
-put_section-o-requires c =
-    let a = c.args in
-    let s = a.s.now in
+pub put_section-requires : goal.put_section-requires
+put_section-requires c =
+    let s = c.args.s.now in
     let l = c.loop-a in
-    let h = c.loop-a-test.true in
     let e = c.section_end-e in
-    let g = walk_here s l.a h l.invariant.2 in
+    let g = walk_here s l.a c.loop-a-test.true l.invariant.settled in
     let k = part_length l.a e.result s e.ensures.2 in
-    (tables_fit a.plan a.text.now l.n _ _ _ _ _ g c.plan_section.ensures (lines_from s l.a e.result e.ensures.0) _ _ l.invariant.5 c.requires.0, c.requires.1, omega (arith, e.ensures.1), passes_section _ _ (lines_from s l.a e.result e.ensures.0) (passing_here (rw g at l.invariant.3)))
+    (omega (arith, e.ensures.1), passes_section _ _ (lines_from s l.a e.result e.ensures.0) (passing_here (rw g at l.invariant.passing)))
 
 pub loop-a-smaller : goal.loop-a-smaller
 loop-a-smaller c =
@@ -38,27 +40,27 @@ loop-a-preserved c =
     let a = c.args in
     let s = a.s.now in
     let l = c.loop-a in
-    let h = c.loop-a-test.true in
     let e = c.section_end-e in
-    let g = walk_here s l.a h l.invariant.2 in
-    let z = tables_more a.plan a.text.now l.n _ _ _ _ _ g c.plan_section.ensures (lines_from s l.a e.result e.ensures.0) in
+    let g = walk_here s l.a c.loop-a-test.true l.invariant.settled in
+    let z = tables_more a.plan l.n _ _ _ _ _ g c.plan_section.ensures (lines_from s l.a e.result e.ensures.0) in
     let f = c.find_section-a-in-loop-a.ensures in
-    let y = f.same ∙ ap (sections_from s) e.ensures.0 in (
-      f.within,
-      omega (arith, f.after, e.ensures.1),
-      f.settled,
-      rw y (passing_rest (rw g at l.invariant.3)),
-      rw y (omega (arith, ap length g, l.invariant.4)),
-      rw y (next_by z l.invariant.5 c.put_section-o.ensures),
-    )
+    let y = f.same ∙ ap (sections_from s) e.ensures.0 in
+    record {
+      within = f.within;
+      few = omega (arith, f.after, e.ensures.1);
+      settled = f.settled;
+      passing = rw y (passing_rest (rw g at l.invariant.passing));
+      count = rw y (omega (arith, ap length g, l.invariant.count));
+      form = rw y (next_by z l.invariant.form c.put_section.ensures);
+    }
 
-pub shape_of-out : goal.shape_of-out
-shape_of-out c =
-    same c.loop-a.invariant.5
-
-pub returns : goal.returns
-returns c =
+pub returns-clause-form : goal.returns-clause-form
+returns-clause-form c =
     let a = c.args in
     let l = c.loop-a in
-    let y = sections_end a.s.now l.a c.loop-a-test.false in
-    (at_end (tables_end a.plan a.text.now l.n _ y) l.invariant.5, omega (arith, ap length y, l.invariant.4))
+    at_end (tables_end a.plan l.n _ (sections_end a.s.now l.a c.loop-a-test.false)) l.invariant.form
+
+pub returns-clause-count : goal.returns-clause-count
+returns-clause-count c =
+    let l = c.loop-a in
+    omega (arith, ap length (sections_end c.args.s.now l.a c.loop-a-test.false), l.invariant.count)

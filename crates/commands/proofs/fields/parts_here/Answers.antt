@@ -1,7 +1,0 @@
-use Rattle.commands.proofs.fields.parts_here.Goals as goal
-
-pub returns-then-inside : goal.returns-then-inside
-returns-then-inside c = rw c.if-inside.true
-
-pub returns-else-inside : goal.returns-else-inside
-returns-else-inside c = rw c.if-inside.false

@@ -1,8 +1,0 @@
-use borrow.Author.Tests.{eq-eqb, ne_eqb}
-use Rattle.references.proofs.references.keep_recent.Goals as goal
-
-pub returns-then-r-eq0 : goal.returns-then-r-eq0
-returns-then-r-eq0 c = rw (eq-eqb c.args.r 0 c.if-r-eq0.true)
-
-pub returns : goal.returns
-returns c = rw (ne_eqb c.args.r 0 c.if-r-eq0.false)

@@ -1,6 +1,0 @@
-use mathlib.Core.Path.{ap, ◌∙◌}
-use Rattle.told.specs.Told.{told_written}
-use Rattle.vdv.proofs.lending.vdv_write.Goals as goal
-
-pub returns : goal.returns
-returns c = (c.tell_length.ensures ∙ ap told_written c.write.ensures.0, c.write.ensures.1)
