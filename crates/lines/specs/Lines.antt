@@ -3,7 +3,7 @@ use Rattle.std.specs.Prelude.{◌≡◌, Bool, not, ◌∷◌, ℕ, ◌+◌, ◌
 use Rattle.page.specs.Bytes.{Bytes, pick}
 use Rattle.page.specs.Lines.{lines}
 use Rattle.page.proofs.LineLaws.{line_size}
-use Rattle.lines.specs.declared.cursor.Line.{Line as Walked}
+use Rattle.lines.specs.declared.cursor.Walked.{Walked}
 use Rattle.lines.specs.declared.iter.Line.{Line}
 use Rattle.lines.specs.declared.iter.Lines.{Lines}
 

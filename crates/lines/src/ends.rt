@@ -12,7 +12,7 @@ fn skip_blocks(s: &[u8], at: usize) -> usize
 {
     let n = s.len();
     let mut i = at;
-    // No `for`: where the steps of sixteen stop is what is looked for.
+    // No `for`: the walk goes on only while sixteen bytes are left.
     while 16 <= n - i {
         if !pass_block(&Open, s, i) {
             return i;
