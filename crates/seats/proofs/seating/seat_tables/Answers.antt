@@ -10,11 +10,6 @@ loop-section-init c =
     let e : c.into_iter-section-iterator.result ≡ k.result = search rules in
     rw e (k.ensures.bytes, going_first s _ k.ensures.at _ refl _ refl (none_taken TABLES), stating_none s _)
 
-pub table_at-table-requires : goal.table_at-table-requires
-table_at-table-requires c =
-    let f = rw c.loop-section.invariant.0 at c.in-Some.ensures.steps.1 in
-    omega arith
-
 pub bounds-place-table : goal.bounds-place-table
 bounds-place-table c =
     let f = rw c.loop-section.invariant.0 at c.in-Some.ensures.steps.1 in
@@ -35,11 +30,6 @@ pub returns-then-place-table-ne0 : goal.returns-then-place-table-ne0
 returns-then-place-table-ne0 c =
     let f = rw c.loop-section.invariant.0 at c.in-Some.ensures.steps.1 in
     (going_again _ c.requires _ _ _ _ c.loop-section.invariant.1 _ _ f _ c.table_at-table.ensures c.if-place-table-ne0.true, λ z. omega arith)
-
-pub end-requires : goal.end-requires
-end-requires c =
-    let f = rw c.loop-section.invariant.0 at c.in-Some.ensures.steps.1 in
-    omega arith
 
 pub bounds-seats-count : goal.bounds-seats-count
 bounds-seats-count c =
