@@ -25,7 +25,8 @@ const LITTLE_CROWD: usize = 512;
 
 const LITTLE_DOUBTS: usize = 128;
 
-// What is looked for in a round: lines before line `last` whose hash falls into one of the lanes, by the fields of a choice.
+// What is looked for in a round: lines before line `last` whose hash falls into one of the lanes, by the fields of a choice. `last` is also
+// the answer where none is found: `Round` has it so, and the next round looks before what this one answered.
 #[derive(Clone, Copy)]
 pub struct Pass {
     pub choice: Choice,
