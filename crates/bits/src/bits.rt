@@ -42,8 +42,8 @@ fn set_bits(t: &mut [u64], i: usize, m: u64) -> bool
     old & m == m
 }
 
-// Sets the bits m in the two words of a hash. Were they all set? A slice, so that one function serves tables of each size: that it has a
-// word each caller shows.
+// Sets the bits m in the two words of a hash. Were they all set? A slice, so that one function serves tables of each size; each
+// caller shows that it has a word.
 pub fn put_hash(t: &mut [u64], h: u64, m: u64) -> bool
     requires { 0 < length t.old }
     ensures { Added t.old (length t.old) h m result t.new }

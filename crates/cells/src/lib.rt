@@ -25,6 +25,7 @@ fn put_three(cells: &mut [u64], o: usize, kind: u64, a: u64, b: u64) -> usize
 }
 
 // "Each text handed out says whose it is: the operator's, or a suggestion."
+// Beside `told`'s `owner_kind`: that crate is of the exports for C, above this one, and below both stands no crate that numbers an owner.
 fn number_owner(x: Owner) -> u64
     ensures { result ≡ owner_cell x }
 {

@@ -18,8 +18,8 @@ enum Kind {
     Text,
 }
 
-// A digit a place, from the left the lowest first, in one word each: a loop over records shifts it field by field and reads no memory. Of base 4 in kinds: what the key takes of the field. Of base 8 in slots: which of the
-// key's numbers it is, by column.
+// A digit a place, from the left the lowest first, in one word each: a loop over records shifts it field by field and reads no memory. Of
+// base 4 in kinds: what the key takes of the field. Of base 8 in slots: which of the key's numbers it is, by column.
 #[derive(Clone, Copy)]
 pub struct Choice {
     pub kinds: u64,

@@ -17,7 +17,7 @@ pub fn is_latin_name(f: &[u8]) -> bool
     f == b"\"ISO8859-1\"".as_slice() || f == b"\"ISO-8859-1\"".as_slice()
 }
 
-// The date's form that a `mod` line names: 1 is DD.MM.YYYY, 2 is YYYY/MM/DD, 0 is neither.
+// The date's form that a `mod` line names: 1 is DD.MM.YYYY, 2 is YYYY/MM/DD, 0 is neither: the definition's numbers.
 #[tactic(auto, using(page::proofs::ChainLaws::same_is), unfolding(page::specs::Bytes::bytes, page::specs::Header::form_named))]
 pub fn form_named(f: &[u8]) -> u32
     ensures { result ≡ form_named f.now }

@@ -29,7 +29,7 @@ fn is_mode(f: &[u8]) -> bool
     f == b"free".as_slice() || f == b"aligned".as_slice()
 }
 
-// The date's form that a `mod` line states, or 0 if it breaks a rule.
+// The date's form that a `mod` line states, or 0 if it breaks a rule, as the definition `mod_form` has it.
 #[tactic(auto, unfolding(page::specs::Header::mod_form))]
 pub fn read_mode(w: &[u8]) -> u32
     ensures { result ≡ mod_form (fields w.now) }

@@ -13,7 +13,7 @@ fn cut_out(f: &[u8], at: usize, n: usize) -> &[u8]
     &rest[..n.min(rest.len())]
 }
 
-// What a byte adds to a number, whether or not it is a digit.
+// What a byte adds to a number, whether or not it is a digit: no conversion of the library, which would refuse it.
 fn weigh(b: u8) -> u64
     ensures { (result ≡ b - 48) × (result ≤ 207) }
 {

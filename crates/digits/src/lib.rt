@@ -4,5 +4,5 @@
 mod numbers;
 mod walk;
 
-pub use numbers::{is_digit, read_digits, read_number, widen};
+pub use numbers::{is_digit, read_digits, read_number};
 pub use walk::{Counted, ends_at, number_at, skip_space};

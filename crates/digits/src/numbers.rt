@@ -12,12 +12,6 @@ pub fn is_digit(b: u8) -> bool
     48 <= b && b <= 57
 }
 
-pub fn widen(b: u8) -> u64
-    ensures { result ≡ b }
-{
-    u64::from(b)
-}
-
 pub fn read_digits(ds: &[u8]) -> Option<u64>
     ensures { result ≡ magnitude_of ds.now }
 {

@@ -2,7 +2,7 @@
 use mathlib.Core.Path.{◌≡◌, refl, sym, ◌∙◌}
 use mathlib.Core.Bool.{Bool, true, false}
 use mathlib.Core.List.{[], ◌∷◌, ◌++◌}
-use Prim.Native.Nat.{ℕ, ◌+◌, ◌-◌, ◌<◌, ◌≤◌}
+use Prim.Native.Nat.{ℕ, ◌+◌, ◌-◌, ◌<◌, ◌≤◌, min}
 use native.Mathlib.Numerals.{add-one}
 use native.Mathlib.Omega.{arith}
 use borrow.Author.Tests.{eq-eqb, ne_eqb, ltb-true, ltb-false}
@@ -49,13 +49,12 @@ none_between : (a b k : ℕ) (s : Bytes) → a ≤ b → take (a - b) (drop k s)
 none_between a b k s h = let e : a - b ≡ 0 = omega arith in rw e
 
 -- the end within the file, the beginning before it or not
-module _ (s : Bytes) (place : Span) (to from : ℕ) (t : (to ≤ place.to) × (to ≤ length s) × (to < length s → to ≡ place.to))
-    (f : (from ≤ place.from) × (from ≤ to) × (from < to → from ≡ place.from)) where
+module _ (s : Bytes) (place : Span) (to from : ℕ) (t : to ≡ min place.to (length s)) (f : from ≡ min place.from to) where
   part_to : take (to - place.from) (drop place.from s) ≡ part place s
   part_to = by (ltb to (length s)) refl
     where
       by : (q : Bool) → ltb to (length s) ≡ q → take (to - place.from) (drop place.from s) ≡ part place s
-      by true e = rw (t.2 (ltb-true to (length s) e))
+      by true e = let n : to ≡ place.to = omega (arith, ltb-true to (length s) e) in rw n
       by false e =
           let n : to ≡ length s = omega (arith, ltb-false to (length s) e) in
           rw n (no_more place.to place.from s (omega arith))
@@ -64,7 +63,7 @@ module _ (s : Bytes) (place : Span) (to from : ℕ) (t : (to ≤ place.to) × (t
   part_from = by (ltb from to) refl
     where
       by : (q : Bool) → ltb from to ≡ q → take (to - from) (drop from s) ≡ take (to - place.from) (drop place.from s)
-      by true e = rw (f.2 (ltb-true from to e))
+      by true e = let n : from ≡ place.from = omega (arith, ltb-true from to e) in rw n
       by false e =
           let n = ltb-false from to e in
           none_between to from from s n ∙ sym (none_between to place.from place.from s (omega arith))

@@ -3,7 +3,7 @@ ghost use Rattle.std.specs.Prelude.{false};
 ghost use Rattle.output.specs.Put.{Puts, Wrote};
 ghost use Rattle.doubling.specs.Raw.{undoubled};
 
-use output::{Output, refuse_room};
+use output::{Form, Output, put_whole};
 use page::Refusal;
 
 // Of what stands between its quotes in the file.
@@ -21,20 +21,25 @@ pub fn put_own(out: &mut Output<'_>, raw: &[u8])
     }
 }
 
+// A text that stands between its quotes as `raw`.
+#[derive(Clone, Copy)]
+struct Own<'a> {
+    raw: &'a [u8],
+}
+
+impl Form for Own<'_> {
+    ghost bytes = { λ x. undoubled false x.raw.now };
+
+    ghost ready = { λ _. Unit };
+
+    fn put(&self, out: &mut Output<'_>) {
+        put_own(out, self.raw);
+    }
+}
+
 // The same into the front of `out`, whole or not at all.
 pub fn hand_own(out: &mut [u8], refusal: Refusal, raw: &[u8]) -> Result<usize, Refusal>
     ensures { Wrote refusal (undoubled false raw.now) out.old out.new result }
 {
-    if refusal.number != 0 {
-        return Err(refusal);
-    }
-    let mut measured = Output {
-        room: &mut [],
-        at: 0,
-    };
-    put_own(&mut measured, raw);
-    refuse_room(measured.at, out.len())?;
-    let mut written = Output { room: out, at: 0 };
-    put_own(&mut written, raw);
-    Ok(written.at)
+    put_whole(out, refusal, &Own { raw })
 }

@@ -48,7 +48,7 @@ pub fn put_raw(out: &mut Output<'_>, raw: &[u8])
 pub fn put_raw_part(out: &mut Output<'_>, file: &[u8], place: Span)
     ensures { Puts out.old (raw_text (part place file.now)) out.new }
 {
-    let to = lines::least(place.to, file.len());
-    let from = lines::least(place.from, to);
+    let to = place.to.min(file.len());
+    let from = place.from.min(to);
     put_raw(out, &file[from..to])
 }

@@ -1,5 +1,5 @@
 // The fields of a written record, column by column, each from what is read of it: k counts the columns from 0, and m is the column, from 1,
-// of the mark that waits (0: none).
+// of the mark that waits (0: none, a number as `datum_by` and `fields_form` have it).
 #![tactic(auto)]
 
 ghost use Rattle.std.specs.Prelude.{◌≡◌, ◌&&◌, [], ◌∷◌, ◌+◌, ◌<◌, ◌≤◌, eqb, length};

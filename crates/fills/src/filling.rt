@@ -48,7 +48,7 @@ fn is_fillable(s: &[u8], i: usize, f: usize) -> bool
     }
 }
 
-// v is the value of field f, from 1, of a record of section i.
+// v is the value of field f, from 1, of a record of section i. A number, and 0 for none, as the definition `fill_number` has it.
 pub fn judge_fill(s: &[u8], i: usize, f: usize, v: Value, text: &[u8]) -> u32
     requires { ((find_refusal s.now i).number ≡ 0) × (0 < f) }
     ensures { result ≡ fill_number (column_at (table_index (section_at s.now i).lines) (f - 1)).fillable (empty_value v) (latin_of s.now) text.now }

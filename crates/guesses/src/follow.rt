@@ -28,10 +28,6 @@ pub fn find_near(w: &[u8], at: usize, steps: usize, choice: Choice, key: Key) ->
     None
 }
 
-fn place_of(x: u32) -> usize {
-    (x % 16777216) as usize
-}
-
 // Where one stands among the guesses for a hash.
 pub fn find_guessed(w: &[u8], g: &[u32], h: u64, choice: Choice, key: Key) -> Option<usize>
     ensures { IfSome result (λ _. any (bears choice key.k) (lines w.now) ≡ true) }
@@ -43,7 +39,8 @@ pub fn find_guessed(w: &[u8], g: &[u32], h: u64, choice: Choice, key: Key) -> Op
             return None;
         }
         if x / 16777216 == bits {
-            if let Some(at) = find_near(w, place_of(x), 1, choice, key) {
+            let place = (x % 16777216) as usize;
+            if let Some(at) = find_near(w, place, 1, choice, key) {
                 return Some(at);
             }
         }

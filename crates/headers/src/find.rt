@@ -9,7 +9,7 @@ use commands::Command;
 use lines::lines_of;
 use page::Span;
 
-// The first line of command k: what follows its first `;`.
+// The first line of command k: what follows its first `;`. No Option: `Found` has 0 to 0 where no line has that command.
 pub fn find_line(h: &[u8], k: Command) -> Span
     requires { code k < 16 }
     ensures { Found (code k) h.now result }

@@ -119,6 +119,7 @@ fn judge_rest(w: &[u8], t: usize, o: &[u8; WIDEST], m: u64, j: &Judgement) -> u3
     if marks_empty(w, m) { 15 } else { 0 }
 }
 
+// A number, and 0 for none, as `rec_verdict` of the definitions has it.
 pub fn judge_record(w: &[u8], t: usize, o: &[u8; WIDEST], m: u64) -> u32
     requires { Stands t o.now }
     ensures { result ≡ rec_verdict t (held t o.now) m (fields w.now) }

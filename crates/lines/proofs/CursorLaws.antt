@@ -8,7 +8,7 @@ use mathlib.Core.List.{◌∷◌}
 use Rattle.page.specs.Bytes.{Bytes}
 use Rattle.page.specs.Lines.{lines}
 use Rattle.page.proofs.LineLaws.{line_size, size_end, line_in, cut_at}
-use Rattle.lines.specs.declared.cursor.Line.{Line}
+use Rattle.lines.specs.declared.cursor.Walked.{Walked}
 use Rattle.lines.specs.Lines.{line_at, line_to}
 
 pub line_here : (s : Bytes) (at e : ℕ) → at < length s → e ≡ at + line_size (drop at s) → line_to at e ≡ line_at s at
@@ -20,7 +20,7 @@ unfolding line_at
 line_none s at h = rw (le-ltb at (length s) h, size_end s (length s) (le_refl (length s)), add-zero)
 
 -- the line at a place before the end
-pub record Handed (s : Bytes) (at : ℕ) (r : Line) : Type 0 where
+pub record Handed (s : Bytes) (at : ℕ) (r : Walked) : Type 0 where
   pub from : r.span.from ≡ at
   pub next : r.next.at ≡ r.span.to
   pub some : at < r.span.to
@@ -28,7 +28,7 @@ pub record Handed (s : Bytes) (at : ℕ) (r : Line) : Type 0 where
   pub size : r.span.to ≡ at + line_size (drop at s)
   pub cut : lines (drop at s) ≡ take (r.span.to - at) (drop at s) ∷ lines (drop r.span.to s)
 
-pub handed : (s : Bytes) (at : ℕ) (r : Line) → at < length s → r ≡ line_at s at → Handed s at r
+pub handed : (s : Bytes) (at : ℕ) (r : Walked) → at < length s → r ≡ line_at s at → Handed s at r
 handed s at r h q =
     let e = at + line_size (drop at s) in
     let x : r ≡ line_to at e = q ∙ sym (line_here s at e h refl) in

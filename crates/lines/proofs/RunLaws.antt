@@ -2,16 +2,17 @@
 use mathlib.Core.Path.{◌≡◌, refl, ap, sym, ◌∙◌}
 use mathlib.Core.Bool.{Bool, true, false, ◌&&◌, and-true}
 use mathlib.Core.List.{[], ◌∷◌, ◌++◌}
-use Prim.Native.Nat.{ℕ, zero, suc, ◌+◌, ◌-◌, ◌≤◌}
+use Prim.Native.Nat.{ℕ, zero, suc, ◌+◌, ◌-◌, ◌≤◌, min}
 use native.Mathlib.Omega.{arith}
-use borrow.Author.Tests.{not-true, eqb-false}
+use borrow.Author.Tests.{not-true, eqb-true, eqb-false}
 use lib.Dec.{eqb}
 use lib.ListN.{length, take, drop, get_or, length-drop}
 use lib.Seq.{take-add, take_all, drop-cons, drop-drop}
-use Rattle.page.specs.Bytes.{Bytes, all}
+use Rattle.page.specs.Bytes.{Bytes, pick, until, all}
+use Rattle.page.specs.Lines.{lines}
 use Rattle.page.proofs.TestLaws.{and_left, and_right}
-use Rattle.page.proofs.LineLaws.{line_size, size_more}
-use Rattle.lines.specs.Lines.{no_lf, Onward}
+use Rattle.page.proofs.LineLaws.{line_size, size_more, size_hit}
+use Rattle.lines.specs.Lines.{lf, no_lf, Onward}
 
 in_four : (a b c d : Bool) → a && (b && (c && d)) ≡ ((a && b) && c) && d
 in_four true true true d = refl
@@ -112,3 +113,22 @@ onward_more s at i n o h e =
     let l : n ≤ length (drop i s) = omega (arith, length-drop i s) in
     let r : line_size (drop i s) ≡ n + line_size (drop (i + n) s) = run_on n (drop i s) l e ∙ ap (λ (w : Bytes). n + line_size w) (drop-drop n i s) in
     record { within = h; size = o.size ∙ omega arith }
+
+-- to after its first LF
+
+size_until : (w : Bytes) → line_size w ≡ min (length w) (until lf w + 1)
+unfolding line_size lines until
+size_until [] = refl
+size_until (b ∷ w) = by (lf b) refl (size_until w)
+  where
+    by : (q : Bool) → lf b ≡ q → line_size w ≡ min (length w) (until lf w + 1)
+        → line_size (b ∷ w) ≡ min (suc (length w)) (pick q 0 (suc (until lf w)) + 1)
+    by true e h = size_hit (b ∷ w) 0 (omega arith) (eqb-true b 10 e) ∙ omega arith
+    by false e h = size_more (b ∷ w) 0 (omega arith) (eqb-false b 10 e) ∙ omega (arith, h)
+
+pub until_size : (s : Bytes) (at from n : ℕ) → Onward s at from → n ≡ until lf (take (length s - from) (drop from s))
+    → min (length s) (from + n + 1) ≡ at + line_size (drop at s)
+until_size s at from n o e =
+    let long = length-drop from s in
+    let w = take_all (length s - from) (drop from s) (omega (arith, long)) in
+    omega (arith, o.within, o.size, size_until (drop from s), long, rw w at e)

@@ -3,7 +3,7 @@ use Rattle.std.specs.Prelude.{◌≡◌, Bool, not, ◌∷◌, ℕ, ◌+◌, ◌
 use Rattle.page.specs.Bytes.{Bytes, pick}
 use Rattle.page.specs.Lines.{lines}
 use Rattle.page.proofs.LineLaws.{line_size}
-use Rattle.lines.specs.declared.cursor.Line.{Line as Walked}
+use Rattle.lines.specs.declared.cursor.Walked.{Walked}
 use Rattle.lines.specs.declared.iter.Line.{Line}
 use Rattle.lines.specs.declared.iter.Lines.{Lines}
 
@@ -18,8 +18,11 @@ line_to at e = record { span = record { from = at; to = e }; next = record { at 
 unfoldable pub line_at : Bytes → ℕ → Walked
 line_at s at = line_to (within s at) (within s at + line_size (drop (within s at) s))
 
+abbrev pub lf : ℕ → Bool
+lf b = eqb b 10
+
 abbrev pub no_lf : ℕ → Bool
-no_lf b = not (eqb b 10)
+no_lf b = not (lf b)
 
 -- a place in the line at another place, with no end between them
 pub record Onward (s : Bytes) (at r : ℕ) : Type 0 where

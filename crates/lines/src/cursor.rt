@@ -13,26 +13,26 @@ pub struct Cursor {
 
 // A whole line, and the cursor behind it.
 #[derive(Clone, Copy)]
-pub struct Line {
+pub struct Walked {
     pub span: Span,
     pub next: Cursor,
 }
 
 impl Cursor {
     // The line at a cursor; nothing at the end, and past it.
-    pub fn line(self, s: &[u8]) -> Line
+    pub fn line(self, s: &[u8]) -> Walked
         ensures { result ≡ line_at s.now self.at }
     {
         let at = self.at;
         let n = s.len();
         if at < n {
             let e = line_end(s, at);
-            return Line {
+            return Walked {
                 span: Span { from: at, to: e },
                 next: Cursor { at: e },
             };
         }
-        Line {
+        Walked {
             span: Span { from: n, to: n },
             next: Cursor { at: n },
         }

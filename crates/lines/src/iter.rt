@@ -36,7 +36,7 @@ pub fn lines_of(s: &[u8]) -> Lines<'_>
     lines_from(s, 0)
 }
 
-// Of the lines from a line's place on; places are counted in the whole.
+// From the line at a place on; places are counted in the whole.
 pub fn lines_from(s: &[u8], at: usize) -> Lines<'_>
     ensures bytes { result.bytes.now ≡ s.now }
     ensures at { result.at ≡ at }

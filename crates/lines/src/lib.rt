@@ -13,4 +13,4 @@ pub use content::{
 };
 pub use cursor::Cursor;
 pub use iter::{Line, Lines, lines_from, lines_of};
-pub use scan::{equal, kept, least, one_less, trim_in, trimmed, unpadded};
+pub use scan::{equal, kept, trim_in, trimmed, unpadded};

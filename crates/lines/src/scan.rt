@@ -1,5 +1,5 @@
 // Scans over bytes.
-ghost use Rattle.std.specs.Prelude.{◌≡◌, ◌-◌, ◌<◌, ◌≤◌, length, take, drop};
+ghost use Rattle.std.specs.Prelude.{◌≡◌, ◌-◌, ◌≤◌, length, take, drop};
 ghost use Rattle.page.specs.Bytes.{same, until, keep, space, no_space, moved, trim_of, trim, unpadded};
 
 use page::Span;
@@ -61,17 +61,4 @@ pub fn trim_in(s: &[u8], from: usize, to: usize) -> Span
         from: from + part.from,
         to: from + part.to,
     }
-}
-
-pub fn one_less(n: usize) -> usize
-    ensures { result ≡ n - 1 }
-{
-    n.saturating_sub(1)
-}
-
-// The less of two.
-pub fn least(a: usize, b: usize) -> usize
-    ensures { (result ≤ a) × (result ≤ b) × (result < b → result ≡ a) }
-{
-    a.min(b)
 }

@@ -39,11 +39,8 @@ fn print_row<W: Write>(out: &mut W, i: usize, row: Row) -> io::Result<()> {
 fn print_sections<W: Write>(out: &mut W, s: &[u8]) -> io::Result<()> {
     let latin = headers::read_charset(s);
     let mut i: usize = 1;
-    let mut at = cut::find_section(s, 0);
-    while at < s.len() {
-        print_row(out, i, sections::read_section(s, at, latin))?;
-        let e = cut::section_end(s, at);
-        at = cut::find_section(s, e);
+    for section in cut::sections_of(s) {
+        print_row(out, i, sections::read_section(s, section.at, latin))?;
         i += 1;
     }
     Ok(())

@@ -13,7 +13,7 @@ use frames::put_mark;
 use output::Output;
 use tables::{find_width, is_text};
 
-// Is the text of a column marked in what is written?
+// Is the text of a column marked in what is written? `m` is the column of the mark that waits, from 1, or 0: `marked_by` has the number.
 #[tactic(auto, unfolding(copies::specs::Parts::marked_by))]
 fn is_marked(t: usize, k: usize, m: u64, plan: Plan<'_>) -> bool
     requires { k < 65536 }

@@ -3,7 +3,9 @@
 #![tactic(auto)]
 
 mod bytes;
+mod handed;
 mod room;
 
 pub use bytes::Output;
+pub use handed::{Form, put_whole};
 pub use room::refuse_room;

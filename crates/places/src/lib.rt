@@ -10,7 +10,8 @@ ghost use Rattle.places.specs.Placed.{Placed};
 
 use lines::lines_from;
 
-// A record's fields: what stands after its line's first `;`, and the field of the mark that waits for it (0: none).
+// A record's fields: what stands after its line's first `;`, and the field of the mark that waits for it (0: none). 0 to 0 is no record:
+// `Placed` has it so, of what `record_at` answers.
 #[derive(Clone, Copy)]
 pub struct Place {
     pub from: usize,

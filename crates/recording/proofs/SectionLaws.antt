@@ -26,7 +26,7 @@ use Rattle.page.proofs.TestLaws.{and_left, and_right}
 use Rattle.arrangement.specs.Orders.{held}
 use Rattle.names.specs.Told.{Told}
 use Rattle.names.proofs.ToldLaws.{told_order}
-use Rattle.cut.specs.Walk.{section_size, section_from}
+use Rattle.cut.specs.Walk.{section_from}
 use Rattle.frames.specs.Lines.{line_with}
 use Rattle.frames.proofs.LineLaws.{line_with_is}
 use Rattle.names.proofs.TitleLaws.{table_from}
@@ -175,10 +175,6 @@ module _ (p : Plan) (ls : List Bytes) where
 
 pub tables_begin : (p : Plan) (ys zs : List Section) → zs ≡ ys → tables_by p 0 (map said_in ys) ≡ tables_by p 0 (map said_in zs)
 tables_begin p ys zs e = rw e
-
-pub lines_from : (s : Bytes) (a e : ℕ) → e ≡ a + section_size (drop a s) → (section_from s a).lines ≡ lines (take (e - a) (drop a s))
-unfolding section_from
-lines_from s a e q = let k : section_size (drop a s) ≡ e - a = omega arith in rw k
 
 content_alike : (c : Content) (strip : Bool) (f g : ℕ) (t u : Bytes) → changed_content strip 0 f t c ≡ changed_content strip 0 g u c
 unfolding changed_content

@@ -71,8 +71,8 @@ fn put_values(
     }
 }
 
-// A record that passed its rules, its fields in the order o, with the field of the mark that waits for it (0: none). `listed`: the order
-// is known to be document 01's own.
+// A record that passed its rules, its fields in the order o, with the field of the mark that waits for it (0: none, a number as
+// `rec_verdict` has it). `listed`: the order is known to be document 01's own.
 pub fn put_record(
     out: &mut Output<'_>,
     w: &[u8],

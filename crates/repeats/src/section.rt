@@ -16,7 +16,7 @@ pub fn find_repeat(w: &[u8], choice: Choice) -> Option<usize>
     for lane in 0..lanes {
         let pass = Pass {
             choice,
-            lane,
+            lane: u64::from(lane),
             lanes,
             last,
         };

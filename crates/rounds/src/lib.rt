@@ -25,11 +25,12 @@ const LITTLE_CROWD: usize = 512;
 
 const LITTLE_DOUBTS: usize = 128;
 
-// What is looked for in a round: lines before line `last` whose hash falls into one of the lanes, by the fields of a choice.
+// What is looked for in a round: lines before line `last` whose hash falls into one of the lanes, by the fields of a choice. `last` is also
+// the answer where none is found: `Round` has it so, and the next round looks before what this one answered.
 #[derive(Clone, Copy)]
 pub struct Pass {
     pub choice: Choice,
-    pub lane: u32,
+    pub lane: u64,
     pub lanes: u32,
     pub last: usize,
 }
@@ -46,9 +47,7 @@ fn put_in_round(line: &[u8], h: u64, pass: Pass, t: &mut [u64]) -> bool
     requires { 0 < length t.old }
     ensures { Sieved ((lane_of h pass.lanes ≡ pass.lane) × (is_record line.now ≡ true)) (length t.old) h (two_of h) t.old result t.new }
 {
-    find_lane(h, pass.lanes) == u64::from(pass.lane)
-        && is_record(line)
-        && put_hash(t, h, choose_two(h))
+    find_lane(h, pass.lanes) == pass.lane && is_record(line) && put_hash(t, h, choose_two(h))
 }
 
 // A record of the round whose bits were all set is put among the doubtful ones. Was it?

@@ -61,7 +61,7 @@ fn is_mixed(ns: &[u64; WIDEST], c: usize, x: usize) -> bool
     }
 }
 
-// The number of the rule of its table that a record breaks, 0 if none.
+// The number of the rule of its table that a record breaks, and 0 for none, as the definition `broken_by` has it.
 pub fn judge_rules(ns: &[u64; WIDEST], t: usize) -> u32
     ensures { result ≡ broken_by (rules t) ns.now }
 {

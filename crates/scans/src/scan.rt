@@ -70,8 +70,8 @@ pub fn is_again(before: &[u8], line: &[u8], choice: Choice) -> bool
     }
 }
 
-// The largest key up to a line, if the line's own lies above the largest one before it: such a key is new without a search. A line that is no
-// record does not fall. Of one that does, its key.
+// Ok: the largest key up to a line that does not fall, as one that is no record does not. Err: the key of one that does. A key above the
+// largest before it is new without a search.
 pub fn find_rise(line: &[u8], choice: Choice, top: Key) -> Result<Key, Key>
     ensures { MatchResult result (λ k. (rises choice top.k line.now ≡ true) × (k.k ≡ raised choice top.k line.now))
         (λ k. (rises choice top.k line.now ≡ false) × (k.k ≡ raised choice top.k line.now)) }

@@ -11,6 +11,7 @@ use lib.Dec.{eqb}
 use lib.ListN.{length, get_or, take, drop, set, length-set, length-map, replicate, get_or-map}
 use lib.Seq.{drop-cons, drop-length, get_or-set_same, get_or-set_other, get_or-take, length-take-le}
 use Rattle.page.specs.Bytes.{Bytes, pick}
+use Rattle.page.specs.Lines.{lines}
 use Rattle.page.specs.Fields.{fields}
 use Rattle.page.specs.Tables.{TABLES, number_at}
 use Rattle.page.specs.Cut.{Section, sections}
@@ -24,7 +25,8 @@ use Rattle.page.proofs.TableLaws.{number_injective}
 use Rattle.page.proofs.CutLaws.{no_section, sections_from, sections_all, sections_end}
 use Rattle.names.specs.Told.{Told}
 use Rattle.cut.specs.Walk.{section_size, section_from, Settled, Next}
-use Rattle.cut.proofs.WalkLaws.{section_within}
+use Rattle.cut.specs.Sections.{SectionAt}
+use Rattle.cut.specs.declared.sections.Section.{Section as Found}
 use Rattle.seats.specs.declared.seating.Seat.{Seat}
 use Rattle.seats.specs.Seating.{no_seat, seat_lines, Sits, Seated, Stating, Ready}
 use Rattle.seats.proofs.WalkLaws.{sound_here, Among, among}
@@ -214,16 +216,19 @@ module _ (s : Bytes) (v : first_unsound 1 (rows_of s) ≡ sound) where
     fresh : Fresh (row_of (latin_of s) no_section) (rows_of s) n
     fresh m h j k e = let z : m ≡ j = seats_apart m j h (omega arith) (same_table m j (omega arith) (omega arith) e) in omega arith
 
-  -- a section at a place, of table t, up to e
-  module _ (n at : ℕ) (seats : List Seat) (place : List ℕ) (g : Going s n at seats place) (h : at < length s)
-      (t : ℕ) (q : t ≡ table_index (section_from s at).lines) (e : ℕ) (x : e ≡ at + section_size (drop at s)) where
+  -- the section that the walk has come to, of table t
+  module _ (n at : ℕ) (seats : List Seat) (place : List ℕ) (g : Going s n at seats place) (x : Found) (r : ℕ) (f : SectionAt s at x r)
+      (t : ℕ) (q : t ≡ table_index (section_from s x.at).lines) where
     here : Among s at n
-    here = among s at h g.settled n g.rest
+    here = among s at f.before g.settled n g.rest
+
+    is_table : t ≡ table_index (section_from s at).lines
+    is_table = rw f.at at q
 
     pub table_known : t < TABLES
     table_known =
         let k = (sound_here s v n here.within).known in
-        let y : t ≡ table_index (get_or (sections s) n no_section).lines = q ∙ ap (λ (a : Section). table_index a.lines) (sym here.is) in
+        let y : t ≡ table_index (get_or (sections s) n no_section).lines = is_table ∙ ap (λ (a : Section). table_index a.lines) (sym here.is) in
         omega arith
 
     -- its table stands before
@@ -236,78 +241,84 @@ module _ (s : Bytes) (v : first_unsound 1 (rows_of s) ≡ sound) where
             let w = g.seated.taken t k y in
             let i = here.within in
             let a : table_index (get_or (sections s) n no_section).lines ≡ table_index (get_or (sections s) k no_section).lines =
-            ap (λ (a : Section). table_index a.lines) here.is ∙ sym q ∙ sym w.1 ∙ (g.seated.sits k w.0).table in
+            ap (λ (a : Section). table_index a.lines) here.is ∙ sym is_table ∙ sym w.1 ∙ (g.seated.sits k w.0).table in
             again_at (row_of (latin_of s) no_section) (rows_of s) n (omega (arith, rows_long)) (fresh n seats place g.passed g.seated) k w.0
             (row_table n i ∙ ap number_at a ∙ sym (row_table k (omega arith)))
-
-    sits_here : (o : List ℕ) → Sits s (get_or (sections s) n no_section) (record { table = t; from = at; to = e; order = o })
-    unfolding section_from
-    sits_here o =
-        let i = section_within s at h in
-        let k : section_size (drop at s) ≡ e - at = omega arith in
-        rw here.is (record { low = omega arith; high = omega arith; lines = rw k; table = q; known = table_known })
 
     pub seat_room : get_or place t 0 ≡ 0 → n < TABLES
     seat_room z = omega (arith, filled_room place t (omega (arith, g.wide, table_known)) z, g.many, g.wide)
 
-    module _ (z : get_or place t 0 ≡ 0) (o : List ℕ) where
-      other_table : (i : ℕ) → i < n → (get_or seats i no_seat).table ≡ t → ⊥
-      other_table i l y = let w : ◌≡◌ {A = ℕ} (suc i) 0 = sym (g.seated.placed i l) ∙ ap (λ (u : ℕ). get_or place u 0) y ∙ z in omega arith
+    -- its seat goes up to e
+    module _ (e : ℕ) (d : e ≡ x.at + length x.bytes.now) where
+      size_is : e - at ≡ section_size (drop at s)
+      size_is = omega (arith, f.at, f.size)
 
-      seats_old : (i : ℕ) → i < n → get_or (set seats n (record { table = t; from = at; to = e; order = o })) i no_seat ≡ get_or seats i no_seat
-      seats_old i l = get_or-set_other seats n i (record { table = t; from = at; to = e; order = o }) no_seat (λ y. omega arith)
+      pub told_here : (o : List ℕ) → Told t (fields (atr_in (lines x.bytes.now))) o → Told t (fields (atr_in (lines (take (e - x.at) (drop x.at s))))) o
+      told_here o a = rw (f.at, size_is, sym f.bytes) a
 
-      seats_new : get_or (set seats n (record { table = t; from = at; to = e; order = o })) n no_seat ≡ record { table = t; from = at; to = e; order = o }
-      seats_new = get_or-set_same seats n (record { table = t; from = at; to = e; order = o }) no_seat (omega (arith, seat_room z, g.long))
+      sits_here : (o : List ℕ) → Sits s (get_or (sections s) n no_section) (record { table = t; from = x.at; to = e; order = o })
+      unfolding section_from
+      sits_here o =
+          rw (here.is, f.at) (record { low = omega (arith, f.at); high = omega (arith, f.at, f.within); lines = rw size_is; table = is_table; known = table_known })
 
-      place_new : get_or (set place t (n + 1)) t 0 ≡ suc n
-      place_new = get_or-set_same place t (n + 1) 0 (omega (arith, table_known, g.wide)) ∙ add-one n
+      module _ (z : get_or place t 0 ≡ 0) (o : List ℕ) where
+        other_table : (i : ℕ) → i < n → (get_or seats i no_seat).table ≡ t → ⊥
+        other_table i l y = let w : ◌≡◌ {A = ℕ} (suc i) 0 = sym (g.seated.placed i l) ∙ ap (λ (u : ℕ). get_or place u 0) y ∙ z in omega arith
 
-      more_sits : (i : ℕ) → i < n + 1 → Sits s (get_or (sections s) i no_section) (get_or (set seats n (record { table = t; from = at; to = e; order = o })) i no_seat)
-      more_sits i l = by (eqb i n) refl
-        where
-          by : (b : Bool) → eqb i n ≡ b → Sits s (get_or (sections s) i no_section) (get_or (set seats n (record { table = t; from = at; to = e; order = o })) i no_seat)
-          by true y = let w : i ≡ n = eqb-true i n y in rw (w, seats_new) (sits_here o)
-          by false y = let w = eqb-false i n y in let k : i < n = omega arith in rw (seats_old i k) (g.seated.sits i k)
+        seats_old : (i : ℕ) → i < n → get_or (set seats n (record { table = t; from = x.at; to = e; order = o })) i no_seat ≡ get_or seats i no_seat
+        seats_old i l = get_or-set_other seats n i (record { table = t; from = x.at; to = e; order = o }) no_seat (λ y. omega arith)
 
-      more_placed : (i : ℕ) → i < n + 1 → get_or (set place t (n + 1)) (get_or (set seats n (record { table = t; from = at; to = e; order = o })) i no_seat).table 0 ≡ suc i
-      more_placed i l = by (eqb i n) refl
-        where
-          by : (b : Bool) → eqb i n ≡ b → get_or (set place t (n + 1)) (get_or (set seats n (record { table = t; from = at; to = e; order = o })) i no_seat).table 0 ≡ suc i
-          by true y = let w : i ≡ n = eqb-true i n y in rw (w, seats_new) place_new
-          by false y =
-              let w = eqb-false i n y in
-              let k : i < n = omega arith in
-              rw (seats_old i k) (get_or-set_other place t (get_or seats i no_seat).table (n + 1) 0 (other_table i k) ∙ g.seated.placed i k)
+        seats_new : get_or (set seats n (record { table = t; from = x.at; to = e; order = o })) n no_seat ≡ record { table = t; from = x.at; to = e; order = o }
+        seats_new = get_or-set_same seats n (record { table = t; from = x.at; to = e; order = o }) no_seat (omega (arith, seat_room z, g.long))
 
-      more_taken : (u k : ℕ) → get_or (set place t (n + 1)) u 0 ≡ suc k → (k < n + 1) × ((get_or (set seats n (record { table = t; from = at; to = e; order = o })) k no_seat).table ≡ u)
-      more_taken u k y = by (eqb u t) refl
-        where
-          by : (b : Bool) → eqb u t ≡ b → (k < n + 1) × ((get_or (set seats n (record { table = t; from = at; to = e; order = o })) k no_seat).table ≡ u)
-          by true a =
-              let w : u ≡ t = eqb-true u t a in
-              let m : suc n ≡ suc k = sym place_new ∙ rw w at y in
-              let i : k ≡ n = omega arith in
-              (omega arith, rw (i, seats_new) (sym w))
-          by false a =
-              let w = eqb-false u t a in
-              let m : get_or place u 0 ≡ suc k = sym (get_or-set_other place t u (n + 1) 0 w) ∙ y in
-              let o = g.seated.taken u k m in
-              (omega (arith, o.0), rw (seats_old k o.0) o.1)
+        place_new : get_or (set place t (n + 1)) t 0 ≡ suc n
+        place_new = get_or-set_same place t (n + 1) 0 (omega (arith, table_known, g.wide)) ∙ add-one n
 
-      pub going_more : (next : ℕ) → Next s e next → Going s (n + 1) next (set seats n (record { table = t; from = at; to = e; order = o })) (set place t (n + 1))
-      going_more next y =
-          let m : n + 1 ≡ suc n = omega arith in
-          record {
-            within = y.within;
-            settled = y.settled;
-            rest = y.same ∙ ap (sections_from s) x ∙ here.rest;
-            passed = omega (arith, here.within);
-            long = length-set seats n (record { table = t; from = at; to = e; order = o }) ∙ g.long;
-            wide = length-set place t (n + 1) ∙ g.wide;
-            many = rw m (filled_set place t n (omega (arith, table_known, g.wide)) z ∙ ap suc g.many);
-            seated = record { sits = more_sits; placed = more_placed; taken = more_taken };
-          }
+        more_sits : (i : ℕ) → i < n + 1 → Sits s (get_or (sections s) i no_section) (get_or (set seats n (record { table = t; from = x.at; to = e; order = o })) i no_seat)
+        more_sits i l = by (eqb i n) refl
+          where
+            by : (b : Bool) → eqb i n ≡ b → Sits s (get_or (sections s) i no_section) (get_or (set seats n (record { table = t; from = x.at; to = e; order = o })) i no_seat)
+            by true y = let w : i ≡ n = eqb-true i n y in rw (w, seats_new) (sits_here o)
+            by false y = let w = eqb-false i n y in let k : i < n = omega arith in rw (seats_old i k) (g.seated.sits i k)
+
+        more_placed : (i : ℕ) → i < n + 1 → get_or (set place t (n + 1)) (get_or (set seats n (record { table = t; from = x.at; to = e; order = o })) i no_seat).table 0 ≡ suc i
+        more_placed i l = by (eqb i n) refl
+          where
+            by : (b : Bool) → eqb i n ≡ b → get_or (set place t (n + 1)) (get_or (set seats n (record { table = t; from = x.at; to = e; order = o })) i no_seat).table 0 ≡ suc i
+            by true y = let w : i ≡ n = eqb-true i n y in rw (w, seats_new) place_new
+            by false y =
+                let w = eqb-false i n y in
+                let k : i < n = omega arith in
+                rw (seats_old i k) (get_or-set_other place t (get_or seats i no_seat).table (n + 1) 0 (other_table i k) ∙ g.seated.placed i k)
+
+        more_taken : (u k : ℕ) → get_or (set place t (n + 1)) u 0 ≡ suc k → (k < n + 1) × ((get_or (set seats n (record { table = t; from = x.at; to = e; order = o })) k no_seat).table ≡ u)
+        more_taken u k y = by (eqb u t) refl
+          where
+            by : (b : Bool) → eqb u t ≡ b → (k < n + 1) × ((get_or (set seats n (record { table = t; from = x.at; to = e; order = o })) k no_seat).table ≡ u)
+            by true a =
+                let w : u ≡ t = eqb-true u t a in
+                let m : suc n ≡ suc k = sym place_new ∙ rw w at y in
+                let i : k ≡ n = omega arith in
+                (omega arith, rw (i, seats_new) (sym w))
+            by false a =
+                let w = eqb-false u t a in
+                let m : get_or place u 0 ≡ suc k = sym (get_or-set_other place t u (n + 1) 0 w) ∙ y in
+                let o = g.seated.taken u k m in
+                (omega (arith, o.0), rw (seats_old k o.0) o.1)
+
+        pub going_more : Going s (n + 1) r (set seats n (record { table = t; from = x.at; to = e; order = o })) (set place t (n + 1))
+        going_more =
+            let m : n + 1 ≡ suc n = omega arith in
+            record {
+              within = f.next.within;
+              settled = f.next.settled;
+              rest = f.next.same ∙ here.rest;
+              passed = omega (arith, here.within);
+              long = length-set seats n (record { table = t; from = x.at; to = e; order = o }) ∙ g.long;
+              wide = length-set place t (n + 1) ∙ g.wide;
+              many = rw m (filled_set place t n (omega (arith, table_known, g.wide)) z ∙ ap suc g.many);
+              seated = record { sits = more_sits; placed = more_placed; taken = more_taken };
+            }
 
   -- all have their seats
   pub going_end : (n at : ℕ) (seats : List Seat) (place : List ℕ) → Going s n at seats place → Stating s n seats → length s ≤ at

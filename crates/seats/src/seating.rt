@@ -60,12 +60,8 @@ pub fn seat_tables(s: &[u8]) -> Result<Seats, Refusal>
     }; TABLES];
     let mut place = [0; TABLES];
     let mut count = 0;
-    let mut at = cut::find_section(s, 0);
-    while at < s.len() {
-        let from = at;
-        let to = cut::section_end(s, from);
-        let table = names::table_at(s, from);
-        at = cut::find_section(s, to);
+    for section in cut::sections_of(s) {
+        let table = names::table_at(s, section.at);
         if place[table] != 0 {
             return Err(Refusal {
                 number: 17,
@@ -73,11 +69,11 @@ pub fn seat_tables(s: &[u8]) -> Result<Seats, Refusal>
                 line: 1,
             });
         }
-        let order = names::find_order(&s[from..to], table);
+        let order = names::find_order(section.bytes, table);
         seats[count] = Seat {
             table,
-            from,
-            to,
+            from: section.at,
+            to: section.end(),
             order,
         };
         count += 1;

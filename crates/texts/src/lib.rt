@@ -12,13 +12,7 @@ use page::{Copied, Owner, Refusal, Text, Value};
 fn tell_owner(w: Result<usize, Refusal>, owner: Owner) -> Result<Copied, Refusal>
     ensures { result ≡ owned owner w }
 {
-    match w {
-        Ok(n) => Ok(Copied {
-            length: n,
-            owner: owner,
-        }),
-        Err(x) => Err(x),
-    }
+    w.map(|length| Copied { length, owner })
 }
 
 // "not a text": a number, missing or not.

@@ -166,6 +166,7 @@ impl From<Result<usize, Refusal>> for LengthAnswer {
     }
 }
 
+// Beside `cells`' `number_owner`, which answers a u64 of its own: this crate is of the exports for C, and no crate asks it but `vdv`.
 fn owner_kind(x: Owner) -> u32
     ensures { result ≡ owner_cell x }
 {

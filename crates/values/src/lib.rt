@@ -84,7 +84,7 @@ pub fn value_in(w: &[u8], at: usize, m: u64, t: usize, o: &[u8; WIDEST], f: usiz
     requires { Orderly o.now × (f ≤ WIDEST) × (at + length w.now ≤ limit) }
     ensures { result ≡ value_in t (held t o.now) (record { at = at; rest = w.now; mark = m }) f }
 {
-    let c = lines::one_less(f);
+    let c = f.saturating_sub(1);
     let p = find_place(o, t, c);
     read_value(w, at, m, p, find_start(w, p), find_column(t, c))
 }

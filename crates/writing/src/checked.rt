@@ -9,10 +9,27 @@ ghost use Rattle.copies.specs.Changed.{changed_model};
 
 use crate::file::put_form;
 use copies::{Change, Fill, Plan};
-use output::{Output, refuse_room};
+use output::{Form, Output, put_whole};
 use page::{LineEnd, Refusal, Stays};
 
-// The changed form at the front of `out`, unless something refuses it: the measuring pass is the writing pass with nothing lent.
+// What a file says, written by a plan.
+#[derive(Clone, Copy)]
+struct Planned<'a> {
+    s: &'a [u8],
+    plan: Plan<'a>,
+}
+
+impl Form for Planned<'_> {
+    ghost bytes = { λ x. form_of x.plan.ends (changed_model x.plan (model_of x.s.now)) };
+
+    ghost ready = { λ x. (file_refusal x.s.now).number ≡ 0 };
+
+    fn put(&self, out: &mut Output<'_>) {
+        put_form(out, self.s, self.plan);
+    }
+}
+
+// The changed form at the front of `out`, unless something refuses it.
 fn hand_form(
     out: &mut [u8],
     refusal: Refusal,
@@ -24,23 +41,12 @@ fn hand_form(
         (form_of LineEnd.Lf (changed_model (record { ends = LineEnd.Lf; stays = Stays.All; change = change.entry }) (model_of s.now)))
         out.old out.new result }
 {
-    if refusal.number != 0 {
-        return Err(refusal);
-    }
     let plan = Plan {
         ends: LineEnd::Lf,
         stays: Stays::All,
         change,
     };
-    let mut measured = Output {
-        room: &mut [],
-        at: 0,
-    };
-    put_form(&mut measured, s, plan);
-    refuse_room(measured.at, out.len())?;
-    let mut written = Output { room: out, at: 0 };
-    put_form(&mut written, s, plan);
-    Ok(written.at)
+    put_whole(out, refusal, &Planned { s, plan })
 }
 
 // "Only a file with verdict 0 is written; else its verdict is given."

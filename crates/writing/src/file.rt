@@ -20,12 +20,9 @@ fn put_sections(out: &mut Output<'_>, s: &[u8], plan: Plan<'_>) -> usize
     ensures form { Puts out.old (tables_by plan.entry 0 (map said_in (sections s.now))) out.new }
     ensures count { result ≡ length (sections s.now) }
 {
-    let mut a = cut::find_section(s, 0);
     let mut n = 0;
-    while a < s.len() {
-        let e = cut::section_end(s, a);
-        put_section(out, &s[a..e], plan_section(plan, n));
-        a = cut::find_section(s, e);
+    for section in cut::sections_of(s) {
+        put_section(out, section.bytes, plan_section(plan, n));
         n += 1;
     }
     n

@@ -1,8 +1,7 @@
-use Rattle.std.proofs.Common.{◌+◌, ◌-◌, ◌≤◌, length}
+use Rattle.std.proofs.Common.{◌≡◌, ◌+◌, ◌≤◌, length}
 use Rattle.listing.proofs.print_sections.Given as goal
 
-abbrev pub invariant-loop-at : goal.invariant-loop-at
-invariant-loop-at g l = (l.at ≤ length l.s) × (l.i ≤ l.at + 1)
-
-abbrev pub decreases-loop-at : goal.decreases-loop-at
-decreases-loop-at g l = length l.s - l.at
+abbrev pub invariant-loop-section : goal.invariant-loop-section
+invariant-loop-section g l =
+    let at = l.section-iterator.at in
+    (l.section-iterator.bytes.now ≡ l.s) × (at ≤ length l.s) × (l.i ≤ at + 1)

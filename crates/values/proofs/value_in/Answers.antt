@@ -18,7 +18,7 @@ read_value-requires c =
 pub returns : goal.returns
 returns c =
     let a = c.args in
-    let n = c.one_less-c in
+    let n = c.saturating_sub-c in
     let p = c.find_place-p in
     let d = c.find_column in
     c.read_value.ensures

@@ -8,5 +8,5 @@ pub returns : goal.returns
 returns c =
     let a = c.args in
     put_as
-    (ap raw_text (part_same a.file.now a.place c.least-to.result c.least-from.result c.least-to.ensures c.least-from.ensures))
+    (ap raw_text (part_same a.file.now a.place c.min-to.result c.min-from.result c.min-to.ensures c.min-from.ensures))
     c.put_raw.ensures

@@ -1,4 +1,5 @@
-use mathlib.Core.Path.{sym}
+use mathlib.Core.Path.{◌≡◌, sym}
+use borrow.Author.Rules.{rules}
 use native.Mathlib.Omega.{arith}
 use Rattle.repeats.proofs.FirstLaws.{lines_few, done_more, done_at, done_none}
 use Rattle.repeats.proofs.section.find_repeat.Goals as goal
@@ -7,7 +8,9 @@ pub loop-lane-init : goal.loop-lane-init
 loop-lane-init c = (omega arith, (λ h. absurd (omega arith)), λ m h k l. absurd (omega arith))
 
 pub loop-lane-preserved : goal.loop-lane-preserved
-loop-lane-preserved c = done_more _ _ _ _ _ _ _ c.loop-lane.invariant c.sift_round-last.ensures
+loop-lane-preserved c =
+    let e : c.from.result ≡ c.loop-lane.lane = search rules in
+    done_more _ _ _ _ _ _ _ c.loop-lane.invariant (rw e at c.sift_round-last.ensures)
 
 pub returns-then-last-size : goal.returns-then-last-size
 returns-then-last-size c = (
