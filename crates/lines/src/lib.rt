@@ -11,6 +11,6 @@ mod scan;
 pub use content::{
     all_allowed, content_len, content_of, find_semicolon, is_allowed, is_blank, rest_of,
 };
-pub use cursor::Cursor;
+pub use cursor::{Cursor, Walked};
 pub use iter::{Line, Lines, lines_from, lines_of};
 pub use scan::{equal, kept, trim_in, trimmed, unpadded};

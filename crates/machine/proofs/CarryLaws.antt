@@ -1,6 +1,6 @@
 -- The order that a section's reading carries: what a line leaves of it, and what the `atr` line states. Assumes nothing.
-use Rattle.std.specs.Prelude.{Err, Ok, Result, Option, Some, None}
-use Rattle.std.specs.Option.{unwrap_or, is_some}
+use Rattle.std.specs.Prelude.{Err, Ok, Result}
+use Rattle.std.specs.Result.{result_unwrap_or, is_ok}
 use mathlib.Core.Path.{◌≡◌, refl, sym, ◌∙◌}
 use mathlib.Core.Bool.{Bool, true, false, false≢true}
 use mathlib.Core.List.{List, []}
@@ -138,15 +138,15 @@ carry_stated latin t p q a b l e k x =
     let y = rw e at x in
     rw e (turned t (content l) b k (turns latin t [] l) q y)
 
-pub carry_atr : (latin : Bool) (t : ℕ) (p q : Phase) (a : List ℕ) (r : Option (List ℕ)) (l : Bytes) → p ≡ P.Atr t → Arranges t (fields (rest (content l))) r
-    → step latin p (order_at p a) l ≡ Ok q → Carried p q (order_at p a) (content l) (unwrap_or r a)
+pub carry_atr : (latin : Bool) (t : ℕ) (p q : Phase) (a : List ℕ) (r : Result (List ℕ) (List ℕ)) (l : Bytes) → p ≡ P.Atr t → Arranges t (fields (rest (content l))) r
+    → step latin p (order_at p a) l ≡ Ok q → Carried p q (order_at p a) (content l) (result_unwrap_or r a)
 unfolding Stated
-carry_atr latin t p q a (Some b) l e k x = carry_stated latin t p q a b l e (λ z. k.1) x
-carry_atr latin t p q a None l e k x = carry_stated latin t p q a a l e (λ z. absurd (false≢true (sym k ∙ z))) x
+carry_atr latin t p q a (Ok b) l e k x = carry_stated latin t p q a b l e (λ z. k.1) x
+carry_atr latin t p q a (Err b) l e k x = carry_stated latin t p q a a l e (λ z. absurd (false≢true (sym k.0 ∙ z))) x
 
-pub found_some : (t : ℕ) (fs : List Bytes) (r : Option (List ℕ)) → Arranges t fs r → is_some r ≡ arranged (width t) (order_of t fs)
-found_some t fs (Some a) k = sym k.0
-found_some t fs None k = sym k
+pub found_ok : (t : ℕ) (fs : List Bytes) (r : Result (List ℕ) (List ℕ)) → Arranges t fs r → is_ok r ≡ arranged (width t) (order_of t fs)
+found_ok t fs (Ok a) k = sym k.0
+found_ok t fs (Err a) k = sym k.0
 
 -- what a line leads to, with the order and without
 module _ {p : Phase} {o : Order} {c : Bytes} {x : Result Phase ℕ} where

@@ -179,7 +179,7 @@ pub fn step(l: &[u8], p: Phase, o: [u8; WIDEST], latin: bool) -> Result<Moved, u
     let c = lines::content_of(l);
     if let Phase::Atr(t) = p {
         let arranged = names::arrange(lines::rest_of(c), t);
-        let phase = step_content(c, p, &o, arranged.is_some(), latin)?;
+        let phase = step_content(c, p, &o, arranged.is_ok(), latin)?;
         let stated = arranged.unwrap_or(o);
         return Ok(Moved {
             phase,

@@ -110,8 +110,9 @@ module _ (t : ℕ) (fs : List Bytes) where
       omega arith)
 
   -- document 01's own order stands where none is stated
-  pub told_none : (a : List ℕ) → arranged (width t) (order_of t fs) ≡ false → a ≡ upto 0 WIDEST → Told t fs a
-  told_none a n e = record { stands = rw e (listed_stands t); is = λ z. absurd (false≢true (sym n ∙ z)) }
+  pub told_none : (a : List ℕ) → arranged (width t) (order_of t fs) ≡ false → a ≡ upto 0 WIDEST
+      → (arranged (width t) (order_of t fs) ≡ false) × Told t fs a
+  told_none a n e = (n, record { stands = rw e (listed_stands t); is = λ z. absurd (false≢true (sym n ∙ z)) })
 
 -- a section's `atr` line
 

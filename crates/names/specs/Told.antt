@@ -1,5 +1,5 @@
 -- What an `atr` line says of the order, as the code holds it.
-use Rattle.std.specs.Prelude.{◌≡◌, true, false, List, map, ℕ, Option, Some, None}
+use Rattle.std.specs.Prelude.{◌≡◌, true, false, List, map, ℕ, Result, Ok, Err}
 use Rattle.page.specs.Bytes.{Bytes}
 use Rattle.page.specs.Lines.{find}
 use Rattle.page.specs.Tables.{Named, columns, width}
@@ -15,7 +15,7 @@ pub record Told (t : ℕ) (fs : List Bytes) (a : List ℕ) : Type 0 where
   pub stands : Stands t a
   pub is : arranged (width t) (order_of t fs) ≡ true → held t a ≡ order_of t fs
 
--- and one that is stated: none, exactly if they do not arrange the columns
-abbrev pub Arranges : ℕ → List Bytes → Option (List ℕ) → Type 0
-Arranges t fs (Some a) = (arranged (width t) (order_of t fs) ≡ true) × Told t fs a
-Arranges t fs None = arranged (width t) (order_of t fs) ≡ false
+-- and whether it is stated: the order is of an `Err`, exactly if they do not arrange the columns
+abbrev pub Arranges : ℕ → List Bytes → Result (List ℕ) (List ℕ) → Type 0
+Arranges t fs (Ok a) = (arranged (width t) (order_of t fs) ≡ true) × Told t fs a
+Arranges t fs (Err a) = (arranged (width t) (order_of t fs) ≡ false) × Told t fs a

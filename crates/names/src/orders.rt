@@ -29,8 +29,8 @@ fn find_column(f: &[u8], t: usize, k: usize) -> usize
 }
 
 // "any arrangement of a table's columns, each once, shall be read": w is what stands after the line's first `;`; the order in which the
-// columns stand, if it arranges them.
-pub fn arrange(w: &[u8], t: usize) -> Option<[u8; WIDEST]>
+// columns stand, if it arranges them; document 01's own, if it does not.
+pub fn arrange(w: &[u8], t: usize) -> Result<[u8; WIDEST], [u8; WIDEST]>
     ensures { Arranges t (fields w.now) result }
 {
     let n = find_width(t);
@@ -39,21 +39,21 @@ pub fn arrange(w: &[u8], t: usize) -> Option<[u8; WIDEST]>
     let mut at = 0;
     for k in 0..n {
         if w.len() < at {
-            return None;
+            return Err(list_columns());
         }
         let e = commands::field_end(w, at);
         let c = find_column(lines::trimmed(&w[at..e]), t, k);
         if n <= c || seen[c] {
-            return None;
+            return Err(list_columns());
         }
         seen[c] = true;
         o[k] = c as u8;
         at = e + 1;
     }
     if at <= w.len() {
-        return None;
+        return Err(list_columns());
     }
-    Some(o)
+    Ok(o)
 }
 
 // What stands after the first `;` of a section's `atr` line; nothing, if it has none.
@@ -73,7 +73,6 @@ pub fn find_order(s: &[u8], t: usize) -> [u8; WIDEST]
     ensures { Told t (fields (atr_in (lines s.now))) result }
 {
     match arrange(find_names(s), t) {
-        Some(order) => order,
-        None => list_columns(),
+        Ok(order) | Err(order) => order,
     }
 }

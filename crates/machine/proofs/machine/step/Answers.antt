@@ -3,13 +3,13 @@ use mathlib.Core.Path.{◌≡◌, sym, ◌∙◌}
 use native.Mathlib.Omega.{arith}
 use Rattle.page.specs.Section.{step}
 use Rattle.machine.specs.Carries.{records_in, order_at, Carries, Found}
-use Rattle.machine.proofs.CarryLaws.{none_due, carry_on, carry_atr, err_moves, ok_moves, found_some}
+use Rattle.machine.proofs.CarryLaws.{none_due, carry_on, carry_atr, err_moves, ok_moves, found_ok}
 use Rattle.machine.proofs.machine.step.Goals as goal
 
 pub step_content-requires : goal.step_content-requires
 unfolding Carries records_in Found
 step_content-requires c =
-    (tt, omega arith, rw (← c.rest_of.ensures) (c.is_some.ensures ∙ found_some c.in-Atr.t _ c.arrange-arranged.result c.arrange-arranged.ensures))
+    (tt, omega arith, rw (← c.rest_of.ensures) (c.is_ok.ensures.value ∙ found_ok c.in-Atr.t _ c.arrange-arranged.result c.arrange-arranged.ensures))
 
 pub returns-in_err-phase : goal.returns-in_err-phase
 unfolding step

@@ -9,7 +9,7 @@ use Rattle.page.proofs.FieldLaws.{from_all, end_in}
 use Rattle.page.proofs.TableLaws.{width_le}
 use Rattle.tables.specs.Arrays.{fill}
 use Rattle.names.specs.Told.{column_named}
-use Rattle.names.proofs.ToldLaws.{no_left, some_left, not_many, not_named, not_once, heads}
+use Rattle.names.proofs.ToldLaws.{no_left, some_left, not_many, not_named, not_once, told_none, heads}
 use Rattle.names.proofs.EnteredLaws.{entered_none, entered_more, entered_all}
 use Rattle.names.proofs.orders.arrange.Goals as goal
 use Rattle.names.proofs.orders.arrange.Goals.{then-n-c-via-then-n-c, then-n-c-via-else-n-c+then-seen-c}
@@ -24,8 +24,10 @@ pub returns-then-w-at : goal.returns-then-w-at
 returns-then-w-at c =
     let a = c.args in
     let i = c.loop-k.invariant in
-    not_many a.t (fields a.w.now)
-    (λ (x : length (fields a.w.now) ≡ width a.t). omega (arith, no_left a.w.now c.loop-k.k c.loop-k.at i.left i.some c.if-w-at.true))
+    told_none a.t (fields a.w.now) _
+    (not_many a.t (fields a.w.now)
+    (λ (x : length (fields a.w.now) ≡ width a.t). omega (arith, no_left a.w.now c.loop-k.k c.loop-k.at i.left i.some c.if-w-at.true)))
+    c.list_columns.ensures
 
 pub slice_bounds-trimmed-count : goal.slice_bounds-trimmed-count
 slice_bounds-trimmed-count c = omega (arith, end_in c.args.w.now c.loop-k.at c.field_end-e.result (search rules) c.field_end-e.ensures)
@@ -47,12 +49,14 @@ returns-then-n-c c =
     let f = c.find_column-c in
     let x = heads a.t a.w.now l.k l.at c.field_end-e.result f.result i.left i.some (search rules) c.field_end-e.ensures
     (f.ensures ∙ ap (column_named a.t) c.trimmed.ensures) in
-    elim c.then-n-c.branch [
+    told_none a.t (fields a.w.now) _
+    (elim c.then-n-c.branch [
       | then-n-c-via-then-n-c w ↦ not_named a.t (fields a.w.now) l.k x.there (omega (arith, w.if-n-c.true, x.named))
       | then-n-c-via-else-n-c+then-seen-c w ↦
           let y = i.entered.known f.result w.if-seen-c.true in
           not_once a.t (fields a.w.now) y.0 l.k y.1 x.there (sym (i.entered.filled y.0 y.1) ∙ y.2 ∙ x.named)
-    ]
+    ])
+    c.list_columns-then-n-c.ensures
 
 pub bounds-seen-c-in-loop-k : goal.bounds-seen-c-in-loop-k
 bounds-seen-c-in-loop-k c = omega (arith, c.loop-k.invariant.entered.wide, width_le c.args.t, c.find_width-n.ensures)
@@ -87,8 +91,10 @@ pub returns-then-at-w : goal.returns-then-at-w
 returns-then-at-w c =
     let a = c.args in
     let i = c.loop-k.invariant in
-    not_many a.t (fields a.w.now)
-    (λ (x : length (fields a.w.now) ≡ width a.t). omega (arith, some_left a.w.now c.loop-k.k c.loop-k.at i.left i.some c.if-at-w.true))
+    told_none a.t (fields a.w.now) _
+    (not_many a.t (fields a.w.now)
+    (λ (x : length (fields a.w.now) ≡ width a.t). omega (arith, some_left a.w.now c.loop-k.k c.loop-k.at i.left i.some c.if-at-w.true)))
+    c.list_columns-then-at-w.ensures
 
 pub returns : goal.returns
 returns c =
