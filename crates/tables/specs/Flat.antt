@@ -14,7 +14,7 @@ flat f (x ∷ xs) = f x ++ flat f xs
 unfoldable pub row_given : {A : Type 0} → (Named → A) → List A
 row_given f = flat (λ (x : Table). map f x.columns) all_tables
 
--- how long such a row is; that it is so is computed in ArrayLaws
+-- how long such a row is; that it is so is computed in FlatLaws
 abbrev pub COLUMNS : ℕ
 COLUMNS = 62
 

@@ -1,5 +1,5 @@
 -- What C is handed determines the answer: from each struct the answer is read again. The definitions refuse only with a number that is
--- not 0 (`listed` and its like), so an answer of number 0 is an accepted one, and two answers told alike are equal.
+-- not 0 (`answered`), so an answer of number 0 is an accepted one, and two answers told alike are equal.
 use Rattle.std.specs.Prelude.{Err, None, Ok, Option, Result, Some}
 use Rattle.page.specs.declared.Span.{Span}
 use mathlib.Core.Path.{◌≡◌, refl, sym, ap, ◌∙◌}
