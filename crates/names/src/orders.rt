@@ -35,23 +35,24 @@ pub fn arrange(w: &[u8], t: usize) -> Result<[u8; WIDEST], [u8; WIDEST]>
 {
     let n = find_width(t);
     let mut o = list_columns();
+    let listed = o;
     let mut seen = [false; WIDEST];
     let mut at = 0;
     for k in 0..n {
         if w.len() < at {
-            return Err(list_columns());
+            return Err(listed);
         }
         let e = commands::field_end(w, at);
         let c = find_column(lines::trimmed(&w[at..e]), t, k);
         if n <= c || seen[c] {
-            return Err(list_columns());
+            return Err(listed);
         }
         seen[c] = true;
         o[k] = c as u8;
         at = e + 1;
     }
     if at <= w.len() {
-        return Err(list_columns());
+        return Err(listed);
     }
     Ok(o)
 }

@@ -1,9 +1,6 @@
 -- Laws of lent output: one form after another, and what is left for a loop to put. Nothing here knows what a form says. Assumes nothing.
-use Rattle.std.proofs.Common.{◌≡◌, ℕ, ◌+◌, ◌-◌, ◌<◌, ◌≤◌, ◌^◌, min, [], ◌∷◌, ◌++◌, length, take, drop, refl, sym, subst, ◌∙◌, arith, append_assoc, length-append, length-drop}
-use Rattle.std.proofs.Math.Seq.{length-sets}
-use Rattle.std.proofs.lemmas.List.{length-take-le, take-append-drop, drop-drop}
-use Rattle.std.proofs.lemmas.List.Edits.{sets, sets-eq}
-use borrow.Rule.Slice.PartMut.{put_mid}
+use Rattle.std.proofs.Common.{◌≡◌, ℕ, ◌+◌, ◌-◌, ◌<◌, ◌≤◌, ◌^◌, min, [], ◌∷◌, ◌++◌, length, drop, refl, sym, subst, ◌∙◌, arith, length-append, length-drop}
+use Rattle.std.proofs.lemmas.List.Edits.{sets}
 use Rattle.page.specs.Bytes.{Bytes}
 use Rattle.output.specs.Put.{Puts}
 use Rattle.output.specs.declared.bytes.Output.{Output}
@@ -61,13 +58,7 @@ sets_past_or_none : (l s : Bytes) (i : ℕ) → (i < length l → length s ≡ 0
 sets_past_or_none l [] i h = refl
 sets_past_or_none l (x ∷ s) i h = put.sets_past l i (x ∷ s) (grind arith)
 
--- as much of a form as the room takes: m is what its part then holds
-pub sets_part : (l s m : Bytes) (i n : ℕ) → i < length l → n ≡ min (length s) (length l - i) → m ≡ take n s → put_mid i n l m ≡ sets l i s
-sets_part l s m i n h e q =
-    let k : length m ≡ n = rw q (length-take-le n s (omega arith)) in
-    let f : sets l i m ≡ put_mid i n l m = sets-eq m l i (rw k (omega arith)) ∙ rw (k, append_assoc, drop-drop n i l) in
-    let g : sets (sets l i m) (i + length m) (drop n s) ≡ sets l i s = rw (put.sets_append, q, take-append-drop n s) in
-    let r : sets (sets l i m) (i + length m) (drop n s) ≡ sets l i m =
-    sets_past_or_none (sets l i m) (drop n s) (i + length m)
-    (λ w. let v : i + n < length l = rw (k, length-sets) at w in omega (arith, length-drop n s)) in
-    sym f ∙ sym r ∙ g
+-- as much of a form as the room takes: m is what stands once n bytes of it were put
+pub sets_fit : (l s m : Bytes) (i n : ℕ) → i < length l → n ≡ min (length s) (length l - i) → put.Todo l i s m (i + n) (drop n s) → m ≡ sets l i s
+sets_fit l s m i n h e t =
+    sym (sets_past_or_none m (drop n s) (i + n) (λ w. omega (arith, put.same t, length-drop n s))) ∙ t.is

@@ -15,12 +15,15 @@ pub struct Output<'a> {
 }
 
 // As many of the bytes as the room takes.
+// No `copy_from_slice`: an archive for C would need `memmove` of who links it, where this loop needs none.
 fn copy_clipped(room: &mut [u8], at: usize, s: &[u8])
     ensures { room.new ≡ sets room.old at s.now }
 {
     if at < room.len() {
         let fit = s.len().min(room.len() - at);
-        room[at..at + fit].copy_from_slice(&s[..fit]);
+        for i in 0..fit {
+            room[at + i] = s[i];
+        }
     }
 }
 

@@ -27,7 +27,7 @@ returns-then-w-at c =
     told_none a.t (fields a.w.now) _
     (not_many a.t (fields a.w.now)
     (λ (x : length (fields a.w.now) ≡ width a.t). omega (arith, no_left a.w.now c.loop-k.k c.loop-k.at i.left i.some c.if-w-at.true)))
-    c.list_columns.ensures
+    c.list_columns-o.ensures
 
 pub slice_bounds-trimmed-count : goal.slice_bounds-trimmed-count
 slice_bounds-trimmed-count c = omega (arith, end_in c.args.w.now c.loop-k.at c.field_end-e.result (search rules) c.field_end-e.ensures)
@@ -56,7 +56,7 @@ returns-then-n-c c =
           let y = i.entered.known f.result w.if-seen-c.true in
           not_once a.t (fields a.w.now) y.0 l.k y.1 x.there (sym (i.entered.filled y.0 y.1) ∙ y.2 ∙ x.named)
     ])
-    c.list_columns-then-n-c.ensures
+    c.list_columns-o.ensures
 
 pub bounds-seen-c-in-loop-k : goal.bounds-seen-c-in-loop-k
 bounds-seen-c-in-loop-k c = omega (arith, c.loop-k.invariant.entered.wide, width_le c.args.t, c.find_width-n.ensures)
@@ -94,7 +94,7 @@ returns-then-at-w c =
     told_none a.t (fields a.w.now) _
     (not_many a.t (fields a.w.now)
     (λ (x : length (fields a.w.now) ≡ width a.t). omega (arith, some_left a.w.now c.loop-k.k c.loop-k.at i.left i.some c.if-at-w.true)))
-    c.list_columns-then-at-w.ensures
+    c.list_columns-o.ensures
 
 pub returns : goal.returns
 returns c =
