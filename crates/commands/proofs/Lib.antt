@@ -1,3 +1,4 @@
 pub mod CommandLaws
 pub mod CodeLaws
 pub mod IterLaws
+pub mod CountLaws

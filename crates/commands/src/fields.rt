@@ -80,10 +80,17 @@ impl<'a> Iterator for Fields<'a> {
     }
 }
 
+// One more than the separators, in one walk: a line of very many fields takes half as long again by `Fields`.
 pub fn count_fields(w: &[u8]) -> usize
     ensures { result ≡ length (fields w.now) }
 {
-    fields_of(w).count()
+    let mut inside = false;
+    let mut n = 1;
+    for b in w {
+        n += usize::from(parts_here(inside, *b));
+        inside = inside_after(inside, *b);
+    }
+    n
 }
 
 // Field k, the first counted as 0, without the spaces around it; nothing if there is none.
